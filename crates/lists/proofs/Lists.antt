@@ -1,0 +1,71 @@
+-- Laws of tests and facts over lists of any type.
+-- Assumes nothing.
+use Prim.Native.Nat.{ℕ, _*_, _≤_}
+use mathlib.Core.Path.{_≡_, refl, sym, ap, _∙_}
+use mathlib.Core.Bool.{Bool, true, _&&_}
+use mathlib.Core.List.{List, [], _∷_, _++_, map, append-assoc}
+use native.Mathlib.Nat.{mul-suc}
+use native.Mathlib.Omega.{arith}
+use lib.ListN.{length, length-append}
+use Rattle.lists.specs.Lists.{all, cat, All}
+use Rattle.lists.proofs.Tests.{and-both, both-and}
+
+module _ {A : Type 0} (ok : A → Bool) where
+  -- ---- all
+
+  pub all-append : (xs ys : List A) → all ok xs ≡ true → all ok ys ≡ true → all ok (xs ++ ys) ≡ true
+  all-append [] ys h k = k
+  all-append (x ∷ xs) ys h k =
+      let (p, q) = and-both (ok x) (all ok xs) h in
+      both-and (ok x) (all ok (xs ++ ys)) p (all-append xs ys q k)
+
+  pub all-snoc : (xs : List A) (x : A) → all ok xs ≡ true → ok x ≡ true → all ok (xs ++ (x ∷ [])) ≡ true
+  all-snoc xs x h k = all-append xs (x ∷ []) h (rw k)
+
+  pub all-split : (xs ys : List A) → all ok (xs ++ ys) ≡ true → (all ok xs ≡ true) × (all ok ys ≡ true)
+  all-split [] ys h = (refl, h)
+  all-split (x ∷ xs) ys h =
+      let (p, q) = and-both (ok x) (all ok (xs ++ ys)) h in
+      let (l, r) = all-split xs ys q in
+      (both-and (ok x) (all ok xs) p l, r)
+
+  pub all-map : (f : A → A) → ((x : A) → ok x ≡ true → ok (f x) ≡ true) → (xs : List A) → all ok xs ≡ true → all ok (map f xs) ≡ true
+  all-map f g [] h = refl
+  all-map f g (x ∷ xs) h =
+      let (p, q) = and-both (ok x) (all ok xs) h in
+      both-and (ok (f x)) (all ok (map f xs)) (g x p) (all-map f g xs q)
+
+module _ {A B : Type 0} (f : A → List B) where
+  -- ---- cat
+
+  pub cat-append : (xs ys : List A) → cat f (xs ++ ys) ≡ cat f xs ++ cat f ys
+  cat-append [] ys = refl
+  cat-append (x ∷ xs) ys = ap (λ (l : List B). f x ++ l) (cat-append xs ys) ∙ sym (append-assoc (f x) (cat f xs) (cat f ys))
+
+  -- where each part has at most n elements, all of them have n for each part
+  pub cat-size : (ok : A → Bool) (n : ℕ) → ((x : A) → ok x ≡ true → length (f x) ≤ n) → (xs : List A) → all ok xs ≡ true → length (cat f xs) ≤ n * length xs
+  cat-size ok n g [] h = omega arith
+  cat-size ok n g (x ∷ xs) h =
+      let o = and-both (ok x) (all ok xs) h in
+      let i = cat-size ok n g xs (o .1) in
+      let j = g x (o .0) in
+      omega (arith, length-append (f x) (cat f xs), mul-suc n (length xs))
+
+-- ---- All
+
+pub All-map : {A : Type 0} (P Q : A → Type 0) → ((a : A) → P a → Q a) → (xs : List A) → All P xs → All Q xs
+All-map P Q f [] h = tt
+All-map P Q f (x ∷ xs) (h, hs) = (f x h, All-map P Q f xs hs)
+
+module _ {A : Type 0} (P : A → Type 0) where
+  pub All-append : (xs ys : List A) → All P xs → All P ys → All P (xs ++ ys)
+  All-append [] ys h k = k
+  All-append (x ∷ xs) ys (h, hs) k = (h, All-append xs ys hs k)
+
+  pub All-split : (xs ys : List A) → All P (xs ++ ys) → All P xs × All P ys
+  All-split [] ys h = (tt, h)
+  All-split (x ∷ xs) ys (h, hs) = let s = All-split xs ys hs in ((h, s .0), s .1)
+
+  pub All-each : ((a : A) → P a) → (xs : List A) → All P xs
+  All-each f [] = tt
+  All-each f (x ∷ xs) = (f x, All-each f xs)

@@ -1,0 +1,49 @@
+-- Document 01, Numbers given back: the refusals, in the order of its table, and their numbers.
+-- Assumes nothing.
+use Prim.Native.Nat.{ℕ}
+
+pub data Refusal : Type 0 where
+  target-short text-long : Refusal
+  line-bad key-bad argument-bad operator-bad value-bad content-bad pair-extra comma-missing rule-extra label-missing : Refusal
+  device-bad outcome-bad : Refusal
+  substitution-long link-bad list-full owner-bad mode-bad : Refusal
+
+abbrev pub number : Refusal → ℕ
+-- target below 17,611 bytes (close: 8,225)
+number target-short = 1
+-- text over 32,768 bytes
+number text-long = 2
+-- line over 1,024 bytes or holding NUL
+number line-bad = 10
+-- key unknown or missing
+number key-bad = 11
+-- argument missing, faulty, or on a key that takes none
+number argument-bad = 12
+-- operator missing or not that key's
+number operator-bad = 13
+-- value not opened, not closed, or over 256 bytes
+number value-bad = 14
+-- content fault
+number content-bad = 15
+-- 33rd pair, second LABEL or second GOTO
+number pair-extra = 16
+-- neither comma nor line end after a pair
+number comma-missing = 17
+-- 513th rule
+number rule-extra = 18
+-- GOTO without a later LABEL
+number label-missing = 19
+-- device record faulty or over 16,384 bytes
+number device-bad = 3
+-- outcome record faulty
+number outcome-bad = 4
+-- substituted text over 512 bytes
+number substitution-long = 30
+-- link over 128 bytes, starting with `/`, or with an empty, `.` or `..` component
+number link-bad = 31
+-- list or properties full
+number list-full = 32
+-- owner or group faulty
+number owner-bad = 33
+-- mode faulty
+number mode-bad = 34
