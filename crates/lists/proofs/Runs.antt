@@ -6,6 +6,7 @@ use mathlib.Core.Bool.{Bool, true, false}
 use mathlib.Core.List.{List, [], _∷_, _++_}
 use native.Mathlib.Omega.{arith}
 use lib.Dec.{eqb}
+use borrow.Author.Tests.{eq-eqb}
 use lib.ListN.{length, getD, take, drop, drop-of-length-le}
 use lib.Seq.{drop-drop}
 use Rattle.lists.specs.Lists.{pick}
@@ -92,3 +93,39 @@ module _ (p : ℕ → Bool) (s : List ℕ) (i : ℕ) where
   pub rest-of : span p (drop i s) .rest ≡ drop (spanAt p s i) s
   unfolding spanAt
   rest-of = rw (end-count p (drop i s) i) (span-rest p (drop i s) ∙ drop-drop (length (span p (drop i s) .value)) i s)
+
+-- ---- between separators
+
+record Cons (ls : List (List ℕ)) : Type 0 where
+  first : List ℕ
+  rest : List (List ℕ)
+  is : ls ≡ first ∷ rest
+
+step-cons : (t : Bool) (b : ℕ) (ls : List (List ℕ)) → Cons ls → Cons (splitStep t b ls)
+step-cons true b ls c = record { first = []; rest = ls; is = refl }
+step-cons false b ls c = record { first = b ∷ c .first; rest = c .rest; is = ap (onto b) (c .is) }
+
+step-append : (t : Bool) (b : ℕ) (ls ms : List (List ℕ)) → Cons ls → splitStep t b (ls ++ ms) ≡ splitStep t b ls ++ ms
+step-append true b ls ms c = refl
+step-append false b ls ms c = rw (c .is)
+
+pub step-length : (t : Bool) (b : ℕ) (ls : List (List ℕ)) → 0 < length ls → length (splitStep t b ls) ≡ length ls + pick t 1 0
+step-length true b ls h = omega arith
+step-length false b [] h = omega arith
+step-length false b (l ∷ ls) h = omega arith
+
+module _ (c : ℕ) where
+  split-cons : (u : List ℕ) → Cons (splitAt c u)
+  unfolding splitAt
+  split-cons [] = record { first = []; rest = []; is = refl }
+  split-cons (b ∷ u) = step-cons (eqb b c) b (splitAt c u) (split-cons u)
+
+  -- there is always a first part
+  pub split-some : (u : List ℕ) → 0 < length (splitAt c u)
+  split-some u = let s = split-cons u in rw (s .is) (omega arith)
+
+  -- a separator parts what stands before it from what stands behind it
+  pub split-separator : (u v : List ℕ) → splitAt c (u ++ (c ∷ v)) ≡ splitAt c u ++ splitAt c v
+  unfolding splitAt
+  split-separator [] v = rw (eq-eqb c c refl)
+  split-separator (b ∷ u) v = ap (splitStep (eqb b c) b) (split-separator u v) ∙ step-append (eqb b c) b (splitAt c u) (splitAt c v) (split-cons u)

@@ -1,6 +1,6 @@
 -- What a check gives: a value, or why it is refused. One check after the other is written with `do`.
 -- Assumes nothing.
-use Prim.Native.Nat.{ℕ}
+use Prim.Native.Nat.{ℕ, _+_}
 use mathlib.Core.Bool.{Bool, true, false}
 use mathlib.Core.Option.{Option, none, some}
 
@@ -38,6 +38,17 @@ Holds P (ok a) = P a
 -- something and the number of its line
 pub data Placed (A : Type 0) : Type 0 where
   line : ℕ → A → Placed A
+
+abbrev pub lineOf : {A : Type 0} → Placed A → ℕ
+lineOf (line n a) = n
+
+-- a function of what stands on a line
+abbrev pub inPlace : {A B : Type 0} → (A → B) → Placed A → Placed B
+inPlace f (line n a) = line n (f a)
+
+-- k lines further down
+abbrev pub moved : {A : Type 0} → ℕ → Placed A → Placed A
+moved k (line n a) = line (k + n) a
 
 -- a refusal gets the line of what was checked
 abbrev pub onLine : {R A : Type 0} → ℕ → Checked R A → Checked (Placed R) A

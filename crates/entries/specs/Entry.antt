@@ -1,0 +1,68 @@
+-- Document 01, Packed records: the entries that both records hold, a text behind its length and a property.
+-- Assumes nothing.
+use Prim.Native.Nat.{ℕ, zero, suc, _+_, _*_, _/_, _%_}
+use mathlib.Core.Bool.{Bool, true, false, _&&_, _||_, not}
+use mathlib.Core.List.{List, [], _∷_, _++_, map}
+use mathlib.Core.Option.{Option, none, some}
+use lib.ListN.{length, take, drop}
+use lib.Dec.{leb, ltb, eqb}
+use Rattle.lists.specs.Lists.{pick}
+use Rattle.lists.specs.Bytes.{sameBytes, clean}
+use Rattle.lists.specs.Sizes.{mostKey, mostValue}
+use Rattle.entries.specs.Parse.{Parse, got, bad, keep}
+
+-- n bytes
+abbrev pub exactly : ℕ → List ℕ → Parse (List ℕ)
+exactly n bs = keep (leb n (length bs)) (take n bs) (drop n bs)
+
+-- 1 to `most` bytes, no NUL
+abbrev pub okText : ℕ → List ℕ → Bool
+okText most x = leb 1 (length x) && (leb (length x) most && clean x)
+
+-- a text behind its length of 8 bits: links and tags
+abbrev pub encText : List ℕ → List ℕ
+encText x = length x ∷ x
+
+-- such a text, if it passes the test
+abbrev pub oneText : (List ℕ → Bool) → List ℕ → Parse (List ℕ)
+oneText ok [] = bad
+oneText ok (k ∷ bs) = keep (leb k (length bs) && ok (take k bs)) (take k bs) (drop k bs)
+
+-- a property, or an attribute: they are laid out alike
+pub record Property : Type 0 where
+  pub key : List ℕ
+  pub value : List ℕ
+
+-- document 01, Sizes: a key of 1 to 64 bytes, a value of at most 256; no NUL
+abbrev pub okProp : Property → Bool
+okProp p = okText mostKey (p .key) && (leb (length (p .value)) mostValue && clean (p .value))
+
+-- key length 7, value length 9, then the bytes of both
+abbrev pub encProp : Property → List ℕ
+encProp p = (length (p .key) * 2 + length (p .value) / 256) ∷ length (p .value) % 256 ∷ (p .key ++ p .value)
+
+-- a property of which the key has k bytes and the value v
+abbrev pub propAt : ℕ → ℕ → List ℕ → Property
+propAt k v bs = record { key = take k bs; value = take v (drop k bs) }
+
+abbrev pub oneProp : List ℕ → Parse Property
+oneProp [] = bad
+oneProp (h ∷ []) = bad
+oneProp (h ∷ l ∷ bs) =
+    keep
+    (leb (h / 2 + (h % 2 * 256 + l)) (length bs) && okProp (propAt (h / 2) (h % 2 * 256 + l) bs))
+    (propAt (h / 2) (h % 2 * 256 + l) bs)
+    (drop (h / 2 + (h % 2 * 256 + l)) bs)
+
+abbrev pub keys : List Property → List (List ℕ)
+keys ps = map (λ (p : Property). p .key) ps
+
+-- the value under a key: absent and empty stay apart
+abbrev pub lookup : List ℕ → List Property → Option (List ℕ)
+lookup k [] = none
+lookup k (p ∷ ps) = pick (sameBytes (p .key) k) (some (p .value)) (lookup k ps)
+
+-- what is missing reads as the empty value
+abbrev pub orEmpty : Option (List ℕ) → List ℕ
+orEmpty none = []
+orEmpty (some v) = v

@@ -1,0 +1,1 @@
+// Reading entries from the front of a record, and the entries that both records hold; no code.

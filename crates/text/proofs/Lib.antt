@@ -1,0 +1,14 @@
+pub mod Lines
+pub mod Collect
+pub mod Settle
+pub mod Texts
+pub mod Accept
+pub mod Running
+pub mod Stream
+pub mod Sound
+pub mod Runs
+pub mod Jumps
+pub mod Cut
+pub mod Pieces
+pub mod Demand
+pub mod Sanity

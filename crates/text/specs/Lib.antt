@@ -1,0 +1,9 @@
+pub mod Lines
+pub mod Engine
+pub mod Reading
+pub mod Running
+pub mod Rules
+pub mod Run
+pub mod Joined
+pub mod Laws
+pub mod Demand
