@@ -11,10 +11,10 @@ use lib.Seq.{take-append-seam, drop-append-seam, take-append-le, drop-append-le,
 use lib.Dec.{leb, ltb, eqb}
 use borrow.Author.Tests.{le-leb, leb-true, eq-eqb, eqb-true}
 use Rattle.lists.specs.Lists.{pick, all}
-use Rattle.lists.specs.Bytes.{clean, Bytes, sameBytes}
+use Rattle.lists.specs.Bytes.{clean, Bytes, sameBytes, okText}
 use Rattle.lists.proofs.Tests.{and-both, both-and}
 use Rattle.entries.specs.Parse.{Parse, got, bad, keep, bind}
-use Rattle.entries.specs.Entry.{okText, encText, oneText, Property, okProp, encProp, propAt, oneProp, exactly, lookup}
+use Rattle.entries.specs.Entry.{encText, oneText, Property, okProp, encProp, propAt, oneProp, exactly, lookup}
 use Rattle.entries.proofs.Rows.{Laws}
 
 -- a test that kept something held
@@ -159,3 +159,13 @@ prop-size p h =
     let c = leb-true (length (p .value)) 256 (b .0) in
     let d = text-size 64 (p .key) (a .0) in
     omega (arith, length-append (p .key) (p .value))
+
+-- a property that was read is sound
+pub property-kept : (bs : List ℕ) (p : Property) (r : List ℕ) → oneProp bs ≡ got p r → okProp p ≡ true
+property-kept [] p r e = let z : _≡_ {A = ℕ} 0 1 = cc in absurd (omega arith)
+property-kept (h ∷ []) p r e = let z : _≡_ {A = ℕ} 0 1 = cc in absurd (omega arith)
+property-kept (h ∷ l ∷ bs) p r e =
+    let k = h / 2 in
+    let v = h % 2 * 256 + l in
+    let (t, x, y) = kept (leb (k + v) (length bs) && okProp (propAt k v bs)) (propAt k v bs) p (drop (k + v) bs) r e in
+    ap okProp (sym x) ∙ and-both (leb (k + v) (length bs)) (okProp (propAt k v bs)) t .1

@@ -52,3 +52,16 @@ module _ {A : Type 0} {enc : A → List ℕ} {ok : A → Bool} {one : List ℕ �
       let hq : Bytes q = bytes-rest (enc a) q (rw w at h) in
       let (w′, o′, l′) = many-back n q ys q′ hq p₂ in
       one-more n bs xs r a q ys q′ e₂ w o w′ o′ l′
+
+-- what holds of each entry that was read, where only that is wanted
+pub many-kept : {A : Type 0} (ok : A → Bool) (one : List ℕ → Parse A) → ((bs : List ℕ) (a : A) (r : List ℕ) → one bs ≡ got a r → ok a ≡ true)
+    → (n : ℕ) (bs : List ℕ) (xs : List A) (r : List ℕ) → many one n bs ≡ got xs r → (all ok xs ≡ true) × (length xs ≡ n)
+many-kept ok one f zero bs xs r e = let p : xs ≡ [] = cc in rw p (refl, refl)
+many-kept {A = A} ok one f (suc n) bs xs r e =
+    through (one bs) _ xs r e λ a q p₁ e₁.
+    through (many one n q) _ xs r e₁ λ ys q′ p₂ e₂.
+    let (k, l) = many-kept ok one f n q ys q′ p₂ in
+    more a ys q′ e₂ (f bs a q p₁) k l
+  where
+    more : (a : A) (ys : List A) (q′ : List ℕ) → got (a ∷ ys) q′ ≡ got xs r → ok a ≡ true → all ok ys ≡ true → length ys ≡ n → (all ok xs ≡ true) × (length xs ≡ suc n)
+    more a ys q′ e h k l = let p : xs ≡ a ∷ ys = cc in rw p (both-and (ok a) (all ok ys) h k, ap suc l)

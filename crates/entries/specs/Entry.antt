@@ -7,17 +7,13 @@ use mathlib.Core.Option.{Option, none, some}
 use lib.ListN.{length, take, drop}
 use lib.Dec.{leb, ltb, eqb}
 use Rattle.lists.specs.Lists.{pick}
-use Rattle.lists.specs.Bytes.{sameBytes, clean}
+use Rattle.lists.specs.Bytes.{sameBytes, clean, okText}
 use Rattle.lists.specs.Sizes.{mostKey, mostValue}
 use Rattle.entries.specs.Parse.{Parse, got, bad, keep}
 
 -- n bytes
 abbrev pub exactly : ℕ → List ℕ → Parse (List ℕ)
 exactly n bs = keep (leb n (length bs)) (take n bs) (drop n bs)
-
--- 1 to `most` bytes, no NUL
-abbrev pub okText : ℕ → List ℕ → Bool
-okText most x = leb 1 (length x) && (leb (length x) most && clean x)
 
 -- a text behind its length of 8 bits: links and tags
 abbrev pub encText : List ℕ → List ℕ

@@ -1,17 +1,18 @@
 -- Laws of lists of bytes: equality both ways, membership, distinctness, no NUL.
 -- Assumes nothing.
-use Prim.Native.Nat.{ℕ, _+_, _<_}
+use Prim.Native.Nat.{ℕ, zero, suc, _+_, _<_}
 use mathlib.Core.Path.{_≡_, refl, sym, ap, ap₂, _∙_, subst}
 use mathlib.Core.Bool.{Bool, true, false, not, _&&_, _||_, or-false, or-assoc}
-use mathlib.Core.List.{List, [], _∷_, _++_}
+use mathlib.Core.List.{List, [], _∷_, _++_, map}
 use native.Mathlib.Omega.{arith}
 use borrow.Author.Tests.{not-true, eqb-true, eq-eqb}
 use lib.Dec.{eqb}
-use lib.ListN.{length, getD}
-use lib.Seq.{getD-append-add}
-use Rattle.lists.specs.Lists.{all, any}
-use Rattle.lists.specs.Bytes.{Bytes, sameBytes, clean, among, distinct}
-use Rattle.lists.specs.Runs.{onto, splitStep, splitAt, lastOf}
+use lib.ListN.{length, getD, drop}
+use lib.Seq.{getD-append-add, drop-nil}
+use Rattle.lists.specs.Lists.{all, any, reject}
+use Rattle.lists.specs.Bytes.{Bytes, isSpace, isDigit, sameBytes, holds, clean, among, distinct}
+use Rattle.lists.specs.Runs.{Part, span, spanStep, onto, splitStep, splitAt, lastOf, trim, trimStep, endDigits}
+use Rattle.lists.proofs.Lists.{pick-both}
 use Rattle.lists.proofs.Tests.{and-both, both-and, neither, eqb-sym}
 
 pub bytes-rest : (p r : List ℕ) → Bytes (p ++ r) → Bytes r
@@ -58,6 +59,24 @@ distinct-snoc (y ∷ ys) x h k =
     let e : among y (ys ++ (x ∷ [])) ≡ false = among-snoc y x ys ∙ ap₂ _||_ (not-true (among y ys) n) (same-sym x y ∙ a) in
     rw (e, distinct-snoc ys x d b)
 
+-- elements whose names are distinct still are where some of them are gone
+module _ {A : Type 0} (name : A → List ℕ) (out : A → Bool) where
+  reject-among : (z : List ℕ) (xs : List A) → among z (map name xs) ≡ false → among z (map name (reject out xs)) ≡ false
+  reject-among z [] h = refl
+  reject-among z (x ∷ xs) h =
+      let (a, b) = neither (sameBytes (name x) z) (among z (map name xs)) h in
+      let i = reject-among z xs b in
+      pick-both (λ (l : List A). among z (map name l) ≡ false) (out x) (reject out xs) (x ∷ reject out xs) i (ap₂ _||_ a i)
+
+  pub reject-distinct : (xs : List A) → distinct (map name xs) ≡ true → distinct (map name (reject out xs)) ≡ true
+  reject-distinct [] h = refl
+  reject-distinct (x ∷ xs) h =
+      let (a, b) = and-both (not (among (name x) (map name xs))) (distinct (map name xs)) h in
+      let i = reject-distinct xs b in
+      let j : among (name x) (map name (reject out xs)) ≡ false = reject-among (name x) xs (not-true (among (name x) (map name xs)) a) in
+      pick-both (λ (l : List A). distinct (map name l) ≡ true) (out x) (reject out xs) (x ∷ reject out xs) i
+      (both-and (not (among (name x) (map name (reject out xs)))) (distinct (map name (reject out xs))) (ap not j) i)
+
 -- ---- no NUL in the parts of a list
 
 onto-clean : (b : ℕ) (ls : List (List ℕ)) → not (eqb b 0) ≡ true → all clean ls ≡ true → all clean (onto b ls) ≡ true
@@ -79,3 +98,42 @@ pub last-clean : (ls : List (List ℕ)) → all clean ls ≡ true → clean (las
 last-clean [] h = refl
 last-clean (x ∷ []) h = and-both (clean x) true h .0
 last-clean (x ∷ y ∷ ys) h = last-clean (y ∷ ys) (and-both (clean x) (all clean (y ∷ ys)) h .1)
+
+trimStep-clean : (t : Bool) (b : ℕ) (bs : List ℕ) → not (eqb b 0) ≡ true → clean bs ≡ true → clean (trimStep t b bs) ≡ true
+trimStep-clean true b [] h k = refl
+trimStep-clean true b (c ∷ cs) h k = both-and (not (eqb b 0)) (clean (c ∷ cs)) h k
+trimStep-clean false b bs h k = both-and (not (eqb b 0)) (clean bs) h k
+
+pub trim-clean : (x : List ℕ) → clean x ≡ true → clean (trim x) ≡ true
+unfolding trim
+trim-clean [] h = refl
+trim-clean (b ∷ x) h = let (p, q) = and-both (not (eqb b 0)) (clean x) h in trimStep-clean (isSpace b) b (trim x) p (trim-clean x q)
+
+pub digits-clean : (x : List ℕ) → clean x ≡ true → clean (endDigits x) ≡ true
+unfolding endDigits
+digits-clean [] h = refl
+digits-clean (b ∷ x) h =
+    pick-both (λ (l : List ℕ). clean l ≡ true) (all isDigit (b ∷ x)) (b ∷ x) (endDigits x) h (digits-clean x (and-both (not (eqb b 0)) (clean x) h .1))
+
+pub drop-clean : (n : ℕ) (bs : List ℕ) → clean bs ≡ true → clean (drop n bs) ≡ true
+drop-clean n [] h = rw (drop-nil {A = ℕ} n)
+drop-clean zero (b ∷ bs) h = h
+drop-clean (suc n) (b ∷ bs) h = drop-clean n bs (and-both (not (eqb b 0)) (clean bs) h .1)
+
+-- a run and what follows it
+abbrev pub CleanPart : Part (List ℕ) → Type 0
+CleanPart p = (clean (p .value) ≡ true) × (clean (p .rest) ≡ true)
+
+spanStep-clean : (t : Bool) (b : ℕ) (bs : List ℕ) (r : Part (List ℕ)) → clean (b ∷ bs) ≡ true → CleanPart r → CleanPart (spanStep t b bs r)
+spanStep-clean true b bs r h (k, l) = (both-and (not (eqb b 0)) (clean (r .value)) (and-both (not (eqb b 0)) (clean bs) h .0) k, l)
+spanStep-clean false b bs r h k = (refl, h)
+
+pub span-clean : (p : ℕ → Bool) (bs : List ℕ) → clean bs ≡ true → CleanPart (span p bs)
+unfolding span
+span-clean p [] h = (refl, refl)
+span-clean p (b ∷ bs) h = spanStep-clean (p b) b bs (span p bs) h (span-clean p bs (and-both (not (eqb b 0)) (clean bs) h .1))
+
+-- a list that does not hold NUL
+pub holds-clean : (l : List ℕ) → holds 0 l ≡ false → clean l ≡ true
+holds-clean [] h = refl
+holds-clean (b ∷ l) h = let (p, q) = neither (eqb b 0) (holds 0 l) h in both-and (not (eqb b 0)) (clean l) (ap not p) (holds-clean l q)

@@ -4,5 +4,6 @@ pub mod Rest
 pub mod Bytes
 pub mod Runs
 pub mod Items
+pub mod Scan
 pub mod Checked
 pub mod Examples

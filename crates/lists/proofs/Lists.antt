@@ -1,13 +1,13 @@
 -- Laws of tests and facts over lists of any type.
 -- Assumes nothing.
-use Prim.Native.Nat.{ℕ, _*_, _≤_}
+use Prim.Native.Nat.{ℕ, suc, _*_, _≤_}
 use mathlib.Core.Path.{_≡_, refl, sym, ap, _∙_}
-use mathlib.Core.Bool.{Bool, true, _&&_}
+use mathlib.Core.Bool.{Bool, true, false, _&&_}
 use mathlib.Core.List.{List, [], _∷_, _++_, map, append-assoc}
 use native.Mathlib.Nat.{mul-suc}
 use native.Mathlib.Omega.{arith}
 use lib.ListN.{length, length-append}
-use Rattle.lists.specs.Lists.{all, cat, All}
+use Rattle.lists.specs.Lists.{pick, all, reject, cat, All}
 use Rattle.lists.proofs.Tests.{and-both, both-and}
 
 module _ {A : Type 0} (ok : A → Bool) where
@@ -34,6 +34,26 @@ module _ {A : Type 0} (ok : A → Bool) where
   all-map f g (x ∷ xs) h =
       let (p, q) = and-both (ok x) (all ok xs) h in
       both-and (ok (f x)) (all ok (map f xs)) (g x p) (all-map f g xs q)
+
+-- ---- reject
+
+pub pick-both : {A : Type 0} (P : A → Type 0) (t : Bool) (a b : A) → P a → P b → P (pick t a b)
+pick-both P true a b h k = h
+pick-both P false a b h k = k
+
+module _ {A : Type 0} (out : A → Bool) where
+  pub reject-size : (xs : List A) → length (reject out xs) ≤ length xs
+  reject-size [] = omega arith
+  reject-size (x ∷ xs) =
+      let i = reject-size xs in
+      pick-both (λ (l : List A). length l ≤ suc (length xs)) (out x) (reject out xs) (x ∷ reject out xs) (omega arith) (omega arith)
+
+  pub reject-all : (ok : A → Bool) (xs : List A) → all ok xs ≡ true → all ok (reject out xs) ≡ true
+  reject-all ok [] h = refl
+  reject-all ok (x ∷ xs) h =
+      let (a, b) = and-both (ok x) (all ok xs) h in
+      let i = reject-all ok xs b in
+      pick-both (λ (l : List A). all ok l ≡ true) (out x) (reject out xs) (x ∷ reject out xs) i (both-and (ok x) (all ok (reject out xs)) a i)
 
 module _ {A B : Type 0} (f : A → List B) where
   -- ---- cat

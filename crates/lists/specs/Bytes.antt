@@ -4,7 +4,7 @@ use Prim.Native.Nat.{ℕ, _<_}
 use mathlib.Core.Bool.{Bool, true, false, not, _&&_, _||_}
 use mathlib.Core.List.{List, [], _∷_}
 use lib.Dec.{eqb, leb}
-use lib.ListN.{getD}
+use lib.ListN.{length, getD}
 use Rattle.lists.specs.Lists.{all, any}
 
 -- each element of a list is a byte
@@ -57,6 +57,10 @@ holds b bs = any (λ x. eqb x b) bs
 -- no byte is NUL
 abbrev pub clean : List ℕ → Bool
 clean bs = all (λ b. not (eqb b 0)) bs
+
+-- 1 to `most` bytes, no NUL
+abbrev pub okText : ℕ → List ℕ → Bool
+okText most x = leb 1 (length x) && (leb (length x) most && clean x)
 
 -- a list of bytes is among others
 abbrev pub among : List ℕ → List (List ℕ) → Bool

@@ -29,6 +29,11 @@ module _ {A : Type 0} where
   any ok [] = false
   any ok (x ∷ xs) = ok x || any ok xs
 
+  -- without the elements that pass a test
+  abbrev pub reject : (A → Bool) → List A → List A
+  reject out [] = []
+  reject out (x ∷ xs) = pick (out x) (reject out xs) (x ∷ reject out xs)
+
   -- the element at a place from 0 on
   abbrev pub nth : ℕ → List A → Option A
   nth n [] = none

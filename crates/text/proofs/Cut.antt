@@ -45,11 +45,11 @@ module _ (E : Engine) (L : Laws E) where
       short = omega (arith, length-append p v, h .short);
       faultless = faultless-part E L p e v (h .faultless) .1;
       few = omega (arith, count-join E L p e v, h .few);
-      settled = settled-unshift E (newlines p) (rulesOf E v) (settled-right E (rulesOf E p) (shift (newlines p) (rulesOf E v)) (rw (rules-join E L p e v) at (h .settled)));
+      settled = settled-unshift E (newlines p) (rulesOf (E .reader) v) (settled-right E (rulesOf (E .reader) p) (shift (newlines p) (rulesOf (E .reader) v)) (rw (rules-join E L p e v) at (h .settled)));
     }
 
     -- and the first piece is, if its jumps find their labels in it
-    first-parts : Parts E (p ++ v) → Settled E (rulesOf E p) → Parts E p
+    first-parts : Parts E (p ++ v) → Settled E (rulesOf (E .reader) p) → Parts E p
     first-parts h s = record {
       short = omega (arith, length-append p v, h .short);
       faultless = faultless-part E L p e v (h .faultless) .0;
@@ -58,46 +58,46 @@ module _ (E : Engine) (L : Laws E) where
     }
 
     -- the rules of the join, n lines further down
-    rules-seam : (n : ℕ) → shift n (rulesOf E (p ++ v)) ≡ shift n (rulesOf E p) ++ shift (n + newlines p) (rulesOf E v)
-    rules-seam n = rw (rules-join E L p e v, map-append (moved n) (rulesOf E p) (shift (newlines p) (rulesOf E v)), shift-shift n (newlines p) (rulesOf E v))
+    rules-seam : (n : ℕ) → shift n (rulesOf (E .reader) (p ++ v)) ≡ shift n (rulesOf (E .reader) p) ++ shift (n + newlines p) (rulesOf (E .reader) v)
+    rules-seam n = rw (rules-join E L p e v, map-append (moved n) (rulesOf (E .reader) p) (shift (newlines p) (rulesOf (E .reader) v)), shift-shift n (newlines p) (rulesOf (E .reader) v))
 
     module _ (n : ℕ) (cs : List ℕ) (late : All (λ (c : ℕ). n + newlines p ≤ c) cs) (whole : Parts E (p ++ v)) where
-      abbrev xs : List (Placed (E .Rule))
-      xs = shift n (rulesOf E p)
+      abbrev xs : List (Placed (E .reader .Rule))
+      xs = shift n (rulesOf (E .reader) p)
 
-      abbrev ys : List (Placed (E .Rule))
-      ys = shift (n + newlines p) (rulesOf E v)
+      abbrev ys : List (Placed (E .reader .Rule))
+      ys = shift (n + newlines p) (rulesOf (E .reader) v)
 
-      above : All (λ (q : Placed (E .Rule)). n + newlines p < lineOf q) ys
-      above = shift-above (n + newlines p) (rulesOf E v) (rules-from E v)
+      above : All (λ (q : Placed (E .reader .Rule)). n + newlines p < lineOf q) ys
+      above = shift-above (n + newlines p) (rulesOf (E .reader) v) (rules-from E v)
 
-      below : All (λ (q : Placed (E .Rule)). lineOf q ≤ n + newlines p) xs
-      below = shift-below n (newlines p) (rulesOf E p) (rules-to E L p e)
+      below : All (λ (q : Placed (E .reader .Rule)). lineOf q ≤ n + newlines p) xs
+      below = shift-below n (newlines p) (rulesOf (E .reader) p) (rules-to E L p e)
 
       seam-settled : Settled E (xs ++ ys)
-      seam-settled = rw (rules-seam n) at (settled-shift E n (rulesOf E (p ++ v)) (whole .settled))
+      seam-settled = rw (rules-seam n) at (settled-shift E n (rulesOf (E .reader) (p ++ v)) (whole .settled))
 
       -- of the jumps of the join: those of the first piece, and those of the rest
-      first-settled : NoCrossing ((n + newlines p) ∷ cs) (jumps E (shift n (rulesOf E (p ++ v)))) → Settled E (rulesOf E p) × NoCrossing cs (jumps E ys)
+      first-settled : NoCrossing ((n + newlines p) ∷ cs) (jumps E (shift n (rulesOf (E .reader) (p ++ v)))) → Settled E (rulesOf (E .reader) p) × NoCrossing cs (jumps E ys)
       first-settled k =
           let s = All-split (λ (j : Jump). All (λ (c : ℕ). ¬ Crosses c j) ((n + newlines p) ∷ cs)) (jumpsInto E xs ys) (jumps E ys) (rw (rules-seam n, jumps-append E xs ys) at k) in (
-            settled-unshift E n (rulesOf E p) (settled-before E (n + newlines p) ys above cs xs below seam-settled (s .0)),
+            settled-unshift E n (rulesOf (E .reader) p) (settled-before E (n + newlines p) ys above cs xs below seam-settled (s .0)),
             fewer-cuts (n + newlines p) cs (jumps E ys) (s .1),
           )
 
-      none-crossing : Settled E (rulesOf E p) → NoCrossing cs (jumps E ys) → NoCrossing ((n + newlines p) ∷ cs) (jumps E (shift n (rulesOf E (p ++ v))))
+      none-crossing : Settled E (rulesOf (E .reader) p) → NoCrossing cs (jumps E ys) → NoCrossing ((n + newlines p) ∷ cs) (jumps E (shift n (rulesOf (E .reader) (p ++ v))))
       none-crossing s k =
           rw (rules-seam n, jumps-append E xs ys)
           (All-append (λ (j : Jump). All (λ (c : ℕ). ¬ Crosses c j) ((n + newlines p) ∷ cs)) (jumpsInto E xs ys) (jumps E ys)
-          (none-crosses E (n + newlines p) ys ((n + newlines p) ∷ cs) (omega arith, late) xs below (settled-shift E n (rulesOf E p) s))
+          (none-crosses E (n + newlines p) ys ((n + newlines p) ∷ cs) (omega arith, late) xs below (settled-shift E n (rulesOf (E .reader) p) s))
           (not-before (n + newlines p) cs (jumps E ys) (jumps-above E (n + newlines p) ys above) k))
 
   -- n lines further down
-  cut-parts : (ps : List (List ℕ)) → Joinable ps → (n : ℕ) → Parts E (join ps) → All (Parts E) ps ↔ NoCrossing (cuts n ps) (jumps E (shift n (rulesOf E (join ps))))
+  cut-parts : (ps : List (List ℕ)) → Joinable ps → (n : ℕ) → Parts E (join ps) → All (Parts E) ps ↔ NoCrossing (cuts n ps) (jumps E (shift n (rulesOf (E .reader) (join ps))))
   unfolding join
   cut-parts [] j n h = absurd j
   cut-parts (p ∷ []) j n h = (
-    (λ _. All-each (λ (k : Jump). Unit {0}) (λ k. tt) (jumps E (shift n (rulesOf E (p ++ []))))),
+    (λ _. All-each (λ (k : Jump). Unit {0}) (λ k. tt) (jumps E (shift n (rulesOf (E .reader) (p ++ []))))),
     (λ _. (rw (append-nil p) at h, tt)),
   )
   cut-parts (p ∷ q ∷ ps) (e, j) n h =
@@ -110,11 +110,11 @@ module _ (E : Engine) (L : Laws E) where
       )
 
   -- Where an accepted text is cut after newlines, the pieces are all accepted exactly when no jump crosses a cut.
-  pub cut-accepted : (t : List ℕ) (rs : List (Placed (E .Rule))) → readText E t ≡ ok rs → (ps : List (List ℕ)) → Joinable ps → join ps ≡ t
+  pub cut-accepted : (t : List ℕ) (rs : List (Placed (E .reader .Rule))) → readText (E .reader) t ≡ ok rs → (ps : List (List ℕ)) → Joinable ps → join ps ≡ t
       → All (Accepted E) ps ↔ NoCrossing (cuts 0 ps) (jumps E rs)
   cut-accepted t rs a ps j e =
       let r = read E (join ps) rs (rw (← e) at a) in
       let c = cut-parts ps j 0 (r .parts) in (
-        (λ h. rw (r .same, ← (shift-zero (rulesOf E (join ps)))) (c .0 (All-map (Accepted E) (Parts E) (to-parts E) ps h))),
-        (λ k. All-map (Parts E) (Accepted E) (from-parts E) ps (c .1 (rw (r .same, ← (shift-zero (rulesOf E (join ps)))) at k))),
+        (λ h. rw (r .same, ← (shift-zero (rulesOf (E .reader) (join ps)))) (c .0 (All-map (Accepted E) (Parts E) (to-parts E) ps h))),
+        (λ k. All-map (Parts E) (Accepted E) (from-parts E) ps (c .1 (rw (r .same, ← (shift-zero (rulesOf (E .reader) (join ps)))) at k))),
       )

@@ -9,7 +9,7 @@ use native.Mathlib.Nat.{zero-add, add-assoc}
 use native.Mathlib.Omega.{arith}
 use Rattle.lists.specs.Lists.{pick, All}
 use Rattle.lists.specs.Checked.{Placed, line, lineOf}
-use Rattle.text.specs.Engine.{Engine}
+use Rattle.text.specs.Engine.{Reader, Engine}
 use Rattle.text.specs.Reading.{goesTo, hasLabel}
 use Rattle.text.specs.Joined.{Jump, Crosses, NoCrossing, jumps, jumpsOf, jumpFrom}
 use Rattle.text.proofs.Settle.{Aimed, Settled, goesTo-left}
@@ -24,20 +24,20 @@ pick-none true n o p q f e = absurd (Option·none-ne-some n (sym e))
 pick-none false n o p q f e = f e
 
 module _ (E : Engine) where
-  open Engine E using (Rule, label, goto)
+  open Reader (E .reader) using (Rule, label, goto)
 
   -- a jump goes to the line of one of the rules
-  pub goesTo-line : (P : ℕ → Type 0) (g : List ℕ) (ps : List (Placed Rule)) (l : ℕ) → All (λ (p : Placed Rule). P (lineOf p)) ps → goesTo E g ps ≡ some l → P l
+  pub goesTo-line : (P : ℕ → Type 0) (g : List ℕ) (ps : List (Placed Rule)) (l : ℕ) → All (λ (p : Placed Rule). P (lineOf p)) ps → goesTo (E .reader) g ps ≡ some l → P l
   unfolding goesTo
   goesTo-line P g [] l h e = absurd (Option·none-ne-some l e)
-  goesTo-line P g (line n r ∷ ps) l (h, hs) e = pick-at P (hasLabel g (label r)) n l (goesTo E g ps) h (goesTo-line P g ps l hs) e
+  goesTo-line P g (line n r ∷ ps) l (h, hs) e = pick-at P (hasLabel g (label r)) n l (goesTo (E .reader) g ps) h (goesTo-line P g ps l hs) e
 
   -- a jump that finds nothing before the seam goes past it
-  pub goesTo-right : (g : List ℕ) (xs ys : List (Placed Rule)) → goesTo E g xs ≡ none → goesTo E g (xs ++ ys) ≡ goesTo E g ys
+  pub goesTo-right : (g : List ℕ) (xs ys : List (Placed Rule)) → goesTo (E .reader) g xs ≡ none → goesTo (E .reader) g (xs ++ ys) ≡ goesTo (E .reader) g ys
   unfolding goesTo
   goesTo-right g [] ys e = refl
   goesTo-right g (line n r ∷ xs) ys e =
-      pick-none (hasLabel g (label r)) n (goesTo E g xs) (goesTo E g (xs ++ ys)) (goesTo E g ys) (goesTo-right g xs ys) e
+      pick-none (hasLabel g (label r)) n (goesTo (E .reader) g xs) (goesTo (E .reader) g (xs ++ ys)) (goesTo (E .reader) g ys) (goesTo-right g xs ys) e
 
   -- the jumps whose GOTO stands in xs, where ys follow
   unfoldable pub jumpsInto : List (Placed Rule) → List (Placed Rule) → List Jump
@@ -50,7 +50,7 @@ module _ (E : Engine) where
 
   jumpsOf-append : (n : ℕ) (g : Option (List ℕ)) (ps : List (Placed Rule)) (a b : List Jump) → jumpsOf E n g ps (a ++ b) ≡ jumpsOf E n g ps a ++ b
   jumpsOf-append n none ps a b = refl
-  jumpsOf-append n (some g) ps a b = jumpFrom-append n (goesTo E g ps) a b
+  jumpsOf-append n (some g) ps a b = jumpFrom-append n (goesTo (E .reader) g ps) a b
 
   pub jumps-append : (xs ys : List (Placed Rule)) → jumps E (xs ++ ys) ≡ jumpsInto xs ys ++ jumps E ys
   unfolding jumps jumpsInto
@@ -65,7 +65,7 @@ module _ (E : Engine) where
 
   jumpsOf-all : (P : Jump → Type 0) (n : ℕ) (g : Option (List ℕ)) (ps : List (Placed Rule)) (js : List Jump) → ((l : ℕ) → P (record { from = n; to = l })) → All P js → All P (jumpsOf E n g ps js)
   jumpsOf-all P n none ps js f h = h
-  jumpsOf-all P n (some g) ps js f h = jumpFrom-all P n (goesTo E g ps) js f h
+  jumpsOf-all P n (some g) ps js f h = jumpFrom-all P n (goesTo (E .reader) g ps) js f h
 
   pub jumps-above : (c : ℕ) (ps : List (Placed Rule)) → All (λ (p : Placed Rule). c < lineOf p) ps → All (λ (j : Jump). c < j .from) (jumps E ps)
   unfolding jumps
@@ -75,7 +75,7 @@ module _ (E : Engine) where
   module _ (c : ℕ) (ys : List (Placed Rule)) where
     module _ (above : All (λ (p : Placed Rule). c < lineOf p) ys) (cs : List ℕ) where
       -- no jump crosses the cut: each finds its label before it
-      aimed-found : (n : ℕ) (g : List ℕ) (xs : List (Placed Rule)) (js : List Jump) (l : ℕ) (o : Option ℕ) → n ≤ c → goesTo E g xs ≡ o → goesTo E g (xs ++ ys) ≡ some l
+      aimed-found : (n : ℕ) (g : List ℕ) (xs : List (Placed Rule)) (js : List Jump) (l : ℕ) (o : Option ℕ) → n ≤ c → goesTo (E .reader) g xs ≡ o → goesTo (E .reader) g (xs ++ ys) ≡ some l
           → NoCrossing (c ∷ cs) (record { from = n; to = l } ∷ js) → Aimed E (some g) xs
       aimed-found n g xs js l (some m) h e f k = (m, e)
       aimed-found n g xs js l none h e f k =
@@ -85,7 +85,7 @@ module _ (E : Engine) where
           → NoCrossing (c ∷ cs) (jumpsOf E n g (xs ++ ys) js) → Aimed E g xs × NoCrossing (c ∷ cs) js
       aimed-here n none xs js h a k = (tt, k)
       aimed-here n (some g) xs js h (l, e) k =
-          let k′ = rw e at k in (aimed-found n g xs js l (goesTo E g xs) h refl e k′, k′ .1)
+          let k′ = rw e at k in (aimed-found n g xs js l (goesTo (E .reader) g xs) h refl e k′, k′ .1)
 
       pub settled-before : (xs : List (Placed Rule)) → All (λ (p : Placed Rule). lineOf p ≤ c) xs → Settled E (xs ++ ys) → NoCrossing (c ∷ cs) (jumpsInto xs ys) → Settled E xs
       unfolding jumpsInto

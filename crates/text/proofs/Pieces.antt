@@ -83,7 +83,7 @@ cut-pieces (c ∷ cs) n t (l, m, h) =
     }
 
 -- An accepted text cut after newlines: the pieces are all accepted exactly when no jump crosses a cut.
-pub cut-text : (E : Engine) → Laws E → (t : List ℕ) (rs : List (Placed (E .Rule))) → readText E t ≡ ok rs
+pub cut-text : (E : Engine) → Laws E → (t : List ℕ) (rs : List (Placed (E .reader .Rule))) → readText (E .reader) t ≡ ok rs
     → (cs : List ℕ) → Rising 0 (newlines t) cs → All (Accepted E) (pieces 0 cs t) ↔ NoCrossing cs (jumps E rs)
 cut-text E L t rs e cs h =
     let p = cut-pieces cs 0 t (subst (λ (z : ℕ). Rising 0 z cs) (omega arith) h) in

@@ -8,7 +8,7 @@ use mathlib.Core.Option.{Option}
 use native.Mathlib.Nat.{zero-add, add-assoc}
 use Rattle.lists.specs.Checked.{Checked, refused, ok, _>>=_, Placed, line, moved}
 use Rattle.lists.specs.Refusal.{Refusal}
-use Rattle.text.specs.Engine.{Engine, Stepped, went}
+use Rattle.text.specs.Engine.{Reader, Engine, Stepped, went}
 use Rattle.text.specs.Running.{Mode, Halt, Ran, more, begins, after, started, visit, runFrom}
 use Rattle.text.proofs.Lines.{shift}
 
@@ -39,7 +39,8 @@ module _ {State : Type 0} where
   more-lower v w n m (ok h) = rw (add-assoc v w (h .visited))
 
 module _ (E : Engine) where
-  open Engine E using (Rule, Device, State, label, goto, step)
+  open Reader (E .reader) using (Rule, label, goto)
+  open Engine E using (Device, State, step)
 
   module _ (d : Device) (ys : List (Placed Rule)) where
     -- the later rules, from where the earlier ones halted

@@ -13,7 +13,7 @@ use Rattle.lists.specs.Lists.{All}
 use Rattle.lists.specs.Checked.{Checked, refused, ok, _>>=_, Holds, Placed, line}
 use Rattle.lists.specs.Refusal.{Refusal, number}
 use Rattle.lists.specs.Sizes.{mostText, mostRules, fullestOutcome}
-use Rattle.text.specs.Engine.{Engine}
+use Rattle.text.specs.Engine.{Reader, Engine}
 use Rattle.text.specs.Reading.{ruleCount, reads}
 use Rattle.text.specs.Running.{next, Halt, Ran, more, runFrom}
 use Rattle.text.specs.Run.{answer, runChecked, run}
@@ -49,7 +49,8 @@ refusal-number Refusal.owner-bad = (32, refl)
 refusal-number Refusal.mode-bad = (33, refl)
 
 module _ (E : Engine) where
-  open Engine E using (Rule, Device, State, device, decode, encode)
+  open Reader (E .reader) using (Rule)
+  open Engine E using (Device, State, device, decode, encode)
 
   -- what a run gives, whatever the room of its target
   abbrev summary : Ran State → Given
@@ -63,22 +64,22 @@ module _ (E : Engine) where
 
   -- of an accepted text, device and record, and with full room, a run gives what running its rules gives
   run-accepted : (t dev out : List ℕ) (room : ℕ) {d : Device} {s : State} → Parts E t → device dev ≡ some d → decode d out ≡ some s → fullestOutcome ≤ room
-      → runChecked E t dev out room ≡ runFrom E d next s (rulesOf E t)
+      → runChecked E t dev out room ≡ runFrom E d next s (rulesOf (E .reader) t)
   unfolding runChecked
   run-accepted t dev out room {d} {s} h e f r = rw (le-leb fullestOutcome room r, read-ok E t h, e, f)
 
   module _ (L : Laws E) (dev : List ℕ) (d : Device) (is : device dev ≡ some d) where
-    text-sound : (t : List ℕ) (s : State) → Parts E t → L .Good d s → Holds (Sound E L d) (runFrom E d next s (rulesOf E t))
+    text-sound : (t : List ℕ) (s : State) → Parts E t → L .Good d s → Holds (Sound E L d) (runFrom E d next s (rulesOf (E .reader) t))
     unfolding rulesOf
-    text-sound t s h g = run-sound E L d (rulesOf E t) next s tt (h .settled) (lines-read E (lines t)) g
+    text-sound t s h g = run-sound E L d (rulesOf (E .reader) t) next s tt (h .settled) (lines-read E (lines t)) g
 
     -- the join of a text with another, by what running the text gave
-    run-join : (t v : List ℕ) (s : State) → EndsLine t → (c : Ran State) → runFrom E d next s (rulesOf E t) ≡ c → Holds (Sound E L d) c
-        → runFrom E d next s (rulesOf E (t ++ v)) ≡ (c >>= λ h. more (h .visited) (lower (newlines t) (runFrom E d next (h .state) (rulesOf E v))))
+    run-join : (t v : List ℕ) (s : State) → EndsLine t → (c : Ran State) → runFrom E d next s (rulesOf (E .reader) t) ≡ c → Holds (Sound E L d) c
+        → runFrom E d next s (rulesOf (E .reader) (t ++ v)) ≡ (c >>= λ h. more (h .visited) (lower (newlines t) (runFrom E d next (h .state) (rulesOf (E .reader) v))))
     run-join t v s e (refused (line n f)) q h =
-        rw (rules-join E L t e v, run-append E d (shift (newlines t) (rulesOf E v)) (rulesOf E t) next s, q)
+        rw (rules-join E L t e v, run-append E d (shift (newlines t) (rulesOf (E .reader) v)) (rulesOf (E .reader) t) next s, q)
     run-join t v s e (ok h) q k =
-        rw (rules-join E L t e v, run-append E d (shift (newlines t) (rulesOf E v)) (rulesOf E t) next s, q, k .ended, run-shift E d (newlines t) (rulesOf E v) next (h .state))
+        rw (rules-join E L t e v, run-append E d (shift (newlines t) (rulesOf (E .reader) v)) (rulesOf (E .reader) t) next s, q, k .ended, run-shift E d (newlines t) (rulesOf (E .reader) v) next (h .state))
 
     module _ (v n : ℕ) (out : List ℕ) (j : Job) (js : List Job) where
       -- a refused run is the last
@@ -94,46 +95,46 @@ module _ (E : Engine) where
       runs-ok h e = rw (e, take-append-seam (encode (h .state)) (replicate (j .room - length (encode (h .state))) 0))
 
     run-is : (t out : List ℕ) (room : ℕ) (s : State) → Parts E t → decode d out ≡ some s → fullestOutcome ≤ room → (c : Ran State)
-        → runFrom E d next s (rulesOf E t) ≡ c → run E t dev out room ≡ answer E room c
+        → runFrom E d next s (rulesOf (E .reader) t) ≡ c → run E t dev out room ≡ answer E room c
     unfolding run
     run-is t out room s h f r c q = ap (answer E room) (run-accepted t dev out room h is f r ∙ q)
 
     pub runs : (j : Job) (js : List Job) → Joinable (texts (j ∷ js)) → All (Parts E) (texts (j ∷ js)) → All (λ (k : Job). fullestOutcome ≤ k .room) (j ∷ js)
         → (v n : ℕ) (out : List ℕ) (s : State) → decode d out ≡ some s → L .Good d s
-        → runAll E dev v n out (j ∷ js) ≡ summary (more v (lower n (runFrom E d next s (rulesOf E (join (texts (j ∷ js)))))))
+        → runAll E dev v n out (j ∷ js) ≡ summary (more v (lower n (runFrom E d next s (rulesOf (E .reader) (join (texts (j ∷ js)))))))
     unfolding join runAll
     runs j [] e (h, _) (r, _) v n out s f good =
-        rw (append-nil (j .text)) (go (runFrom E d next s (rulesOf E (j .text))) refl)
+        rw (append-nil (j .text)) (go (runFrom E d next s (rulesOf (E .reader) (j .text))) refl)
       where
-        go : (c : Ran State) → runFrom E d next s (rulesOf E (j .text)) ≡ c → runAll E dev v n out (j ∷ []) ≡ summary (more v (lower n c))
+        go : (c : Ran State) → runFrom E d next s (rulesOf (E .reader) (j .text)) ≡ c → runAll E dev v n out (j ∷ []) ≡ summary (more v (lower n c))
         go (refused (line k g)) q = runs-refused v n out j [] g k (run-is (j .text) out (j .room) s h f r (refused (line k g)) q)
         go (ok k) q = runs-ok v n out j [] k (run-is (j .text) out (j .room) s h f r (ok k) q)
     runs j (i ∷ js) (e, es) (h, hs) (r, rs) v n out s f good =
-        go (runFrom E d next s (rulesOf E (j .text))) refl (text-sound (j .text) s h good) (λ v′ n′ out′ s′ f′ good′. runs i js es hs rs v′ n′ out′ s′ f′ good′)
+        go (runFrom E d next s (rulesOf (E .reader) (j .text))) refl (text-sound (j .text) s h good) (λ v′ n′ out′ s′ f′ good′. runs i js es hs rs v′ n′ out′ s′ f′ good′)
       where
         rest : List ℕ
         rest = join (texts (i ∷ js))
 
-        go : (c : Ran State) → runFrom E d next s (rulesOf E (j .text)) ≡ c → Holds (Sound E L d) c
-            → ((v n : ℕ) (out : List ℕ) (s : State) → decode d out ≡ some s → L .Good d s → runAll E dev v n out (i ∷ js) ≡ summary (more v (lower n (runFrom E d next s (rulesOf E rest)))))
-            → runAll E dev v n out (j ∷ i ∷ js) ≡ summary (more v (lower n (runFrom E d next s (rulesOf E (j .text ++ rest)))))
+        go : (c : Ran State) → runFrom E d next s (rulesOf (E .reader) (j .text)) ≡ c → Holds (Sound E L d) c
+            → ((v n : ℕ) (out : List ℕ) (s : State) → decode d out ≡ some s → L .Good d s → runAll E dev v n out (i ∷ js) ≡ summary (more v (lower n (runFrom E d next s (rulesOf (E .reader) rest)))))
+            → runAll E dev v n out (j ∷ i ∷ js) ≡ summary (more v (lower n (runFrom E d next s (rulesOf (E .reader) (j .text ++ rest)))))
         go (refused (line k g)) q t ih =
             rw (run-join (j .text) rest s e (refused (line k g)) q t) (runs-refused v n out j (i ∷ js) g k (run-is (j .text) out (j .room) s h f r (refused (line k g)) q))
         go (ok k) q t ih =
-            rw (run-join (j .text) rest s e (ok k) q t, more-lower v (k .visited) n (newlines (j .text)) (runFrom E d next (k .state) (rulesOf E rest)))
+            rw (run-join (j .text) rest s e (ok k) q t, more-lower v (k .visited) n (newlines (j .text)) (runFrom E d next (k .state) (rulesOf (E .reader) rest)))
             (runs-ok v n out j (i ∷ js) k (run-is (j .text) out (j .room) s h f r (ok k) q)
             ∙ ih (v + k .visited) (n + newlines (j .text)) (encode (k .state)) (k .state) (L .again (t .good)) (t .good))
 
   -- Running the join of accepted texts once gives what the runs of the texts give, one after another.
   pub joined-run : (L : Laws E) (js : List Job) → Joinable (texts js) → All (Accepted E) (texts js)
-      → length (join (texts js)) ≤ mostText → ruleCount (reads E (join (texts js))) ≤ mostRules
+      → length (join (texts js)) ≤ mostText → ruleCount (reads (E .reader) (join (texts js))) ≤ mostRules
       → (dev out : List ℕ) {d : Device} {s : State} → Bytes out → device dev ≡ some d → decode d out ≡ some s
       → All (λ (j : Job). fullestOutcome ≤ j .room) js → (room : ℕ) → fullestOutcome ≤ room
       → given (run E (join (texts js)) dev out room) ≡ runAll E dev 0 0 out js
   joined-run L [] e h short few dev out by is f rs room r = absurd e
   joined-run L (j ∷ js) e h short few dev out {d} {s} by is f rs room r =
       unfold run in
-      ap given (run-is L dev d is (join (texts (j ∷ js))) out room s (to-parts E (join (texts (j ∷ js))) (join-accepted E L (texts (j ∷ js)) e h short few)) f r (runFrom E d next s (rulesOf E (join (texts (j ∷ js))))) refl)
-      ∙ (given-answer room (runFrom E d next s (rulesOf E (join (texts (j ∷ js)))))
-      ∙ (ap summary (sym (ap (more 0) (lower-zero (runFrom E d next s (rulesOf E (join (texts (j ∷ js)))))) ∙ more-zero (runFrom E d next s (rulesOf E (join (texts (j ∷ js)))))))
+      ap given (run-is L dev d is (join (texts (j ∷ js))) out room s (to-parts E (join (texts (j ∷ js))) (join-accepted E L (texts (j ∷ js)) e h short few)) f r (runFrom E d next s (rulesOf (E .reader) (join (texts (j ∷ js))))) refl)
+      ∙ (given-answer room (runFrom E d next s (rulesOf (E .reader) (join (texts (j ∷ js)))))
+      ∙ (ap summary (sym (ap (more 0) (lower-zero (runFrom E d next s (rulesOf (E .reader) (join (texts (j ∷ js)))))) ∙ more-zero (runFrom E d next s (rulesOf (E .reader) (join (texts (j ∷ js)))))))
       ∙ sym (runs L dev d is j js e (All-map (Accepted E) (Parts E) (to-parts E) (texts (j ∷ js)) h) rs 0 0 out s f (L .starts by is f))))

@@ -15,7 +15,7 @@ use Rattle.lists.specs.Lists.{pick}
 use Rattle.lists.specs.Checked.{Checked, refused, ok, require, found, Holds, Placed, line}
 use Rattle.lists.specs.Refusal.{Refusal, target-short, device-bad, outcome-bad}
 use Rattle.lists.specs.Sizes.{fullestOutcome}
-use Rattle.text.specs.Engine.{Engine, Stepped, went}
+use Rattle.text.specs.Engine.{Reader, Engine, Stepped, went}
 use Rattle.text.specs.Reading.{goesTo, hasLabel, readText}
 use Rattle.text.specs.Running.{Mode, next, seek, Halt, Ran, more, begins, after, started, visit, runFrom}
 use Rattle.text.specs.Run.{answer, runChecked, run}
@@ -26,7 +26,8 @@ use Rattle.text.proofs.Texts.{Read, read}
 use Rattle.text.proofs.Sound.{Sound, run-sound, lines-read}
 
 module _ (E : Engine) where
-  open Engine E using (Rule, Device, State, label, goto, step, device, decode, encode)
+  open Reader (E .reader) using (Rule, label, goto)
+  open Engine E using (Device, State, step, device, decode, encode)
 
   abbrev Few : ℕ → Halt State → Type 0
   Few n h = h .visited ≤ n
@@ -56,14 +57,14 @@ module _ (E : Engine) where
   fromLabel g (line n r ∷ ps) = pick (hasLabel g (label r)) (line n r ∷ ps) (fromLabel g ps)
 
   land : (b : Bool) (d : Device) (g : List ℕ) (n : ℕ) (r : Rule) (ps : List (Placed Rule)) (s : State) (l : ℕ)
-      → (goesTo E g ps ≡ some l → runFrom E d (seek g) s ps ≡ runFrom E d next s (fromLabel g ps)) → pick b (some n) (goesTo E g ps) ≡ some l
+      → (goesTo (E .reader) g ps ≡ some l → runFrom E d (seek g) s ps ≡ runFrom E d next s (fromLabel g ps)) → pick b (some n) (goesTo (E .reader) g ps) ≡ some l
       → visit E b d n r (seek g) s (λ m′ s′. runFrom E d m′ s′ ps) ≡ runFrom E d next s (pick b (line n r ∷ ps) (fromLabel g ps))
   unfolding runFrom
   land true d g n r ps s l f e = refl
   land false d g n r ps s l f e = f e
 
   -- seeking a label is going on from the next rule with it
-  pub seek-lands : (d : Device) (g : List ℕ) (ps : List (Placed Rule)) (s : State) (l : ℕ) → goesTo E g ps ≡ some l
+  pub seek-lands : (d : Device) (g : List ℕ) (ps : List (Placed Rule)) (s : State) (l : ℕ) → goesTo (E .reader) g ps ≡ some l
       → runFrom E d (seek g) s ps ≡ runFrom E d next s (fromLabel g ps)
   unfolding runFrom goesTo fromLabel
   seek-lands d g [] s l e = absurd (Option·none-ne-some l e)
@@ -76,7 +77,7 @@ module _ (E : Engine) where
       length-append (encode (a .state)) (replicate (room - length (encode (a .state))) 0)
       ∙ rw (length-replicate {A = ℕ} (room - length (encode (a .state))) 0) (omega arith)
 
-  read-holds : (t : List ℕ) (c : Checked (Placed Refusal) (List (Placed Rule))) → readText E t ≡ c → Holds (Read E t) c
+  read-holds : (t : List ℕ) (c : Checked (Placed Refusal) (List (Placed Rule))) → readText (E .reader) t ≡ c → Holds (Read E t) c
   read-holds t (refused (line n f)) e = tt
   read-holds t (ok rs) e = read E t rs e
 
@@ -86,11 +87,11 @@ module _ (E : Engine) where
     run-fits =
         let Q : Halt State → Type 0 = λ h. length (encode (h .state)) ≤ room in
         holds-seq (λ (_ : Unit {0}). leb fullestOutcome room ≡ true) Q (require (leb fullestOutcome room) (line 0 target-short)) _ (holds-require (leb fullestOutcome room) (line 0 target-short))
-        (λ _ full. holds-bind (Read E t) Q (readText E t) _ (read-holds t (readText E t) refl)
+        (λ _ full. holds-bind (Read E t) Q (readText (E .reader) t) _ (read-holds t (readText (E .reader) t) refl)
         (λ rs r. holds-bind (λ (d : Device). device dev ≡ some d) Q (found (device dev) (line 0 device-bad)) _ (holds-found (device dev) (line 0 device-bad))
         (λ d is. holds-bind (λ (s : State). decode d out ≡ some s) Q (found (decode d out) (line 0 outcome-bad)) _ (holds-found (decode d out) (line 0 outcome-bad))
         (λ s at. holds-map (Sound E L d) Q (runFrom E d next s rs)
-        (rw (r .same) (run-sound E L d (rulesOf E t) next s tt (r .parts .settled) (lines-read E (lines t)) (L .starts by is at)))
+        (rw (r .same) (run-sound E L d (rulesOf (E .reader) t) next s tt (r .parts .settled) (lines-read E (lines t)) (L .starts by is at)))
         (λ h k. omega (arith, L .fits (k .good), leb→le fullestOutcome room (subst T (sym full) tt)))))))
 
     -- whatever is run, the answer has as many bytes as the target
@@ -99,10 +100,10 @@ module _ (E : Engine) where
     run-length = answer-length room (runChecked E t dev out room) run-fits
 
   -- the run of an accepted text ends in the running mode
-  pub run-ends : (L : Laws E) (t : List ℕ) (rs : List (Placed Rule)) → readText E t ≡ ok rs → (d : Device) (s : State) → L .Good d s
+  pub run-ends : (L : Laws E) (t : List ℕ) (rs : List (Placed Rule)) → readText (E .reader) t ≡ ok rs → (d : Device) (s : State) → L .Good d s
       → Holds (λ (h : Halt State). h .mode ≡ next) (runFrom E d next s rs)
   unfolding rulesOf
   run-ends L t rs e d s g =
       let r = read E t rs e in
       holds-map (Sound E L d) (λ (h : Halt State). h .mode ≡ next) (runFrom E d next s rs)
-      (rw (r .same) (run-sound E L d (rulesOf E t) next s tt (r .parts .settled) (lines-read E (lines t)) g)) (λ h k. k .ended)
+      (rw (r .same) (run-sound E L d (rulesOf (E .reader) t) next s tt (r .parts .settled) (lines-read E (lines t)) g)) (λ h k. k .ended)

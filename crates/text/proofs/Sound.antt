@@ -8,7 +8,7 @@ use mathlib.Core.Option.{Option, none, some, Option·none-ne-some}
 use Rattle.lists.specs.Lists.{All}
 use Rattle.lists.specs.Checked.{Checked, refused, ok, Holds, Placed, line, inPlace}
 use Rattle.lists.specs.Refusal.{Refusal}
-use Rattle.text.specs.Engine.{Engine, LineRead, skip, fault, rule, Stepped, went}
+use Rattle.text.specs.Engine.{Reader, Engine, LineRead, skip, fault, rule, Stepped, went}
 use Rattle.text.specs.Reading.{goesTo}
 use Rattle.text.specs.Running.{Mode, next, seek, Halt, Ran, more, begins, after, started, visit, runFrom}
 use Rattle.text.specs.Rules.{rulesIn}
@@ -21,23 +21,24 @@ sought next = none
 sought (seek g) = some g
 
 module _ (E : Engine) where
-  open Engine E using (Rule, Device, State, label, goto, step)
+  open Reader (E .reader) using (Rule, label, goto)
+  open Engine E using (Device, State, step)
 
   -- the rule was read from a line
   abbrev pub FromLine : Placed Rule → Type 0
-  FromLine (line n r) = (l : List ℕ) × (E .readLine l ≡ rule r)
+  FromLine (line n r) = (l : List ℕ) × (E .reader .readLine l ≡ rule r)
 
-  line-read : (n : ℕ) (l : List ℕ) (ls : List (Placed (LineRead Rule))) (x : LineRead Rule) → E .readLine l ≡ x
+  line-read : (n : ℕ) (l : List ℕ) (ls : List (Placed (LineRead Rule))) (x : LineRead Rule) → E .reader .readLine l ≡ x
       → All FromLine (rulesIn ls) → All FromLine (rulesIn (line n x ∷ ls))
   unfolding rulesIn
   line-read n l ls skip e h = h
   line-read n l ls (fault f) e h = h
   line-read n l ls (rule r) e h = ((l, e), h)
 
-  pub lines-read : (ls : List (Placed (List ℕ))) → All FromLine (rulesIn (map (inPlace (E .readLine)) ls))
+  pub lines-read : (ls : List (Placed (List ℕ))) → All FromLine (rulesIn (map (inPlace (E .reader .readLine)) ls))
   unfolding rulesIn
   lines-read [] = tt
-  lines-read (line n l ∷ ls) = line-read n l (map (inPlace (E .readLine)) ls) (E .readLine l) refl (lines-read ls)
+  lines-read (line n l ∷ ls) = line-read n l (map (inPlace (E .reader .readLine)) ls) (E .reader .readLine l) refl (lines-read ls)
 
   aimed-after : (held : Bool) (g : Option (List ℕ)) (ps : List (Placed Rule)) → Aimed E g ps → Aimed E (sought (after held g)) ps
   aimed-after false g ps a = tt

@@ -7,13 +7,14 @@ use mathlib.Core.List.{List, _∷_}
 use mathlib.Core.Option.{Option}
 use Rattle.lists.specs.Checked.{Checked, refused, ok, _>>=_, Placed, line}
 use Rattle.lists.specs.Refusal.{Refusal}
-use Rattle.text.specs.Engine.{Engine, LineRead, skip, fault, rule, Stepped, went}
+use Rattle.text.specs.Engine.{Reader, Engine, LineRead, skip, fault, rule, Stepped, went}
 use Rattle.text.specs.Running.{Mode, Halt, Ran, more, begins, after, started, visit, runFrom}
 use Rattle.text.specs.Rules.{rulesIn, stepped, lineBegins, runLine}
 use Rattle.text.proofs.Running.{more-more}
 
 module _ (E : Engine) where
-  open Engine E using (Rule, Device, State, label, goto, step)
+  open Reader (E .reader) using (Rule, label, goto)
+  open Engine E using (Device, State, step)
 
   module _ (d : Device) (ls : List (Placed (LineRead Rule))) where
     -- the lines behind

@@ -38,20 +38,20 @@ module _ (E : Engine) where
   -- what makes a text accepted
   pub record Parts (t : List ℕ) : Type 0 where
     pub short : length t ≤ mostText
-    pub faultless : Faultless (reads E t)
-    pub few : ruleCount (reads E t) ≤ mostRules
-    pub settled : Settled E (rulesOf E t)
+    pub faultless : Faultless (reads (E .reader) t)
+    pub few : ruleCount (reads (E .reader) t) ≤ mostRules
+    pub settled : Settled E (rulesOf (E .reader) t)
 
-  pub read-ok : (t : List ℕ) → Parts t → readText E t ≡ ok (rulesOf E t)
+  pub read-ok : (t : List ℕ) → Parts t → readText (E .reader) t ≡ ok (rulesOf (E .reader) t)
   unfolding readText rulesOf
   read-ok t h =
-      rw (le-leb (length t) mostText (h .short), collect-ok mostRules (reads E t) (h .faultless) (h .few), settle-ok E (rulesIn (reads E t)) (h .settled))
+      rw (le-leb (length t) mostText (h .short), collect-ok mostRules (reads (E .reader) t) (h .faultless) (h .few), settle-ok E (rulesIn (reads (E .reader) t)) (h .settled))
 
-  pub record Read (t : List ℕ) (rs : List (Placed (E .Rule))) : Type 0 where
+  pub record Read (t : List ℕ) (rs : List (Placed (E .reader .Rule))) : Type 0 where
     pub parts : Parts t
-    pub same : rs ≡ rulesOf E t
+    pub same : rs ≡ rulesOf (E .reader) t
 
-  read-lines : (t : List ℕ) → length t ≤ mostText → (rs : List (Placed (E .Rule))) → Collected mostRules (reads E t) rs
+  read-lines : (t : List ℕ) → length t ≤ mostText → (rs : List (Placed (E .reader .Rule))) → Collected mostRules (reads (E .reader) t) rs
       → Settled E rs → Read t rs
   unfolding rulesOf
   read-lines t h rs c s = record {
@@ -60,74 +60,74 @@ module _ (E : Engine) where
   }
 
   read-short : (t : List ℕ) (b : Bool) → leb (length t) mostText ≡ b
-      → Holds (Read t) (require b (line 0 text-long) >> (collect mostRules (reads E t) >>= λ rs. (settle E rs >> ok rs)))
+      → Holds (Read t) (require b (line 0 text-long) >> (collect mostRules (reads (E .reader) t) >>= λ rs. (settle (E .reader) rs >> ok rs)))
   read-short t false e = tt
   read-short t true e =
-      holds-bind (Collected mostRules (reads E t)) (Read t) (collect mostRules (reads E t)) (λ rs. (settle E rs >> ok rs)) (collected mostRules (reads E t))
-      (λ rs c. holds-seq (λ (_ : ℕ). Settled E rs) (Read t) (settle E rs) (ok rs) (settled E rs)
+      holds-bind (Collected mostRules (reads (E .reader) t)) (Read t) (collect mostRules (reads (E .reader) t)) (λ rs. (settle (E .reader) rs >> ok rs)) (collected mostRules (reads (E .reader) t))
+      (λ rs c. holds-seq (λ (_ : ℕ). Settled E rs) (Read t) (settle (E .reader) rs) (ok rs) (settled E rs)
       (λ _ s. read-lines t (leb→le (length t) mostText (subst T (sym e) tt)) rs c s))
 
-  pub read : (t : List ℕ) (rs : List (Placed (E .Rule))) → readText E t ≡ ok rs → Read t rs
+  pub read : (t : List ℕ) (rs : List (Placed (E .reader .Rule))) → readText (E .reader) t ≡ ok rs → Read t rs
   unfolding readText
   read t rs e = holds-at (Read t) e (read-short t (leb (length t) mostText) refl)
 
   -- ---- a text that others may follow: what its whole lines read, and a skipped line
 
   record Front (t : List ℕ) : Type 0 where
-    front : List (Placed (LineRead (E .Rule)))
+    front : List (Placed (LineRead (E .reader .Rule)))
     last : ℕ
-    alone : reads E t ≡ front ++ (line last skip ∷ [])
-    before : (v : List ℕ) → reads E (t ++ v) ≡ front ++ shift (newlines t) (reads E v)
-    above : All (λ (p : Placed (LineRead (E .Rule))). lineOf p ≤ newlines t) front
+    alone : reads (E .reader) t ≡ front ++ (line last skip ∷ [])
+    before : (v : List ℕ) → reads (E .reader) (t ++ v) ≡ front ++ shift (newlines t) (reads (E .reader) v)
+    above : All (λ (p : Placed (LineRead (E .reader .Rule))). lineOf p ≤ newlines t) front
 
   module _ (L : Laws E) (t : List ℕ) (h : EndsLine t) where
     front-of : Front t
     front-of =
         let f = numbered 1 (whole t h .front) in
         record {
-          front = map (inPlace (E .readLine)) f;
+          front = map (inPlace (E .reader .readLine)) f;
           last = newlines t + 1;
-          alone = rw (lines-alone t h, map-append (inPlace (E .readLine)) f (line (newlines t + 1) [] ∷ []), L .empty-line);
-          before = λ v. rw (lines-before t h v, map-append (inPlace (E .readLine)) f (shift (newlines t) (lines v)), inPlace-shift (E .readLine) (newlines t) (lines v));
+          alone = rw (lines-alone t h, map-append (inPlace (E .reader .readLine)) f (line (newlines t + 1) [] ∷ []), L .empty-line);
+          before = λ v. rw (lines-before t h v, map-append (inPlace (E .reader .readLine)) f (shift (newlines t) (lines v)), inPlace-shift (E .reader .readLine) (newlines t) (lines v));
           above =
-              inPlace-lines (E .readLine) (λ (n : ℕ). n ≤ newlines t) f
+              inPlace-lines (E .reader .readLine) (λ (n : ℕ). n ≤ newlines t) f
               (All-map _ (λ (p : Placed (List ℕ)). lineOf p ≤ newlines t) (λ p k. omega (arith, whole t h .size)) f (numbered-lines 1 (whole t h .front)));
         }
 
-    alone-rules : rulesOf E t ≡ rulesIn (front-of .front)
+    alone-rules : rulesOf (E .reader) t ≡ rulesIn (front-of .front)
     unfolding rulesOf rulesIn
     alone-rules = rw (front-of .alone, rules-append (front-of .front) (line (front-of .last) skip ∷ []), append-nil (rulesIn (front-of .front)))
 
-    pub rules-join : (v : List ℕ) → rulesOf E (t ++ v) ≡ rulesOf E t ++ shift (newlines t) (rulesOf E v)
+    pub rules-join : (v : List ℕ) → rulesOf (E .reader) (t ++ v) ≡ rulesOf (E .reader) t ++ shift (newlines t) (rulesOf (E .reader) v)
     unfolding rulesOf
     rules-join v =
         ap rulesIn (front-of .before v)
-        ∙ (rules-append (front-of .front) (shift (newlines t) (reads E v))
-        ∙ rw (alone-rules, rules-shift (newlines t) (reads E v)))
+        ∙ (rules-append (front-of .front) (shift (newlines t) (reads (E .reader) v))
+        ∙ rw (alone-rules, rules-shift (newlines t) (reads (E .reader) v)))
 
-    pub faultless-join : (v : List ℕ) → Faultless (reads E t) → Faultless (reads E v) → Faultless (reads E (t ++ v))
+    pub faultless-join : (v : List ℕ) → Faultless (reads (E .reader) t) → Faultless (reads (E .reader) v) → Faultless (reads (E .reader) (t ++ v))
     faultless-join v f g =
         rw (front-of .before v)
-        (faultless-append (front-of .front) (shift (newlines t) (reads E v))
-        (faultless-split (front-of .front) (line (front-of .last) skip ∷ []) (rw (front-of .alone) at f) .0) (faultless-shift (newlines t) (reads E v) g))
+        (faultless-append (front-of .front) (shift (newlines t) (reads (E .reader) v))
+        (faultless-split (front-of .front) (line (front-of .last) skip ∷ []) (rw (front-of .alone) at f) .0) (faultless-shift (newlines t) (reads (E .reader) v) g))
 
-    pub faultless-part : (v : List ℕ) → Faultless (reads E (t ++ v)) → Faultless (reads E t) × Faultless (reads E v)
+    pub faultless-part : (v : List ℕ) → Faultless (reads (E .reader) (t ++ v)) → Faultless (reads (E .reader) t) × Faultless (reads (E .reader) v)
     faultless-part v f =
-        let s = faultless-split (front-of .front) (shift (newlines t) (reads E v)) (rw (front-of .before v) at f) in
-        (rw (front-of .alone) (faultless-append (front-of .front) (line (front-of .last) skip ∷ []) (s .0) tt), faultless-unshift (newlines t) (reads E v) (s .1))
+        let s = faultless-split (front-of .front) (shift (newlines t) (reads (E .reader) v)) (rw (front-of .before v) at f) in
+        (rw (front-of .alone) (faultless-append (front-of .front) (line (front-of .last) skip ∷ []) (s .0) tt), faultless-unshift (newlines t) (reads (E .reader) v) (s .1))
 
-    pub count-join : (v : List ℕ) → ruleCount (reads E (t ++ v)) ≡ ruleCount (reads E t) + ruleCount (reads E v)
+    pub count-join : (v : List ℕ) → ruleCount (reads (E .reader) (t ++ v)) ≡ ruleCount (reads (E .reader) t) + ruleCount (reads (E .reader) v)
     unfolding ruleCount
     count-join v =
-        rw (front-of .before v, front-of .alone, count-append (front-of .front) (shift (newlines t) (reads E v)), count-append (front-of .front) (line (front-of .last) skip ∷ []), count-shift (newlines t) (reads E v), add-zero)
+        rw (front-of .before v, front-of .alone, count-append (front-of .front) (shift (newlines t) (reads (E .reader) v)), count-append (front-of .front) (line (front-of .last) skip ∷ []), count-shift (newlines t) (reads (E .reader) v), add-zero)
 
     -- its rules stand on its whole lines
-    pub rules-to : All (λ (p : Placed (E .Rule)). lineOf p ≤ newlines t) (rulesOf E t)
+    pub rules-to : All (λ (p : Placed (E .reader .Rule)). lineOf p ≤ newlines t) (rulesOf (E .reader) t)
     rules-to = rw alone-rules (rules-lines (λ (n : ℕ). n ≤ newlines t) (front-of .front) (front-of .above))
 
   -- lines count from 1
-  pub rules-from : (t : List ℕ) → All (λ (p : Placed (E .Rule)). 1 ≤ lineOf p) (rulesOf E t)
+  pub rules-from : (t : List ℕ) → All (λ (p : Placed (E .reader .Rule)). 1 ≤ lineOf p) (rulesOf (E .reader) t)
   unfolding rulesOf lines
   rules-from t =
-      rules-lines (λ (n : ℕ). 1 ≤ n) (reads E t)
-      (inPlace-lines (E .readLine) (λ (n : ℕ). 1 ≤ n) (lines t) (All-map _ (λ (p : Placed (List ℕ)). 1 ≤ lineOf p) (λ p k. k .0) (lines t) (numbered-lines 1 _)))
+      rules-lines (λ (n : ℕ). 1 ≤ n) (reads (E .reader) t)
+      (inPlace-lines (E .reader .readLine) (λ (n : ℕ). 1 ≤ n) (lines t) (All-map _ (λ (p : Placed (List ℕ)). 1 ≤ lineOf p) (λ p k. k .0) (lines t) (numbered-lines 1 _)))

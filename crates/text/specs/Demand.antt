@@ -21,7 +21,7 @@ pub record Fit (E : Engine) (ts : List (List ℕ)) : Type 0 where
   pub joinable : Joinable ts
   pub accepted : All (Accepted E) ts
   pub bytes : length (join ts) ≤ mostText
-  pub rules : ruleCount (reads E (join ts)) ≤ mostRules
+  pub rules : ruleCount (reads (E .reader) (join ts)) ≤ mostRules
 
 pub record Demand3 (E : Engine) : Type 0 where
   -- their join is accepted
@@ -32,5 +32,5 @@ pub record Demand3 (E : Engine) : Type 0 where
       → All (λ (j : Job). fullestOutcome ≤ j .room) js → (room : ℕ) → fullestOutcome ≤ room
       → given (run E (join (texts js)) dev out room) ≡ runAll E dev 0 0 out js
   -- an accepted text cut behind newlines has only accepted pieces if and only if no jump, taken or not, crosses a cut
-  pub cut-accepted : (t : List ℕ) (rs : List (Placed (E .Rule))) → readText E t ≡ ok rs
+  pub cut-accepted : (t : List ℕ) (rs : List (Placed (E .reader .Rule))) → readText (E .reader) t ≡ ok rs
       → (cs : List ℕ) → Rising 0 (newlines t) cs → All (Accepted E) (pieces 0 cs t) ↔ NoCrossing cs (jumps E rs)

@@ -13,23 +13,27 @@ pub data LineRead (Rule : Type 0) : Type 0 where
   fault : Refusal → LineRead Rule
   rule : Rule → LineRead Rule
 
+-- how a rules text is read
+pub record Reader : Type 1 where
+  pub Rule : Type 0
+  -- a line of the text
+  pub readLine : List ℕ → LineRead Rule
+  -- the LABEL and the GOTO of a rule
+  pub label : Rule → Option (List ℕ)
+  pub goto : Rule → Option (List ℕ)
+
 -- the state that a rule leaves, and whether all its match keys held
 pub data Stepped (State : Type 0) : Type 0 where
   went : State → Bool → Stepped State
 
 pub record Engine : Type 1 where
-  pub Rule : Type 0
+  pub reader : Reader
   pub Device : Type 0
   pub State : Type 0
-  -- a line of a rules text
-  pub readLine : List ℕ → LineRead Rule
-  -- the LABEL and the GOTO of a rule
-  pub label : Rule → Option (List ℕ)
-  pub goto : Rule → Option (List ℕ)
   -- the device of a device record (none: refusal 3)
   pub device : List ℕ → Option Device
   -- the state of an outcome record beside a device (none: refusal 4), and its record
   pub decode : Device → List ℕ → Option State
   pub encode : State → List ℕ
   -- one rule
-  pub step : Device → Rule → State → Checked Refusal (Stepped State)
+  pub step : Device → reader .Rule → State → Checked Refusal (Stepped State)

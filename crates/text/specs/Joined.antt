@@ -11,7 +11,7 @@ use lib.ListN.{length, take}
 use Rattle.lists.specs.Lists.{All}
 use Rattle.lists.specs.Checked.{ok, Placed, line}
 use Rattle.text.specs.Lines.{newlines}
-use Rattle.text.specs.Engine.{Engine}
+use Rattle.text.specs.Engine.{Reader, Engine}
 use Rattle.text.specs.Reading.{goesTo, readText}
 use Rattle.text.specs.Run.{Answer, run}
 
@@ -93,11 +93,11 @@ Rising n m [] = Unit {0}
 Rising n m (c ∷ cs) = (n < c) × (c ≤ m) × Rising c m cs
 
 module _ (E : Engine) where
-  open Engine E using (Rule, goto)
+  open Reader (E .reader) using (Rule, goto)
 
   -- a text that reading does not refuse
   abbrev pub Accepted : List ℕ → Type 0
-  Accepted t = (rs : List (Placed Rule)) × (readText E t ≡ ok rs)
+  Accepted t = (rs : List (Placed Rule)) × (readText (E .reader) t ≡ ok rs)
 
   abbrev pub jumpFrom : ℕ → Option ℕ → List Jump → List Jump
   jumpFrom n none js = js
@@ -105,7 +105,7 @@ module _ (E : Engine) where
 
   abbrev pub jumpsOf : ℕ → Option (List ℕ) → List (Placed Rule) → List Jump → List Jump
   jumpsOf n none ps js = js
-  jumpsOf n (some g) ps js = jumpFrom n (goesTo E g ps) js
+  jumpsOf n (some g) ps js = jumpFrom n (goesTo (E .reader) g ps) js
 
   -- the jumps of a text's rules, taken or not
   unfoldable pub jumps : List (Placed Rule) → List Jump

@@ -12,7 +12,7 @@ use Rattle.lists.specs.Checked.{Checked, refused, ok, _>>=_, _>>_, require, fou
 use Rattle.lists.specs.Refusal.{Refusal, text-long, rule-extra, label-missing}
 use Rattle.lists.specs.Sizes.{mostText, mostRules}
 use Rattle.text.specs.Lines.{lines}
-use Rattle.text.specs.Engine.{Engine, LineRead, skip, fault, rule}
+use Rattle.text.specs.Engine.{Reader, LineRead, skip, fault, rule}
 
 -- the rules of lines that were read, with k rules still allowed: 10 to 18 at the first line that has one
 unfoldable pub collect : {Rule : Type 0} → ℕ → List (Placed (LineRead Rule)) → Checked (Placed Refusal) (List (Placed Rule))
@@ -34,8 +34,8 @@ abbrev pub hasLabel : List ℕ → Option (List ℕ) → Bool
 hasLabel g none = false
 hasLabel g (some l) = sameBytes g l
 
-module _ (E : Engine) where
-  open Engine E using (Rule, readLine, label, goto)
+module _ (R : Reader) where
+  open Reader R using (Rule, readLine, label, goto)
 
   -- document 01, Running: the line of the next rule with that label, of the rules behind the GOTO
   unfoldable pub goesTo : List ℕ → List (Placed Rule) → Option ℕ

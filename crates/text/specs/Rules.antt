@@ -6,7 +6,7 @@ use mathlib.Core.List.{List, [], _∷_}
 use mathlib.Core.Option.{Option}
 use Rattle.lists.specs.Checked.{Checked, refused, ok, Placed, line}
 use Rattle.lists.specs.Refusal.{Refusal}
-use Rattle.text.specs.Engine.{Engine, LineRead, skip, fault, rule, Stepped, went}
+use Rattle.text.specs.Engine.{Reader, Engine, LineRead, skip, fault, rule, Stepped, went}
 use Rattle.text.specs.Reading.{reads}
 use Rattle.text.specs.Running.{Mode, Ran, begins, after}
 
@@ -17,12 +17,13 @@ rulesIn (line n skip ∷ ls) = rulesIn ls
 rulesIn (line n (fault f) ∷ ls) = rulesIn ls
 rulesIn (line n (rule r) ∷ ls) = line n r ∷ rulesIn ls
 
-module _ (E : Engine) where
-  open Engine E using (Rule, Device, State, label, goto, step)
+-- the rules of a text
+unfoldable pub rulesOf : (R : Reader) → List ℕ → List (Placed (R .Rule))
+rulesOf R t = rulesIn (reads R t)
 
-  -- the rules of a text
-  unfoldable pub rulesOf : List ℕ → List (Placed Rule)
-  rulesOf t = rulesIn (reads E t)
+module _ (E : Engine) where
+  open Reader (E .reader) using (Rule, label, goto)
+  open Engine E using (Device, State, step)
 
   -- where a run stands, with v rules visited
   abbrev pub standing : Mode → State → ℕ → Ran State

@@ -39,7 +39,7 @@ module _ (E : Engine) where
   unfoldable pub runChecked : List ℕ → List ℕ → List ℕ → ℕ → Ran State
   runChecked text dev out room = do
     require (leb fullestOutcome room) (line 0 target-short)
-    rs ← readText E text
+    rs ← readText (E .reader) text
     d ← found (device dev) (line 0 device-bad)
     s ← found (decode d out) (line 0 outcome-bad)
     runFrom E d next s rs

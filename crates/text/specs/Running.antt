@@ -6,7 +6,7 @@ use mathlib.Core.List.{List, [], _∷_}
 use mathlib.Core.Option.{Option, none, some}
 use Rattle.lists.specs.Checked.{Checked, refused, ok, Placed, line}
 use Rattle.lists.specs.Refusal.{Refusal}
-use Rattle.text.specs.Engine.{Engine, Stepped, went}
+use Rattle.text.specs.Engine.{Reader, Engine, Stepped, went}
 use Rattle.text.specs.Reading.{hasLabel}
 
 -- the next rule runs, or the next rule with a label does
@@ -41,7 +41,8 @@ more v (refused f) = refused f
 more v (ok h) = ok (record { mode = h .mode; state = h .state; visited = v + h .visited })
 
 module _ (E : Engine) where
-  open Engine E using (Rule, Device, State, label, goto, step)
+  open Reader (E .reader) using (Rule, label, goto)
+  open Engine E using (Device, State, step)
 
   -- a rule on line n that began: refused there, or visited, and then the later rules
   abbrev pub started : Checked Refusal (Stepped State) → ℕ → Option (List ℕ) → (Mode → State → Ran State) → Ran State

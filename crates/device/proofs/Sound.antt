@@ -1,0 +1,110 @@
+-- What holds of every device that was read from a record.
+-- Assumes nothing.
+use Prim.Native.Nat.{ℕ, zero, suc, _+_, _%_, _≤_, _<_}
+use mathlib.Core.Path.{_≡_, refl, sym, ap, _∙_, subst}
+use mathlib.Core.Bool.{Bool, true, false, _&&_, _||_}
+use mathlib.Core.List.{List, [], _∷_}
+use mathlib.Core.Option.{Option, none, some}
+use native.Mathlib.Omega.{arith}
+use lib.ListN.{length, drop, getD}
+use lib.Dec.{leb, eqb}
+use borrow.Author.Tests.{leb-true}
+use Rattle.lists.specs.Lists.{all}
+use Rattle.lists.specs.Bytes.{distinct}
+use Rattle.lists.proofs.Tests.{and-both, both-and}
+use Rattle.entries.specs.Parse.{Parse, got, bad, bind, keep, many}
+use Rattle.entries.specs.Entry.{exactly, Property, okProp, oneProp, keys}
+use Rattle.entries.proofs.Rows.{through, many-kept}
+use Rattle.entries.proofs.Entries.{kept, property-kept}
+use Rattle.lists.specs.Sizes.{mostChain, mostDevice, mostProperties}
+use Rattle.device.specs.Head.{Head, headOf, Lens, lensOf}
+use Rattle.device.specs.Device.{Member, Device, okMember, okHead, memberOf, readLens, oneMember, deviceOf, rising, readHead, parts, whole, ended, decode}
+
+-- ---- one device of the chain
+
+member-kept : (bs : List ℕ) (m : Member) (r : List ℕ) → oneMember bs ≡ got m r → okMember m ≡ true
+member-kept bs m r e =
+    through (readLens bs) _ m r e λ n r₀ p₀ e₀.
+    through (exactly (n .path) r₀) _ m r e₀ λ p r₁ p₁ e₁.
+    through (exactly (n .subsystem) r₁) _ m r e₁ λ s r₂ p₂ e₂.
+    through (exactly (n .driver) r₂) _ m r e₂ λ d r₃ p₃ e₃.
+    through (many oneProp (n .attributes) r₃) _ m r e₃ λ ps r₄ p₄ e₄.
+    let (t, x, y) = kept (okMember (memberOf p s d ps)) (memberOf p s d ps) m r₄ r e₄ in
+    ap okMember (sym x) ∙ t
+
+-- ---- the device
+
+-- the parts of a sound device
+pub record Sound (d : Device) : Type 0 where
+  pub event : okMember (d .event) ≡ true
+  pub parents : all okMember (d .parents) ≡ true
+  pub few : length (d .parents) < mostChain
+  pub properties : all okProp (d .properties) ≡ true
+  pub few-properties : length (d .properties) ≤ mostProperties
+
+few-properties : (h : Head) → okHead h ≡ true → h .properties ≤ mostProperties
+few-properties h o =
+    let a = and-both (eqb (h .edition) 1) _ o in
+    let b = and-both (eqb (h .node) 1 || (eqb (h .major) 0 && eqb (h .minor) 0)) _ (a .1) in
+    leb-true (h .properties) mostProperties (and-both (leb (h .properties) mostProperties) (eqb (h .unused) 0) (b .1) .0)
+
+parts-sound : (bs : List ℕ) (d : Device) (r : List ℕ) → parts bs ≡ got d r → Sound d
+parts-sound bs d r e =
+    through (readHead bs) _ d r e λ h r₀ p₀ e₀.
+    through (many oneProp (h .properties) r₀) _ d r e₀ λ ps r₁ p₁ e₁.
+    through (oneMember r₁) _ d r e₁ λ m r₂ p₂ e₂.
+    through (many oneMember (h .above) r₂) _ d r e₂ λ ms r₃ p₃ e₃.
+    let (t, x, y) = kept (leb 7 (length bs) && okHead (headOf bs)) (headOf bs) h (drop 7 bs) r₀ p₀ in
+    let (k, l) = many-kept okMember oneMember member-kept (h .above) r₂ ms r₃ p₃ in
+    let (i, j) = many-kept okProp oneProp property-kept (h .properties) r₀ ps r₁ p₁ in
+    let o : okHead h ≡ true = ap okHead (sym x) ∙ and-both (leb 7 (length bs)) (okHead (headOf bs)) t .1 in
+    let a : h .above < mostChain = subst (λ (h : Head). h .above < mostChain) x (small bs) in
+    of-parts h ps m ms r₃ e₃ (member-kept r₁ m r₂ p₂) k (subst (λ (n : ℕ). n < mostChain) (sym l) a) i (subst (λ (n : ℕ). n ≤ mostProperties) (sym j) (few-properties h o))
+  where
+    small : (bs : List ℕ) → headOf bs .above < mostChain
+    small bs = omega arith
+
+    of-parts : (h : Head) (ps : List Property) (m : Member) (ms : List Member) (q : List ℕ) → got (deviceOf h ps m ms) q ≡ got d r
+        → okMember m ≡ true → all okMember ms ≡ true → length ms < mostChain → all okProp ps ≡ true → length ps ≤ mostProperties → Sound d
+    of-parts h ps m ms q e a b c i j =
+        let p : deviceOf h ps m ms ≡ d = cc in
+        subst Sound p (record { event = a; parents = b; few = c; properties = i; few-properties = j })
+
+ended-sound : (p : Parse Device) (d : Device) → ((r : List ℕ) → p ≡ got d r → Sound d) → ended p ≡ some d → Sound d
+ended-sound bad d f e = let z : _≡_ {A = ℕ} 0 1 = cc in absurd (omega arith)
+ended-sound (got v (b ∷ bs)) d f e = let z : _≡_ {A = ℕ} 0 1 = cc in absurd (omega arith)
+ended-sound (got v []) d f e = at (whole v) refl e
+  where
+    at : (t : Bool) → whole v ≡ t → ended (got v []) ≡ some d → Sound d
+    at true h e = let q : some v ≡ some d = rw (h, ended) at e in let w : v ≡ d = cc in f [] (ap (λ (x : Device). got x []) w)
+    at false h e = let q : none ≡ some d = rw (h, ended) at e in let z : _≡_ {A = ℕ} 0 1 = cc in absurd (omega arith)
+
+pub device-sound : (bs : List ℕ) (d : Device) → decode bs ≡ some d → Sound d
+unfolding decode
+device-sound bs d e = at (leb (length bs) mostDevice) refl e
+  where
+    at : (t : Bool) → leb (length bs) mostDevice ≡ t → decode bs ≡ some d → Sound d
+    at true h e = let q : ended (parts bs) ≡ some d = rw (h, decode) at e in ended-sound (parts bs) d (λ r p. parts-sound bs d r p) q
+    at false h e = let q : none ≡ some d = rw (h, decode) at e in let z : _≡_ {A = ℕ} 0 1 = cc in absurd (omega arith)
+
+-- no property key stands twice
+pub device-distinct : (bs : List ℕ) (d : Device) → decode bs ≡ some d → distinct (keys (d .properties)) ≡ true
+unfolding decode
+device-distinct bs d e = at (leb (length bs) mostDevice) refl e
+  where
+    of-ended : (p : Parse Device) → ended p ≡ some d → distinct (keys (d .properties)) ≡ true
+    of-ended bad e = let z : _≡_ {A = ℕ} 0 1 = cc in absurd (omega arith)
+    of-ended (got v (b ∷ bs)) e = let z : _≡_ {A = ℕ} 0 1 = cc in absurd (omega arith)
+    of-ended (got v []) e = by (whole v) refl e
+      where
+        by : (t : Bool) → whole v ≡ t → ended (got v []) ≡ some d → distinct (keys (d .properties)) ≡ true
+        by true h e =
+            let q : some v ≡ some d = rw (h, ended) at e in
+            let w : v ≡ d = cc in
+            let a : whole d ≡ true = ap whole (sym w) ∙ h in
+            and-both (distinct (keys (d .properties))) (rising (d .event) (d .parents)) a .0
+        by false h e = let q : none ≡ some d = rw (h, ended) at e in let z : _≡_ {A = ℕ} 0 1 = cc in absurd (omega arith)
+
+    at : (t : Bool) → leb (length bs) mostDevice ≡ t → decode bs ≡ some d → distinct (keys (d .properties)) ≡ true
+    at true h e = let q : ended (parts bs) ≡ some d = rw (h, decode) at e in of-ended (parts bs) q
+    at false h e = let q : none ≡ some d = rw (h, decode) at e in let z : _≡_ {A = ℕ} 0 1 = cc in absurd (omega arith)

@@ -1,0 +1,68 @@
+-- The engine meets the laws of the text level, so the demand on joined texts holds of it.
+-- Assumes nothing.
+use Prim.Native.Nat.{ℕ, _≤_}
+use mathlib.Core.Path.{_≡_, refl, sym, _∙_, subst}
+use mathlib.Core.Bool.{Bool}
+use mathlib.Core.List.{List, []}
+use mathlib.Core.Option.{some}
+use native.Mathlib.Omega.{arith}
+use lib.ListN.{length}
+use Rattle.lists.specs.Bytes.{Bytes}
+use Rattle.lists.specs.Runs.{span}
+use Rattle.device.specs.Device as D
+use Rattle.device.specs.Device.{Device, chain}
+use Rattle.lists.specs.Checked.{ok}
+use Rattle.lists.specs.Sizes.{fullestOutcome}
+use Rattle.outcome.specs.State as O
+use Rattle.outcome.specs.State.{State}
+use Rattle.outcome.proofs.RoundTrip.{there, back}
+use Rattle.outcome.proofs.Fits.{fits}
+use Rattle.rules.specs.Pair.{Rule}
+use Rattle.rules.specs.Reading.{readLine}
+use Rattle.text.specs.Engine.{LineRead, skip, fault, rule, Stepped, went}
+use Rattle.text.specs.Laws.{Laws}
+use Rattle.text.specs.Demand.{Demand3}
+use Rattle.text.proofs.Demand.{demand3}
+use Rattle.engine.specs.Step.{step}
+use Rattle.engine.specs.Operations.{decodeFor, engine}
+use Rattle.device.proofs.Sound as device
+use Rattle.rules.proofs.Sound.{SoundRule, rule-sound}
+use Rattle.engine.proofs.Keeps.{step-good}
+
+-- a state beside a device: both may stand in a record
+abbrev pub Fine : Device → State → Type 0
+Fine d s = device.Sound d × O.Good (length (chain d)) s
+
+empty-skipped : readLine [] ≡ skip
+unfolding readLine span
+empty-skipped = refl
+
+starts : (d : Device) (dev out : List ℕ) (s : State) → Bytes out → D.decode dev ≡ some d → decodeFor d out ≡ some s → Fine d s
+unfolding decodeFor
+starts d dev out s by is at = (device.device-sound dev d is, back (length (chain d)) out s by at .1)
+
+keeps : (d : Device) (l : List ℕ) (r : Rule) (s s′ : State) (held : Bool) → readLine l ≡ rule r → Fine d s → step d r s ≡ ok (went s′ held) → Fine d s′
+keeps d l r s s′ held e (dg, g) w =
+    (dg, step-good d dg r s s′ held (rule-sound l r e) g w)
+
+again : (d : Device) (s : State) → Fine d s → decodeFor d (O.encode s) ≡ some s
+unfolding decodeFor
+again d s (dg, g) = there (length (chain d)) s g
+
+small : (d : Device) (s : State) → Fine d s → length (O.encode s) ≤ fullestOutcome
+small d s (dg, g) = fits (length (chain d)) s g
+
+pub engine-laws : Laws engine
+engine-laws =
+    record {
+      empty-line = empty-skipped;
+      Good = Fine;
+      starts = λ {d} {dev} {out} {s} by is at. starts d dev out s by is at;
+      keeps = λ {d} {l} {r} {s} {s′} {held} e g w. keeps d l r s s′ held e g w;
+      again = λ {d} {s} g. again d s g;
+      fits = λ {d} {s} g. small d s g;
+    }
+
+-- the demand on joined texts, of this engine
+pub engine-demand3 : Demand3 engine
+engine-demand3 = demand3 engine engine-laws

@@ -1,0 +1,6 @@
+pub mod Clean
+pub mod Keeps
+pub mod Laws
+pub mod Cases
+pub mod Marked
+pub mod Examples

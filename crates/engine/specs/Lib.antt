@@ -1,0 +1,6 @@
+pub mod Match
+pub mod Substitute
+pub mod Assign
+pub mod Step
+pub mod Operations
+pub mod Listing

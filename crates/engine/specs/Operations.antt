@@ -1,0 +1,92 @@
+-- Document 01, Numbers given back: the public operations as full answers: a check of a text, a fresh record, a run, a close.
+-- Assumes nothing.
+use Prim.Native.Nat.{ℕ, zero, suc, _+_, _*_, _/_, _%_}
+use mathlib.Core.Bool.{Bool, true, false}
+use mathlib.Core.List.{List, [], _∷_, _++_}
+use mathlib.Core.Option.{Option, none, some}
+use lib.Dec.{leb}
+use lib.ListN.{length}
+use Rattle.lists.specs.Lists.{cat}
+use Rattle.lists.specs.Checked.{Checked, refused, ok, _>>=_, _>>_, require, found, Placed, line, onLine}
+use Rattle.lists.specs.Refusal.{Refusal, target-short, device-bad, outcome-bad}
+use Rattle.lists.specs.Sizes.{fullestOutcome, fullestRunList}
+use Rattle.entries.specs.Entry.{Property}
+use Rattle.rules.specs.Reading.{reader}
+use Rattle.device.specs.Device as D
+use Rattle.device.specs.Device.{Device, chain}
+use Rattle.outcome.specs.State as O
+use Rattle.outcome.specs.State.{State, Run, bit}
+use Rattle.text.specs.Engine.{Engine}
+use Rattle.text.specs.Run as generic
+use Rattle.text.specs.Run.{Answer, refusal, acceptance}
+use Rattle.engine.specs.Substitute.{Source, filled}
+use Rattle.engine.specs.Step.{step}
+
+-- a record beside a device
+unfoldable pub decodeFor : Device → List ℕ → Option State
+decodeFor d out = O.decode (length (chain d)) out
+
+abbrev pub engine : Engine
+engine =
+    record {
+      reader = reader;
+      Device = Device;
+      State = State;
+      device = D.decode;
+      decode = decodeFor;
+      encode = O.encode;
+      step = step;
+    }
+
+-- ---- the run: 1; 2 and 10 to 19; 3; 4; then 30 and up in running order
+abbrev pub run : List ℕ → List ℕ → List ℕ → ℕ → Answer
+run = generic.run engine
+
+-- what is given back for a record made without visiting a rule
+abbrev pub given : ℕ → Checked (Placed Refusal) (List ℕ) → Answer
+given room (refused f) = refusal room f
+given room (ok made) = acceptance room 0 made
+
+-- ---- the fresh record: 1, 3
+unfoldable pub freshChecked : List ℕ → ℕ → Checked (Placed Refusal) (List ℕ)
+freshChecked dev room = do
+  require (leb fullestOutcome room) (line 0 target-short)
+  d ← found (D.decode dev) (line 0 device-bad)
+  ok (O.encode (O.fresh d))
+
+unfoldable pub fresh : List ℕ → ℕ → Answer
+fresh dev room = given room (freshChecked dev room)
+
+-- ---- the close: 1, 3, 4, 30, all with line 0
+
+-- an entry of the run list
+pub record Command : Type 0 where
+  pub builtin : Bool
+  pub text : List ℕ
+
+-- type 1, length 10, unused 5, then the text
+abbrev pub encCommand : Command → List ℕ
+encCommand c = (bit (c .builtin) * 128 + length (c .text) / 8) ∷ (length (c .text) % 8 * 32) ∷ c .text
+
+-- count 5, unused 3, then the entries
+unfoldable pub runList : List Command → List ℕ
+runList cs = (length cs * 8) ∷ cat encCommand cs
+
+-- each template substituted with the properties that the record holds at the end, in the list's order
+unfoldable pub commands : Device → List Property → List Run → Checked Refusal (List Command)
+commands d ps [] = ok []
+commands d ps (r ∷ rs) = do
+  t ← filled false (record { device = d; place = r .place; properties = ps }) (r .template)
+  cs ← commands d ps rs
+  ok (record { builtin = r .builtin; text = t } ∷ cs)
+
+unfoldable pub closeChecked : List ℕ → List ℕ → ℕ → Checked (Placed Refusal) (List ℕ)
+closeChecked dev out room = do
+  require (leb fullestRunList room) (line 0 target-short)
+  d ← found (D.decode dev) (line 0 device-bad)
+  s ← found (decodeFor d out) (line 0 outcome-bad)
+  cs ← onLine 0 (commands d (s .properties) (s .runs))
+  ok (runList cs)
+
+unfoldable pub close : List ℕ → List ℕ → ℕ → Answer
+close dev out room = given room (closeChecked dev out room)

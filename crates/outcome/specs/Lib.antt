@@ -1,0 +1,5 @@
+pub mod Head
+pub mod Content
+pub mod State
+pub mod Change
+pub mod Edits

@@ -1,0 +1,245 @@
+-- Document 01, Packed records and Sizes: the outcome as a value, its record, and the records that are sound.
+-- Assumes nothing.
+use Prim.Native.Nat.{ℕ, zero, suc, _+_, _*_, _/_, _%_, _<_, _≤_}
+use mathlib.Core.Path.{_≡_}
+use mathlib.Core.Bool.{Bool, true, false, _&&_, _||_, not}
+use mathlib.Core.List.{List, [], _∷_, _++_}
+use mathlib.Core.Option.{Option, some, none}
+use lib.ListN.{length, take, drop}
+use lib.Dec.{leb, eqb}
+use Rattle.lists.specs.Lists.{pick, cat, all}
+use Rattle.lists.specs.Bytes.{distinct, okText}
+use Rattle.entries.specs.Parse.{Parse, got, bad, keep, bind, many}
+use Rattle.entries.specs.Entry.{exactly, encText, oneText, Property, okProp, encProp, oneProp, keys}
+use Rattle.device.specs.Device.{Device}
+use Rattle.lists.specs.Sizes.{mostChain, mostLinks, mostProperties, mostTags, mostTag, mostRuns, mostValue}
+use Rattle.template.specs.Template.{wellFormed}
+use Rattle.outcome.specs.Head.{Head, header, headOf, Fit}
+use Rattle.outcome.specs.Content.{okLink, okOwner}
+
+-- which keys are closed, in the record's order
+pub record Closed : Type 0 where
+  pub links : Bool
+  pub tags : Bool
+  pub runs : Bool
+  pub owner : Bool
+  pub group : Bool
+  pub mode : Bool
+
+-- a program to run later: its type, the place of the matched device (0 is none), its template
+pub record Run : Type 0 where
+  pub builtin : Bool
+  pub place : ℕ
+  pub template : List ℕ
+
+-- an owner or a group of no bytes is unset; the priority is its 32 bits in two's complement
+pub record State : Type 0 where
+  pub closed : Closed
+  pub owner : List ℕ
+  pub group : List ℕ
+  pub mode : Option ℕ
+  pub priority : ℕ
+  pub links : List (List ℕ)
+  pub properties : List Property
+  pub tags : List (List ℕ)
+  pub runs : List Run
+
+-- ---- flags and mode as numbers of the header
+
+abbrev pub bit : Bool → ℕ
+bit true = 1
+bit false = 0
+
+abbrev pub shutOf : Closed → ℕ
+shutOf c = bit (c .links) * 32 + bit (c .tags) * 16 + bit (c .runs) * 8 + bit (c .owner) * 4 + bit (c .group) * 2 + bit (c .mode)
+
+abbrev pub closedOf : ℕ → Closed
+closedOf n =
+    record {
+      links = eqb (n / 32 % 2) 1;
+      tags = eqb (n / 16 % 2) 1;
+      runs = eqb (n / 8 % 2) 1;
+      owner = eqb (n / 4 % 2) 1;
+      group = eqb (n / 2 % 2) 1;
+      mode = eqb (n % 2) 1;
+    }
+
+abbrev pub modeSet : Option ℕ → ℕ
+modeSet none = 0
+modeSet (some m) = 1
+
+abbrev pub modeBits : Option ℕ → ℕ
+modeBits none = 0
+modeBits (some m) = m
+
+abbrev pub modeOf : ℕ → ℕ → Option ℕ
+modeOf set m = pick (eqb set 1) (some m) none
+
+-- ---- a run
+
+-- 1 to 256 bytes of a well-formed template, a place within a chain of n devices
+abbrev pub okRun : ℕ → Run → Bool
+okRun n r = leb (r .place) mostChain && (leb (r .place) n && (okText mostValue (r .template) && wellFormed (r .template)))
+
+-- type 1, place 5, length 9, unused 1, then the template
+abbrev pub encRun : Run → List ℕ
+encRun r =
+    (bit (r .builtin) * 128 + r .place * 4 + length (r .template) / 128)
+    ∷ (length (r .template) % 128 * 2)
+    ∷ r .template
+
+abbrev pub runAt : ℕ → ℕ → List ℕ → Run
+runAt h l bs = record { builtin = eqb (h / 128) 1; place = h / 4 % 32; template = take (h % 4 * 128 + l / 2) bs }
+
+abbrev pub oneRun : ℕ → List ℕ → Parse Run
+oneRun n [] = bad
+oneRun n (h ∷ []) = bad
+oneRun n (h ∷ l ∷ bs) =
+    keep
+    (eqb (l % 2) 0 && (leb (h % 4 * 128 + l / 2) (length bs) && okRun n (runAt h l bs)))
+    (runAt h l bs)
+    (drop (h % 4 * 128 + l / 2) bs)
+
+-- ---- the record
+
+abbrev pub headFor : State → Head
+headFor s =
+    record {
+      edition = 1;
+      shut = shutOf (s .closed);
+      owner = length (s .owner);
+      group = length (s .group);
+      modeSet = modeSet (s .mode);
+      mode = modeBits (s .mode);
+      priority = s .priority;
+      links = length (s .links);
+      properties = length (s .properties);
+      tags = length (s .tags);
+      runs = length (s .runs);
+    }
+
+-- owner, group, links, properties, tags, runs
+abbrev pub body : State → List ℕ
+body s =
+    s .owner
+    ++ (s .group ++ (cat encText (s .links) ++ (cat encProp (s .properties) ++ (cat encText (s .tags) ++ cat encRun (s .runs)))))
+
+unfoldable pub encode : State → List ℕ
+encode s = header (headFor s) ++ body s
+
+-- what the header must say: edition 1, no mode without its mark, no more than there may be of each
+abbrev pub okHead : Head → Bool
+okHead h =
+    eqb (h .edition) 1
+    && ((eqb (h .modeSet) 1 || eqb (h .mode) 0)
+    && (leb (h .links) mostLinks && (leb (h .properties) mostProperties && (leb (h .tags) mostTags && leb (h .runs) mostRuns))))
+
+abbrev pub okTag : List ℕ → Bool
+okTag x = okText mostTag x
+
+-- no entry twice; equal runs are fine
+abbrev pub apart : State → Bool
+apart s = distinct (s .links) && (distinct (keys (s .properties)) && distinct (s .tags))
+
+abbrev pub okModeBits : Option ℕ → Type 0
+okModeBits none = Unit {0}
+okModeBits (some m) = m < 4096
+
+-- links or tags that may stand in a record: not too many, each sound, none twice
+pub record Entries (most : ℕ) (ok : List ℕ → Bool) (xs : List (List ℕ)) : Type 0 where
+  pub few : length xs ≤ most
+  pub each : all ok xs ≡ true
+  pub apart : distinct xs ≡ true
+
+pub record Properties (ps : List Property) : Type 0 where
+  pub few : length ps ≤ mostProperties
+  pub each : all okProp ps ≡ true
+  pub apart : distinct (keys ps) ≡ true
+
+pub record Runs (n : ℕ) (rs : List Run) : Type 0 where
+  pub few : length rs ≤ mostRuns
+  pub each : all (okRun n) rs ≡ true
+
+-- a state that may stand in a record beside a chain of n devices
+pub record Good (n : ℕ) (s : State) : Type 0 where
+  pub owner : okOwner (s .owner) ≡ true
+  pub group : okOwner (s .group) ≡ true
+  pub mode : okModeBits (s .mode)
+  pub priority : s .priority < 4294967296
+  pub links : Entries mostLinks okLink (s .links)
+  pub properties : Properties (s .properties)
+  pub tags : Entries mostTags okTag (s .tags)
+  pub runs : Runs n (s .runs)
+
+abbrev pub readHead : List ℕ → Parse Head
+readHead bs = keep (leb 11 (length bs) && okHead (headOf bs)) (headOf bs) (drop 11 bs)
+
+abbrev pub stateOf : Head → List ℕ → List ℕ → List (List ℕ) → List Property → List (List ℕ) → List Run → State
+stateOf h o g ls ps ts rs =
+    record {
+      closed = closedOf (h .shut);
+      owner = o;
+      group = g;
+      mode = modeOf (h .modeSet) (h .mode);
+      priority = h .priority;
+      links = ls;
+      properties = ps;
+      tags = ts;
+      runs = rs;
+    }
+
+-- an owner or a group of k bytes
+abbrev pub oneOwner : ℕ → List ℕ → Parse (List ℕ)
+oneOwner k bs = keep (leb k (length bs) && okOwner (take k bs)) (take k bs) (drop k bs)
+
+-- the parts, one after another, from the last; n is the chain's length
+abbrev pub runsOn : ℕ → Head → List ℕ → List ℕ → List (List ℕ) → List Property → List (List ℕ) → List ℕ → Parse State
+runsOn n h o g ls ps ts r = bind (many (oneRun n) (h .runs) r) (λ rs q. got (stateOf h o g ls ps ts rs) q)
+
+abbrev pub tagsOn : ℕ → Head → List ℕ → List ℕ → List (List ℕ) → List Property → List ℕ → Parse State
+tagsOn n h o g ls ps r = bind (many (oneText okTag) (h .tags) r) (λ ts q. runsOn n h o g ls ps ts q)
+
+abbrev pub propsOn : ℕ → Head → List ℕ → List ℕ → List (List ℕ) → List ℕ → Parse State
+propsOn n h o g ls r = bind (many oneProp (h .properties) r) (λ ps q. tagsOn n h o g ls ps q)
+
+abbrev pub linksOn : ℕ → Head → List ℕ → List ℕ → List ℕ → Parse State
+linksOn n h o g r = bind (many (oneText okLink) (h .links) r) (λ ls q. propsOn n h o g ls q)
+
+abbrev pub groupOn : ℕ → Head → List ℕ → List ℕ → Parse State
+groupOn n h o r = bind (oneOwner (h .group) r) (λ g q. linksOn n h o g q)
+
+abbrev pub ownerOn : ℕ → Head → List ℕ → Parse State
+ownerOn n h r = bind (oneOwner (h .owner) r) (λ o q. groupOn n h o q)
+
+abbrev pub parts : ℕ → List ℕ → Parse State
+parts n bs = bind (readHead bs) (ownerOn n)
+
+-- nothing after the end, and no entry twice
+abbrev pub ended : Parse State → Option State
+ended bad = none
+ended (got s (b ∷ bs)) = none
+ended (got s []) = elim (apart s) [ true ↦ some s | false ↦ none ]
+
+-- the sound outcome records beside a chain of n devices, and no others (refusal 4)
+unfoldable pub decode : ℕ → List ℕ → Option State
+decode n bs = ended (parts n bs)
+
+-- ---- a fresh outcome
+
+abbrev pub open-all : Closed
+open-all = record { links = false; tags = false; runs = false; owner = false; group = false; mode = false }
+
+-- the device's properties; all else is empty, unset or zero
+unfoldable pub fresh : Device → State
+fresh d =
+    record {
+      closed = open-all;
+      owner = [];
+      group = [];
+      mode = none;
+      priority = 0;
+      links = [];
+      properties = d .properties;
+      tags = [];
+      runs = [];
+    }

@@ -1,0 +1,4 @@
+pub mod Examples
+pub mod Elements
+pub mod Stars
+pub mod Plain

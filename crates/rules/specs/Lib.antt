@@ -1,0 +1,5 @@
+pub mod Key
+pub mod Pair
+pub mod Setting
+pub mod Reading
+pub mod Places

@@ -1,0 +1,33 @@
+-- Two lists compared byte by byte: one law for each way on.
+-- Assumes nothing.
+use Prim.Native.Nat.{ℕ, _+_, _≤_, _<_}
+use mathlib.Core.Path.{_≡_, refl}
+use mathlib.Core.Bool.{true, false}
+use mathlib.Core.List.{List, [], _∷_}
+use native.Mathlib.Omega.{arith}
+use borrow.Author.Tests.{eq-eqb, ne-eqb}
+use lib.ListN.{length, getD, drop, drop-of-length-le}
+use lib.Dec.{eqb}
+use Rattle.lists.specs.Bytes.{sameBytes}
+use Rattle.lists.proofs.Rest.{rest-at}
+use Rattle.lists.proofs.Tests.{and-false}
+
+pub same-unequal : (a b : List ℕ) → (length a ≡ length b → ⊥) → sameBytes a b ≡ false
+unfolding sameBytes
+same-unequal [] [] n = absurd (n refl)
+same-unequal [] (y ∷ b) n = refl
+same-unequal (x ∷ a) [] n = refl
+same-unequal (x ∷ a) (y ∷ b) n = rw (same-unequal a b (λ e. n (omega arith))) (and-false (eqb x y))
+
+module _ (a b : List ℕ) (i : ℕ) where
+  pub same-on : i < length a → i < length b → getD a i 0 ≡ getD b i 0 → sameBytes (drop i a) (drop i b) ≡ sameBytes (drop (i + 1) a) (drop (i + 1) b)
+  unfolding sameBytes
+  same-on h k e = rw (rest-at a i h, rest-at b i k, eq-eqb _ _ e)
+
+  pub same-differs : i < length a → i < length b → (getD a i 0 ≡ getD b i 0 → ⊥) → sameBytes (drop i a) (drop i b) ≡ false
+  unfolding sameBytes
+  same-differs h k n = rw (rest-at a i h, rest-at b i k, ne-eqb _ _ n)
+
+  pub same-out : length a ≤ i → length b ≤ i → sameBytes (drop i a) (drop i b) ≡ true
+  unfolding sameBytes
+  same-out h k = rw (drop-of-length-le a h, drop-of-length-le b k)

@@ -1,0 +1,64 @@
+-- `scan::digits_start` meets its contract.
+-- Assumes nothing.
+use Prim.Native.Nat.{_≤_}
+use mathlib.Core.Bool.{true}
+use mathlib.Core.Path.{_≡_, sym, _∙_}
+use native.Mathlib.Omega.{arith}
+use borrow.Author.Tests.{not-true, not-false}
+use borrow.Author.Needs.{needs}
+use lib.Seq.{drop-length}
+use lib.ListN.{length, drop}
+use Rattle.lists.proofs.Scan.{all-back, digits-all, digits-at}
+use Rattle.lists.specs.Bytes.{isDigit}
+use Rattle.lists.specs.Lists.{all}
+use Rattle.scan.proofs.digits_start.Statement.{statement}
+use Rattle.scan.proofs.digits_start.Tie as tie
+
+abbrev Inv-loop : tie.InvT-loop
+Inv-loop s n₀ n = (n ≤ length s) × (all isDigit (drop n s) ≡ true)
+
+abbrev μ-loop : tie.MeasureT-loop
+μ-loop s n₀ n = n
+
+loop-holds : tie.Need-loop-holds Inv-loop μ-loop
+loop-holds c = (omega arith, rw (drop-length (c .before .args .s .now)))
+
+sub-is-digit : tie.Need-sub-is-digit Inv-loop μ-loop
+sub-is-digit c = omega arith
+
+shared-slice-read-is-digit : tie.Need-shared-slice-read-is-digit Inv-loop μ-loop
+shared-slice-read-is-digit c = omega arith
+
+is-digit-requires : tie.Need-is-digit-requires Inv-loop μ-loop
+is-digit-requires c κs = search needs
+
+returns : tie.Need-returns Inv-loop μ-loop
+returns c = (c .before .before .before .before .loop .inv .0, digits-at (c .before .before .before .before .before .before .args .s .now) (c .before .before .before .before .loop .n) (omega arith) (omega arith) (sym (c .before .is-digit .ensures) ∙ not-true _ (c .if1 .taken)) (c .before .before .before .before .loop .inv .1))
+
+sub-n : tie.Need-sub-n Inv-loop μ-loop
+sub-n c = omega arith
+
+loop-less : tie.Need-loop-less Inv-loop μ-loop
+loop-less c = omega arith
+
+loop-again : tie.Need-loop-again Inv-loop μ-loop
+loop-again c = (omega arith, all-back isDigit (c .before .before .before .before .before .before .args .s .now) (c .before .before .before .before .loop .n) (omega arith) (omega arith) (c .before .before .before .before .loop .inv .1) (sym (c .before .is-digit .ensures) ∙ not-false _ (c .if1 .left)))
+
+returns-2 : tie.Need-returns-2 Inv-loop μ-loop
+returns-2 c = let e : c .before .loop .n ≡ 0 = omega arith in (c .before .loop .inv .0, rw e (sym (digits-all (c .before .before .before .args .s .now) (rw e at (c .before .loop .inv .1)))))
+
+pub digits-start-spec : {M : Type 1} → statement M
+digits-start-spec =
+    tie.close
+    (tie.spec
+    Inv-loop
+    μ-loop
+    loop-holds
+    sub-is-digit
+    shared-slice-read-is-digit
+    is-digit-requires
+    returns
+    sub-n
+    loop-less
+    loop-again
+    returns-2)

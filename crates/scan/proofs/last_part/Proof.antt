@@ -1,0 +1,59 @@
+-- `scan::last_part` meets its contract.
+-- Assumes nothing.
+use Prim.Native.Nat.{_≤_}
+use mathlib.Core.Bool.{true}
+use mathlib.Core.Path.{_≡_}
+use native.Mathlib.Omega.{arith}
+use borrow.Author.Tests.{ne-eqb}
+use lib.Seq.{drop-length}
+use lib.ListN.{length, drop}
+use Rattle.lists.proofs.Scan.{all-back, part-all, part-at}
+use Rattle.lists.specs.Lists.{all}
+use Rattle.scan.specs.Ends.{isNot}
+use Rattle.scan.proofs.last_part.Statement.{statement}
+use Rattle.scan.proofs.last_part.Tie as tie
+
+abbrev Inv-loop : tie.InvT-loop
+Inv-loop s b n₀ n = (n ≤ length s) × (all (isNot b) (drop n s) ≡ true)
+
+abbrev μ-loop : tie.MeasureT-loop
+μ-loop s b n₀ n = n
+
+loop-holds : tie.Need-loop-holds Inv-loop μ-loop
+loop-holds c = (omega arith, rw (drop-length (c .args .s .now)))
+
+sub-if1 : tie.Need-sub-if1 Inv-loop μ-loop
+sub-if1 c = omega arith
+
+shared-slice-read-if1 : tie.Need-shared-slice-read-if1 Inv-loop μ-loop
+shared-slice-read-if1 c = omega arith
+
+returns : tie.Need-returns Inv-loop μ-loop
+returns c = (c .before .before .before .loop .inv .0, part-at (c .before .before .before .before .args .b) (c .before .before .before .before .args .s .now) (c .before .before .before .loop .n) (omega arith) (omega arith) (c .if1 .taken) (c .before .before .before .loop .inv .1))
+
+sub-n : tie.Need-sub-n Inv-loop μ-loop
+sub-n c = omega arith
+
+loop-less : tie.Need-loop-less Inv-loop μ-loop
+loop-less c = omega arith
+
+loop-again : tie.Need-loop-again Inv-loop μ-loop
+loop-again c = (omega arith, all-back (isNot (c .before .before .before .before .args .b)) (c .before .before .before .before .args .s .now) (c .before .before .before .loop .n) (omega arith) (omega arith) (c .before .before .before .loop .inv .1) (rw (ne-eqb _ _ (c .if1 .left))))
+
+returns-2 : tie.Need-returns-2 Inv-loop μ-loop
+returns-2 c = let e : c .before .loop .n ≡ 0 = omega arith in (c .before .loop .inv .0, rw (e, part-all (c .before .before .args .b) (c .before .before .args .s .now) (rw e at (c .before .loop .inv .1))))
+
+pub last-part-spec : {M : Type 1} → statement M
+last-part-spec =
+    tie.close
+    (tie.spec
+    Inv-loop
+    μ-loop
+    loop-holds
+    sub-if1
+    shared-slice-read-if1
+    returns
+    sub-n
+    loop-less
+    loop-again
+    returns-2)

@@ -1,0 +1,64 @@
+-- `scan::trimmed_len` meets its contract.
+-- Assumes nothing.
+use Prim.Native.Nat.{_≤_}
+use mathlib.Core.Bool.{true}
+use mathlib.Core.Path.{_≡_, sym, _∙_}
+use native.Mathlib.Omega.{arith}
+use borrow.Author.Tests.{not-true, not-false}
+use borrow.Author.Needs.{needs}
+use lib.Seq.{drop-length}
+use lib.ListN.{length, drop}
+use Rattle.lists.proofs.Scan.{all-back, trim-all, trim-at}
+use Rattle.lists.specs.Bytes.{isSpace}
+use Rattle.lists.specs.Lists.{all}
+use Rattle.scan.proofs.trimmed_len.Statement.{statement}
+use Rattle.scan.proofs.trimmed_len.Tie as tie
+
+abbrev Inv-loop : tie.InvT-loop
+Inv-loop s n₀ n = (n ≤ length s) × (all isSpace (drop n s) ≡ true)
+
+abbrev μ-loop : tie.MeasureT-loop
+μ-loop s n₀ n = n
+
+loop-holds : tie.Need-loop-holds Inv-loop μ-loop
+loop-holds c = (omega arith, rw (drop-length (c .before .args .s .now)))
+
+sub-is-space : tie.Need-sub-is-space Inv-loop μ-loop
+sub-is-space c = omega arith
+
+shared-slice-read-is-space : tie.Need-shared-slice-read-is-space Inv-loop μ-loop
+shared-slice-read-is-space c = omega arith
+
+is-space-requires : tie.Need-is-space-requires Inv-loop μ-loop
+is-space-requires c κs = search needs
+
+returns : tie.Need-returns Inv-loop μ-loop
+returns c = (c .before .before .before .before .loop .inv .0, trim-at (c .before .before .before .before .before .before .args .s .now) (c .before .before .before .before .loop .n) (omega arith) (omega arith) (sym (c .before .is-space .ensures) ∙ not-true _ (c .if1 .taken)) (c .before .before .before .before .loop .inv .1))
+
+sub-n : tie.Need-sub-n Inv-loop μ-loop
+sub-n c = omega arith
+
+loop-less : tie.Need-loop-less Inv-loop μ-loop
+loop-less c = omega arith
+
+loop-again : tie.Need-loop-again Inv-loop μ-loop
+loop-again c = (omega arith, all-back isSpace (c .before .before .before .before .before .before .args .s .now) (c .before .before .before .before .loop .n) (omega arith) (omega arith) (c .before .before .before .before .loop .inv .1) (sym (c .before .is-space .ensures) ∙ not-false _ (c .if1 .left)))
+
+returns-2 : tie.Need-returns-2 Inv-loop μ-loop
+returns-2 c = let e : c .before .loop .n ≡ 0 = omega arith in (c .before .loop .inv .0, rw e (sym (trim-all (c .before .before .before .args .s .now) (rw e at (c .before .loop .inv .1)))))
+
+pub trimmed-len-spec : {M : Type 1} → statement M
+trimmed-len-spec =
+    tie.close
+    (tie.spec
+    Inv-loop
+    μ-loop
+    loop-holds
+    sub-is-space
+    shared-slice-read-is-space
+    is-space-requires
+    returns
+    sub-n
+    loop-less
+    loop-again
+    returns-2)

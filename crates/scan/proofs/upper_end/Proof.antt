@@ -1,0 +1,57 @@
+-- `scan::upper_end` meets its contract.
+-- Assumes nothing.
+use Prim.Native.Nat.{_-_}
+use mathlib.Core.Path.{sym, _∙_}
+use native.Mathlib.Omega.{arith}
+use borrow.Author.Tests.{not-true, not-false}
+use borrow.Author.Needs.{needs}
+use lib.ListN.{length}
+use Rattle.lists.specs.Bytes.{isUpper}
+use Rattle.scan.proofs.Ends.{Follows, run-begins, run-goes-on, run-stops, run-out}
+use Rattle.scan.proofs.upper_end.Statement.{statement}
+use Rattle.scan.proofs.upper_end.Tie as tie
+
+abbrev Inv-loop : tie.InvT-loop
+Inv-loop s at i₀ i = Follows isUpper s at i
+
+abbrev μ-loop : tie.MeasureT-loop
+μ-loop s at i₀ i = length s - i
+
+loop-holds : tie.Need-loop-holds Inv-loop μ-loop
+loop-holds c = run-begins isUpper _ _
+
+shared-slice-read-is-upper : tie.Need-shared-slice-read-is-upper Inv-loop μ-loop
+shared-slice-read-is-upper c = omega arith
+
+is-upper-requires : tie.Need-is-upper-requires Inv-loop μ-loop
+is-upper-requires c κs = search needs
+
+returns : tie.Need-returns Inv-loop μ-loop
+returns c = run-stops isUpper _ _ _ (c .before .before .before .before .loop .inv) (omega arith) (sym (c .before .is-upper .ensures) ∙ not-true _ (c .if1 .taken))
+
+add-i : tie.Need-add-i Inv-loop μ-loop
+add-i c = omega arith
+
+loop-less : tie.Need-loop-less Inv-loop μ-loop
+loop-less c = omega arith
+
+loop-again : tie.Need-loop-again Inv-loop μ-loop
+loop-again c = run-goes-on isUpper _ _ _ (c .before .before .before .before .loop .inv) (omega arith) (sym (c .before .is-upper .ensures) ∙ not-false _ (c .if1 .left))
+
+returns-2 : tie.Need-returns-2 Inv-loop μ-loop
+returns-2 c = run-out isUpper _ _ _ (c .before .loop .inv) (omega arith)
+
+pub upper-end-spec : {M : Type 1} → statement M
+upper-end-spec =
+    tie.close
+    (tie.spec
+    Inv-loop
+    μ-loop
+    loop-holds
+    shared-slice-read-is-upper
+    is-upper-requires
+    returns
+    add-i
+    loop-less
+    loop-again
+    returns-2)

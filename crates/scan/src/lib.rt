@@ -1,0 +1,187 @@
+// Small questions of a lent slice: a byte, equality, the end of a run, what stands at the end.
+ghost use mathlib.Core.Path.{_≡_};
+ghost use Prim.Native.Nat.{_≤_};
+ghost use lib.ListN.{length, getD, take, drop};
+ghost use Rattle.lists.specs.Bytes.{isUpper, isDigit, isBlank, isSpace, sameBytes};
+ghost use Rattle.lists.specs.Runs.{splitAt, lastOf, trim, endsInSpace, endDigits};
+ghost use Rattle.scan.specs.Ends.{RunEnd, isNot};
+
+// ---- bytes
+
+pub fn wide(b: u8) -> usize
+    ensures { λ r. ⌜ r ≡ b ⌝ }
+{
+    b as usize
+}
+
+// The byte at a place, 0 past the end.
+pub fn byte_at(s: &[u8], i: usize) -> u8
+    ensures { λ r. ⌜ r ≡ getD (now (s .entry)) i 0 ⌝ }
+{
+    if i < s.len() { s[i] } else { 0 }
+}
+
+pub fn is_upper(b: u8) -> bool
+    ensures { λ r. ⌜ r ≡ isUpper b ⌝ }
+{
+    match b {
+        b'A'..=b'Z' => true,
+        _ => false,
+    }
+}
+
+pub fn is_digit(b: u8) -> bool
+    ensures { λ r. ⌜ r ≡ isDigit b ⌝ }
+{
+    match b {
+        b'0'..=b'9' => true,
+        _ => false,
+    }
+}
+
+pub fn is_blank(b: u8) -> bool
+    ensures { λ r. ⌜ r ≡ isBlank b ⌝ }
+{
+    match b {
+        b' ' | b'\t' => true,
+        _ => false,
+    }
+}
+
+// Whitespace: bytes 9 to 13 and 32.
+pub fn is_space(b: u8) -> bool
+    ensures { λ r. ⌜ r ≡ isSpace b ⌝ }
+{
+    match b {
+        b' ' => true,
+        9..=13 => true,
+        _ => false,
+    }
+}
+
+// ---- equality
+
+pub fn same(a: &[u8], b: &[u8]) -> bool
+    ensures { λ r. ⌜ r ≡ sameBytes (now (a .entry)) (now (b .entry)) ⌝ }
+{
+    if a.len() != b.len() {
+        return false;
+    }
+    let mut i: usize = 0;
+    while i < a.len() {
+        if a[i] != b[i] {
+            return false;
+        }
+        i += 1;
+    }
+    true
+}
+
+// ---- the end of a run that starts at a place
+
+pub fn upper_end(s: &[u8], at: usize) -> usize
+    ensures { λ r. ⌜ RunEnd isUpper (now (s .entry)) at r ⌝ }
+{
+    let mut i = at;
+    while i < s.len() {
+        if !is_upper(s[i]) {
+            return i;
+        }
+        i += 1;
+    }
+    i
+}
+
+pub fn digit_end(s: &[u8], at: usize) -> usize
+    ensures { λ r. ⌜ RunEnd isDigit (now (s .entry)) at r ⌝ }
+{
+    let mut i = at;
+    while i < s.len() {
+        if !is_digit(s[i]) {
+            return i;
+        }
+        i += 1;
+    }
+    i
+}
+
+pub fn blank_end(s: &[u8], at: usize) -> usize
+    ensures { λ r. ⌜ RunEnd isBlank (now (s .entry)) at r ⌝ }
+{
+    let mut i = at;
+    while i < s.len() {
+        if !is_blank(s[i]) {
+            return i;
+        }
+        i += 1;
+    }
+    i
+}
+
+// The place of the first byte b, or the end.
+pub fn byte_end(s: &[u8], at: usize, b: u8) -> usize
+    ensures { λ r. ⌜ RunEnd (isNot b) (now (s .entry)) at r ⌝ }
+{
+    let mut i = at;
+    while i < s.len() {
+        if s[i] == b {
+            return i;
+        }
+        i += 1;
+    }
+    i
+}
+
+// ---- at the end
+
+// The length without the whitespace at the end.
+pub fn trimmed_len(s: &[u8]) -> usize
+    ensures { λ r. ⌜ (r ≤ length (now (s .entry))) × (take r (now (s .entry)) ≡ trim (now (s .entry))) ⌝ }
+{
+    let mut n = s.len();
+    while 0 < n {
+        if !is_space(s[n - 1]) {
+            return n;
+        }
+        n -= 1;
+    }
+    n
+}
+
+pub fn ends_in_space(s: &[u8]) -> bool
+    ensures { λ r. ⌜ r ≡ endsInSpace (now (s .entry)) ⌝ }
+{
+    let n = s.len();
+    if n == 0 {
+        return false;
+    }
+    is_space(s[n - 1])
+}
+
+// The place where the digits at the end begin.
+pub fn digits_start(s: &[u8]) -> usize
+    ensures { λ r. ⌜ (r ≤ length (now (s .entry))) × (drop r (now (s .entry)) ≡ endDigits (now (s .entry))) ⌝ }
+{
+    let mut n = s.len();
+    while 0 < n {
+        if !is_digit(s[n - 1]) {
+            return n;
+        }
+        n -= 1;
+    }
+    n
+}
+
+// The place behind the last byte b, or the start.
+pub fn last_part(s: &[u8], b: u8) -> usize
+    ensures { λ r. ⌜ (r ≤ length (now (s .entry))) × (drop r (now (s .entry)) ≡ lastOf (splitAt b (now (s .entry)))) ⌝ }
+{
+    let mut n = s.len();
+    while 0 < n {
+        if s[n - 1] == b {
+            return n;
+        }
+        n -= 1;
+    }
+    n
+}
