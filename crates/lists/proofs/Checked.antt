@@ -25,6 +25,11 @@ module _ {R : Type 0} where
   pub holds-at : {A : Type 0} (P : A → Type 0) {c : Checked R A} {a : A} → c ≡ ok a → Holds P c → P a
   holds-at P e h = subst (Holds P) e h
 
+  -- a value that is given is the one that is given
+  pub holds-self : {A : Type 0} (c : Checked R A) → Holds (λ (a : A). c ≡ ok a) c
+  holds-self (refused f) = tt
+  holds-self (ok a) = refl
+
   pub holds-require : (b : Bool) (f : R) → Holds (λ (_ : Unit {0}). b ≡ true) (require b f)
   holds-require true f = refl
   holds-require false f = tt

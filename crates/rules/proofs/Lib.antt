@@ -1,3 +1,4 @@
 pub mod Values
 pub mod Sound
 pub mod Examples
+pub mod Pairs

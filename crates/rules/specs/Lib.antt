@@ -3,3 +3,4 @@ pub mod Pair
 pub mod Setting
 pub mod Reading
 pub mod Places
+pub mod Pairs
