@@ -2,3 +2,4 @@ pub mod Values
 pub mod Sound
 pub mod Examples
 pub mod Pairs
+pub mod Escapes
