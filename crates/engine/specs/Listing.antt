@@ -72,14 +72,17 @@ listingOf visited s cs =
     ++ (cat (λ l. lineOf (bytes "link") (escaped l)) (s .links)
     ++ (cat envLine (s .properties) ++ (cat (λ t. lineOf (bytes "tag") (escaped t)) (s .tags) ++ cat commandLine cs)))))))
 
+-- ---- a run and its close
+
+-- the record that a run starts from where none is given: the device's fresh one
 abbrev pub freshOr : Option D.Device → List ℕ
 freshOr none = []
 freshOr (some d) = O.encode (O.fresh d)
 
--- a run from the device's fresh record, then a close of what it left
-unfoldable pub listed : List ℕ → List ℕ → Checked (Placed Refusal) (List ℕ)
-listed text dev = do
-  h ← runChecked engine text dev (freshOr (D.decode dev)) fullestOutcome
+-- a run from a record, then a close of what it left
+unfoldable pub listed : List ℕ → List ℕ → List ℕ → Checked (Placed Refusal) (List ℕ)
+listed text dev out = do
+  h ← runChecked engine text dev out fullestOutcome
   d ← found (D.decode dev) (line 0 device-bad)
   cs ← onLine 0 (commands d (h .state .properties) (h .state .runs))
   ok (listingOf (h .visited) (h .state) cs)
@@ -89,5 +92,9 @@ unfolding bytes
 printed (refused (line n f)) = bytes "refused " ++ (decimal (number f) ++ (bytes " line " ++ (decimal n ++ (10 ∷ []))))
 printed (ok l) = l
 
+-- from a record, and from the fresh one
+unfoldable pub listingFrom : List ℕ → List ℕ → List ℕ → List ℕ
+listingFrom text dev out = printed (listed text dev out)
+
 unfoldable pub listing : List ℕ → List ℕ → List ℕ
-listing text dev = printed (listed text dev)
+listing text dev = listingFrom text dev (freshOr (D.decode dev))
