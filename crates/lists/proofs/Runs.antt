@@ -7,7 +7,7 @@ use mathlib.Core.List.{List, [], _∷_, _++_}
 use native.Mathlib.Omega.{arith}
 use lib.Dec.{eqb}
 use borrow.Author.Tests.{eq-eqb}
-use lib.ListN.{length, getD, take, drop, drop-of-length-le}
+use lib.ListN.{length, getD, take, drop, drop-of-length-le, length-append, length-drop}
 use lib.Seq.{drop-drop}
 use Rattle.lists.specs.Lists.{pick}
 use Rattle.lists.specs.Runs.{Part, span, spanStep, spanEnd, spanAt, onto, splitStep, splitAt}
@@ -93,6 +93,19 @@ module _ (p : ℕ → Bool) (s : List ℕ) (i : ℕ) where
   pub rest-of : span p (drop i s) .rest ≡ drop (spanAt p s i) s
   unfolding spanAt
   rest-of = rw (end-count p (drop i s) i) (span-rest p (drop i s) ∙ drop-drop (length (span p (drop i s) .value)) i s)
+
+module _ (p : ℕ → Bool) (s : List ℕ) (i : ℕ) where
+  -- a run ends at its start or further on, and inside the list
+  pub span-ge : i ≤ spanAt p s i
+  unfolding spanAt
+  span-ge = omega (arith, end-count p (drop i s) i)
+
+  pub span-le : i ≤ length s → spanAt p s i ≤ length s
+  unfolding spanAt
+  span-le h =
+      let a = end-count p (drop i s) i in
+      let b = ap length (span-whole p (drop i s)) in
+      omega (arith, a, b, length-append (span p (drop i s) .value) (span p (drop i s) .rest), length-drop i s)
 
 -- ---- between separators
 

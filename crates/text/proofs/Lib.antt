@@ -12,3 +12,4 @@ pub mod Cut
 pub mod Pieces
 pub mod Demand
 pub mod Sanity
+pub mod Places
