@@ -1,0 +1,319 @@
+//! Compares two engines byte for byte over generated cases.
+
+use std::fmt;
+use std::fs;
+use std::io;
+use std::ops::Range;
+use std::path::Path;
+
+use crate::generate::{self, Case, Rooms};
+use crate::joined;
+use crate::operations::{self, Answer};
+
+/// Number, line, visited and used, then four zeros.
+pub type AnswerArray = [u32; 8];
+
+pub trait Engine {
+    fn check(&self, text: &[u8]) -> AnswerArray;
+    fn fresh(&self, device: &[u8], target: &mut [u8]) -> AnswerArray;
+    fn run(&self, text: &[u8], device: &[u8], outcome: &[u8], target: &mut [u8]) -> AnswerArray;
+    fn close(&self, device: &[u8], outcome: &[u8], target: &mut [u8]) -> AnswerArray;
+}
+
+/// The engine of this crate.
+pub struct Reference;
+
+impl From<Answer> for AnswerArray {
+    fn from(answer: Answer) -> AnswerArray {
+        let Answer {
+            number,
+            line,
+            visited,
+            used,
+        } = answer;
+        [number, line, visited, used, 0, 0, 0, 0]
+    }
+}
+
+impl Engine for Reference {
+    fn check(&self, text: &[u8]) -> AnswerArray {
+        operations::check(text).into()
+    }
+
+    fn fresh(&self, device: &[u8], target: &mut [u8]) -> AnswerArray {
+        operations::fresh(device, target).into()
+    }
+
+    fn run(&self, text: &[u8], device: &[u8], outcome: &[u8], target: &mut [u8]) -> AnswerArray {
+        operations::run(text, device, outcome, target).into()
+    }
+
+    fn close(&self, device: &[u8], outcome: &[u8], target: &mut [u8]) -> AnswerArray {
+        operations::close(device, outcome, target).into()
+    }
+}
+
+#[derive(Clone, Copy, Debug, PartialEq, Eq, PartialOrd, Ord)]
+pub enum Operation {
+    Check,
+    Fresh,
+    Run,
+    Close,
+    /// The close of the record that the run has left.
+    CloseAfterRun,
+}
+
+/// What an operation gave: its answer and its whole target.
+#[derive(Clone, Debug, PartialEq, Eq)]
+pub struct Reply {
+    pub operation: Operation,
+    pub answer: AnswerArray,
+    pub target: Vec<u8>,
+}
+
+impl Reply {
+    pub fn number(&self) -> u32 {
+        self.answer[0]
+    }
+
+    pub fn line(&self) -> u32 {
+        self.answer[1]
+    }
+
+    pub fn visited(&self) -> u32 {
+        self.answer[2]
+    }
+
+    /// The target, cut at the used length.
+    pub fn record(&self) -> &[u8] {
+        let used = self.answer[3] as usize;
+        &self.target[..used.min(self.target.len())]
+    }
+}
+
+const UNWRITTEN: u8 = 0xAA;
+
+fn reply(
+    operation: Operation,
+    room: usize,
+    operate: impl FnOnce(&mut [u8]) -> AnswerArray,
+) -> Reply {
+    let mut target = vec![UNWRITTEN; room];
+    let answer = operate(&mut target);
+    Reply {
+        operation,
+        answer,
+        target,
+    }
+}
+
+pub fn run_reply(
+    engine: &dyn Engine,
+    text: &[u8],
+    device: &[u8],
+    outcome: &[u8],
+    room: usize,
+) -> Reply {
+    reply(Operation::Run, room, |target| {
+        engine.run(text, device, outcome, target)
+    })
+}
+
+fn check_reply(engine: &dyn Engine, text: &[u8]) -> Reply {
+    reply(Operation::Check, 0, |_| engine.check(text))
+}
+
+/// What an engine gives for all operations of a case, the check first.
+pub fn replies(engine: &dyn Engine, case: &Case) -> Vec<Reply> {
+    let Case {
+        text,
+        device,
+        outcome,
+        rooms,
+        ..
+    } = case;
+    let run = run_reply(engine, text, device, outcome, rooms.run);
+    let mut replies = vec![
+        check_reply(engine, text),
+        reply(Operation::Fresh, rooms.fresh, |target| {
+            engine.fresh(device, target)
+        }),
+        reply(Operation::Close, rooms.close, |target| {
+            engine.close(device, outcome, target)
+        }),
+    ];
+    if run.number() == 0 {
+        replies.push(reply(Operation::CloseAfterRun, rooms.close, |target| {
+            engine.close(device, run.record(), target)
+        }));
+    }
+    replies.insert(2, run);
+    replies
+}
+
+/// The number of the first refusal of fresh, run and the close after it; 0 without one.
+pub fn first_number(replies: &[Reply]) -> u32 {
+    let in_a_row = [Operation::Fresh, Operation::Run, Operation::CloseAfterRun];
+    replies
+        .iter()
+        .filter(|reply| in_a_row.contains(&reply.operation))
+        .map(Reply::number)
+        .find(|&number| number != 0)
+        .unwrap_or(0)
+}
+
+#[derive(Clone, Debug, PartialEq, Eq)]
+pub struct Difference {
+    pub operation: Operation,
+    pub left: AnswerArray,
+    pub right: AnswerArray,
+    /// The first byte of the targets that differs.
+    pub first_byte: Option<usize>,
+}
+
+impl fmt::Display for Difference {
+    fn fmt(&self, f: &mut fmt::Formatter) -> fmt::Result {
+        write!(
+            f,
+            "{:?}: left {:?}, right {:?}",
+            self.operation, self.left, self.right
+        )?;
+        match self.first_byte {
+            Some(byte) => write!(f, ", targets differ from byte {byte}"),
+            None => write!(f, ", targets are equal"),
+        }
+    }
+}
+
+/// The first difference in what two engines gave.
+pub fn first_difference(left: &[Reply], right: &[Reply]) -> Option<Difference> {
+    let mut both = left.iter().zip(right);
+    let (left, right) = both.find(|(left, right)| left != right)?;
+    let mut bytes = left.target.iter().zip(&right.target);
+    Some(Difference {
+        operation: left.operation,
+        left: left.answer,
+        right: right.answer,
+        first_byte: bytes.position(|(left, right)| left != right),
+    })
+}
+
+/// What both engines give for a case. If the second one checks the text otherwise, it is not
+/// asked for more: with rules that should be refused, it might not come back.
+pub fn replies_of_both(
+    left: &dyn Engine,
+    right: &dyn Engine,
+    case: &Case,
+) -> (Vec<Reply>, Vec<Reply>) {
+    let of_left = replies(left, case);
+    let check = check_reply(right, &case.text);
+    if of_left.contains(&check) {
+        (of_left, replies(right, case))
+    } else {
+        (of_left, vec![check])
+    }
+}
+
+/// Something that went differently than it should.
+#[derive(Clone, Debug)]
+pub struct Finding {
+    pub seed: u64,
+    pub case: Case,
+    pub message: String,
+}
+
+/// Compares the engines on the cases of the seeds, and gives the first findings. `see` is
+/// shown every case with what the left engine gave.
+pub fn compare_cases(
+    left: &dyn Engine,
+    right: &dyn Engine,
+    seeds: Range<u64>,
+    limit: usize,
+    mut see: impl FnMut(&Case, &[Reply]),
+) -> Vec<Finding> {
+    let mut findings = Vec::new();
+    for seed in seeds {
+        let case = generate::case(seed);
+        let (of_left, of_right) = replies_of_both(left, right, &case);
+        see(&case, &of_left);
+        if let Some(difference) = first_difference(&of_left, &of_right) {
+            findings.push(Finding {
+                seed,
+                case,
+                message: difference.to_string(),
+            });
+            if findings.len() == limit {
+                break;
+            }
+        }
+    }
+    findings
+}
+
+/// Compares the engines on the join lists and cut texts of the seeds, and looks whether both
+/// keep what document 01 says of joined texts.
+pub fn compare_joins(
+    left: &dyn Engine,
+    right: &dyn Engine,
+    seeds: Range<u64>,
+    limit: usize,
+) -> Vec<Finding> {
+    let findings = seeds.flat_map(|seed| {
+        let list = generate::joins::join_list(seed);
+        let cut_text = generate::joins::cut_text(seed);
+        let mut findings = Vec::new();
+        for case in joined::cases_of(left, &list) {
+            let (of_left, of_right) = replies_of_both(left, right, &case);
+            let difference = first_difference(&of_left, &of_right);
+            findings.extend(difference.map(|difference| (case, difference.to_string())));
+        }
+        for engine in [left, right] {
+            let broken = joined::check_list(engine, &list).err();
+            findings.extend(broken.map(|message| (joined::case_of_join(&list), message)));
+            let broken = joined::check_cuts(engine, &cut_text).err();
+            findings.extend(broken.map(|message| (joined::case_of_cuts(&cut_text), message)));
+        }
+        let finding = move |(case, message)| Finding {
+            seed,
+            case,
+            message,
+        };
+        findings.into_iter().map(finding)
+    });
+    findings.take(limit).collect()
+}
+
+/// Writes the inputs of a case to files in the directory.
+pub fn write_case(directory: &Path, case: &Case) -> io::Result<()> {
+    let Rooms { fresh, run, close } = case.rooms;
+    fs::create_dir_all(directory)?;
+    fs::write(directory.join("text"), &case.text)?;
+    fs::write(directory.join("device"), &case.device)?;
+    fs::write(directory.join("outcome"), &case.outcome)?;
+    fs::write(
+        directory.join("rooms"),
+        format!("fresh {fresh}\nrun {run}\nclose {close}\n"),
+    )
+}
+
+/// Reads a case that `write_case` has written.
+pub fn read_case(directory: &Path) -> io::Result<Case> {
+    let rooms = fs::read_to_string(directory.join("rooms"))?;
+    let room = |word: &str| {
+        rooms
+            .lines()
+            .find_map(|line| line.strip_prefix(word)?.trim().parse().ok())
+            .ok_or_else(|| io::Error::other(format!("no length for {word} in the file rooms")))
+    };
+    Ok(Case {
+        shape: String::from("replayed"),
+        text: fs::read(directory.join("text"))?,
+        device: fs::read(directory.join("device"))?,
+        outcome: fs::read(directory.join("outcome"))?,
+        rooms: Rooms {
+            fresh: room("fresh")?,
+            run: room("run")?,
+            close: room("close")?,
+        },
+    })
+}

@@ -1,0 +1,188 @@
+//! Generated cases: a rules text, a device record, an outcome record and target lengths.
+
+mod damage;
+mod edge_cases;
+pub mod edges;
+pub mod faults;
+pub mod joins;
+mod pairs;
+mod patterns;
+pub mod rng;
+mod rules_text;
+mod vocabulary;
+mod world;
+
+use crate::key::{ArgumentRule, KeyRow, Operator, KEYS};
+use crate::sizes;
+use damage::{damage, damage_text, random_bytes};
+use edges::{Edge, EDGES};
+use faults::FAULTY_PAIRS;
+use pairs::{assignment_pair, pair};
+use rng::Rng;
+use rules_text::{joined_pairs, lines, rules_text};
+use world::{world, World};
+
+#[derive(Clone, Debug)]
+pub struct Case {
+    /// How the case was made.
+    pub shape: String,
+    pub text: Vec<u8>,
+    pub device: Vec<u8>,
+    pub outcome: Vec<u8>,
+    pub rooms: Rooms,
+}
+
+/// The lengths of the targets.
+#[derive(Clone, Copy, Debug, PartialEq, Eq)]
+pub struct Rooms {
+    pub fresh: usize,
+    pub run: usize,
+    pub close: usize,
+}
+
+/// The case of a seed.
+pub fn case(seed: u64) -> Case {
+    let rng = &mut Rng::new(seed);
+    match rng.below(1_000) {
+        0..=559 => meaningful(rng),
+        560..=659 => with_faulty_pair(rng),
+        660..=709 => with_any_pairing(rng),
+        710..=799 => at_an_edge(rng),
+        800..=859 => with_damaged_text(rng),
+        860..=909 => with_damaged_device(rng),
+        910..=959 => with_damaged_outcome(rng),
+        960..=979 => of_random_bytes(rng),
+        _ => with_small_rooms(rng),
+    }
+}
+
+fn case_of(shape: &str, text: Vec<u8>, world: &World, rng: &mut Rng) -> Case {
+    Case {
+        shape: shape.to_string(),
+        text,
+        device: world.device.encode(),
+        outcome: world.outcome.encode(),
+        rooms: enough_room(rng),
+    }
+}
+
+fn enough_room(rng: &mut Rng) -> Rooms {
+    let more = if rng.percent(90) { 0 } else { rng.below(100) };
+    Rooms {
+        fresh: sizes::OUTCOME_TARGET + more,
+        run: sizes::OUTCOME_TARGET + more,
+        close: sizes::RUN_LIST_TARGET + more,
+    }
+}
+
+fn meaningful(rng: &mut Rng) -> Case {
+    let world = world(rng);
+    let text = rules_text(rng, &world);
+    case_of("meaningful", text, &world, rng)
+}
+
+fn with_faulty_pair(rng: &mut Rng) -> Case {
+    let world = world(rng);
+    let (_, faulty) = rng.pick(FAULTY_PAIRS);
+    let mut pairs: Vec<Vec<u8>> = (0..rng.below(4))
+        .map(|_| assignment_pair(rng, &world))
+        .collect();
+    pairs.insert(
+        rng.between(0, pairs.len()),
+        rng.pick(faulty).as_bytes().to_vec(),
+    );
+    let text = text_around(joined_pairs(rng, pairs), &world, rng);
+    case_of("faulty pair", text, &world, rng)
+}
+
+/// The line among some others.
+fn text_around(line: Vec<u8>, world: &World, rng: &mut Rng) -> Vec<u8> {
+    let count = rng.below(3);
+    let mut lines = lines(rng, world, count);
+    lines.insert(rng.between(0, lines.len()), line);
+    lines.join(&b'\n')
+}
+
+/// A key with an operator that may not be its own.
+fn with_any_pairing(rng: &mut Rng) -> Case {
+    let world = world(rng);
+    let row = rng.pick_ref(&KEYS);
+    let operator = rng.pick(&Operator::ALL);
+    let mut pairs = vec![any_pair(rng, row, operator)];
+    if rng.percent(50) {
+        pairs.push(assignment_pair(rng, &world));
+    }
+    let text = text_around(joined_pairs(rng, pairs), &world, rng);
+    let shape = pairing_shape(row, operator);
+    case_of(&shape, text, &world, rng)
+}
+
+fn any_pair(rng: &mut Rng, row: &KeyRow, operator: Operator) -> Vec<u8> {
+    let argument = match row.argument {
+        ArgumentRule::None => "",
+        ArgumentRule::Name => "{A}",
+        ArgumentRule::RunTypeOrNone => rng.pick(&["", "{program}", "{builtin}"]),
+    };
+    let value = match row.name {
+        "OPTIONS" => "string_escape=none",
+        "MODE" => "0660",
+        _ => rng.pick(&["a", "root", "b"]),
+    };
+    let key = [row.name, argument].concat();
+    pair(rng, key.as_bytes(), operator, value.as_bytes())
+}
+
+pub fn pairing_shape(row: &KeyRow, operator: Operator) -> String {
+    format!("pairing {} {}", row.name, operator.symbol())
+}
+
+fn at_an_edge(rng: &mut Rng) -> Case {
+    let edges: Vec<&Edge> = EDGES.into_iter().flatten().collect();
+    let edge = rng.pick(&edges);
+    let mut case = (edge.build)(rng);
+    case.shape = edge.name.to_string();
+    case
+}
+
+fn with_damaged_text(rng: &mut Rng) -> Case {
+    let mut case = meaningful(rng);
+    case.shape = String::from("damaged text");
+    damage_text(rng, &mut case.text);
+    case
+}
+
+fn with_damaged_device(rng: &mut Rng) -> Case {
+    let mut case = meaningful(rng);
+    case.shape = String::from("damaged device");
+    damage(rng, &mut case.device);
+    case
+}
+
+fn with_damaged_outcome(rng: &mut Rng) -> Case {
+    let mut case = meaningful(rng);
+    case.shape = String::from("damaged outcome");
+    damage(rng, &mut case.outcome);
+    case
+}
+
+fn of_random_bytes(rng: &mut Rng) -> Case {
+    let mut case = meaningful(rng);
+    case.shape = String::from("random bytes");
+    match rng.below(3) {
+        0 => case.text = random_bytes(rng, 400),
+        1 => case.device = random_bytes(rng, 400),
+        _ => case.outcome = random_bytes(rng, 400),
+    }
+    case
+}
+
+fn with_small_rooms(rng: &mut Rng) -> Case {
+    let mut case = meaningful(rng);
+    case.shape = String::from("small room");
+    case.rooms = Rooms {
+        fresh: rng.pick(&[0, 1, 11, 17_610, 17_611]),
+        run: rng.pick(&[0, 1, 11, 8_225, 17_610, 17_611]),
+        close: rng.pick(&[0, 1, 8_224, 8_225]),
+    };
+    case
+}

@@ -1,0 +1,32 @@
+//! A plain implementation of the udev rules engine that document 01 lays down, with a
+//! generator of cases and a harness that compares it with another engine.
+
+pub mod bytes;
+pub mod compare;
+pub mod content;
+pub mod coverage;
+pub mod device;
+pub mod engine;
+pub mod generate;
+pub mod joined;
+pub mod key;
+pub mod link;
+#[cfg(feature = "linked")]
+pub mod linked;
+pub mod listing;
+pub mod operations;
+pub mod outcome;
+pub mod pattern;
+pub mod property;
+pub mod record;
+pub mod refusal;
+pub mod rules;
+pub mod run_list;
+pub mod sizes;
+pub mod template;
+pub mod text_form;
+
+pub use device::Device;
+pub use listing::listing;
+pub use operations::{check, close, fresh, run, Answer};
+pub use outcome::Outcome;

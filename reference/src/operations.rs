@@ -1,0 +1,124 @@
+//! The operations on packed records, with the numbers that they give back.
+
+use crate::device::Device;
+use crate::engine::Runner;
+use crate::outcome::Outcome;
+use crate::refusal::{Fault, Refusal};
+use crate::rules;
+use crate::run_list::RunList;
+use crate::sizes;
+
+#[derive(Clone, Copy, Debug, Default, PartialEq, Eq)]
+pub struct Answer {
+    pub number: u32,
+    pub line: u32,
+    pub visited: u32,
+    pub used: u32,
+}
+
+impl From<Refusal> for Answer {
+    fn from(refusal: Refusal) -> Answer {
+        Answer {
+            number: refusal.fault.number(),
+            line: refusal.line,
+            ..Answer::default()
+        }
+    }
+}
+
+struct Accepted {
+    visited: u32,
+    record: Vec<u8>,
+}
+
+/// Whether a rules text is accepted.
+pub fn check(text: &[u8]) -> Answer {
+    match rules::read(text) {
+        Ok(_) => Answer::default(),
+        Err(refusal) => refusal.into(),
+    }
+}
+
+/// Writes the fresh outcome record of a device.
+pub fn fresh(device: &[u8], target: &mut [u8]) -> Answer {
+    let result = make_fresh(device, target.len());
+    deliver(result, target)
+}
+
+/// Runs the rules of a text and writes the outcome record that they leave.
+pub fn run(text: &[u8], device: &[u8], outcome: &[u8], target: &mut [u8]) -> Answer {
+    let result = make_run(text, device, outcome, target.len());
+    deliver(result, target)
+}
+
+/// Writes the run list of an outcome.
+pub fn close(device: &[u8], outcome: &[u8], target: &mut [u8]) -> Answer {
+    let result = make_close(device, outcome, target.len());
+    deliver(result, target)
+}
+
+fn deliver(result: Result<Accepted, Refusal>, target: &mut [u8]) -> Answer {
+    target.fill(0);
+    match result {
+        Ok(Accepted { visited, record }) => {
+            target[..record.len()].copy_from_slice(&record);
+            Answer {
+                visited,
+                used: record.len() as u32,
+                ..Answer::default()
+            }
+        }
+        Err(refusal) => refusal.into(),
+    }
+}
+
+fn make_fresh(device: &[u8], room: usize) -> Result<Accepted, Refusal> {
+    check_room(room, sizes::OUTCOME_TARGET)?;
+    let device = decode_device(device)?;
+    Ok(Accepted {
+        visited: 0,
+        record: Outcome::fresh(&device).encode(),
+    })
+}
+
+fn make_run(text: &[u8], device: &[u8], outcome: &[u8], room: usize) -> Result<Accepted, Refusal> {
+    check_room(room, sizes::OUTCOME_TARGET)?;
+    let rules = rules::read(text)?;
+    let device = decode_device(device)?;
+    let outcome = decode_outcome(outcome, &device)?;
+    let (visited, outcome) = Runner::new(&rules, &device, outcome).finish()?;
+    Ok(Accepted {
+        visited,
+        record: outcome.encode(),
+    })
+}
+
+fn make_close(device: &[u8], outcome: &[u8], room: usize) -> Result<Accepted, Refusal> {
+    check_room(room, sizes::RUN_LIST_TARGET)?;
+    let device = decode_device(device)?;
+    let outcome = decode_outcome(outcome, &device)?;
+    let run_list = make_run_list(&outcome, &device)?;
+    Ok(Accepted {
+        visited: 0,
+        record: run_list.encode(),
+    })
+}
+
+fn check_room(room: usize, needed: usize) -> Result<(), Refusal> {
+    if room < needed {
+        return Err(Fault::Target.without_line());
+    }
+    Ok(())
+}
+
+pub fn decode_device(record: &[u8]) -> Result<Device, Refusal> {
+    Device::decode(record).ok_or(Fault::DeviceRecord.without_line())
+}
+
+pub fn decode_outcome(record: &[u8], device: &Device) -> Result<Outcome, Refusal> {
+    Outcome::decode(record, device.chain.len()).ok_or(Fault::OutcomeRecord.without_line())
+}
+
+pub fn make_run_list(outcome: &Outcome, device: &Device) -> Result<RunList, Refusal> {
+    RunList::of(outcome, device).ok_or(Fault::Substituted.without_line())
+}

@@ -1,0 +1,70 @@
+//! The refusals and their numbers.
+
+/// What is refused; the discriminant is the number given back.
+#[derive(Clone, Copy, Debug, PartialEq, Eq, PartialOrd, Ord)]
+#[repr(u32)]
+pub enum Fault {
+    Target = 1,
+    Text = 2,
+    DeviceRecord = 3,
+    OutcomeRecord = 4,
+    Line = 10,
+    Key = 11,
+    Argument = 12,
+    Operator = 13,
+    Value = 14,
+    Content = 15,
+    PairCount = 16,
+    Separator = 17,
+    RuleCount = 18,
+    Jump = 19,
+    Substituted = 30,
+    Link = 31,
+    Full = 32,
+    OwnerOrGroup = 33,
+    Mode = 34,
+}
+
+impl Fault {
+    pub const ALL: [Fault; 19] = [
+        Fault::Target,
+        Fault::Text,
+        Fault::DeviceRecord,
+        Fault::OutcomeRecord,
+        Fault::Line,
+        Fault::Key,
+        Fault::Argument,
+        Fault::Operator,
+        Fault::Value,
+        Fault::Content,
+        Fault::PairCount,
+        Fault::Separator,
+        Fault::RuleCount,
+        Fault::Jump,
+        Fault::Substituted,
+        Fault::Link,
+        Fault::Full,
+        Fault::OwnerOrGroup,
+        Fault::Mode,
+    ];
+
+    pub fn number(self) -> u32 {
+        self as u32
+    }
+
+    /// The refusal of something that stands on a line of the text.
+    pub fn at_line(self, line: u32) -> Refusal {
+        Refusal { fault: self, line }
+    }
+
+    /// The refusal of something that stands on no line.
+    pub fn without_line(self) -> Refusal {
+        self.at_line(0)
+    }
+}
+
+#[derive(Clone, Copy, Debug, PartialEq, Eq)]
+pub struct Refusal {
+    pub fault: Fault,
+    pub line: u32,
+}

@@ -1,0 +1,221 @@
+//! Reading a rules text.
+
+use crate::bytes::is_blank;
+use crate::content::{read_content, Assignment, Content, Match};
+use crate::key::{ArgumentRule, Key, KeyRow, Operator, KEYS};
+use crate::refusal::{Fault, Refusal};
+use crate::sizes;
+
+#[derive(Clone, Debug, PartialEq, Eq)]
+pub struct Rule {
+    pub line: u32,
+    pub pairs: Vec<Pair>,
+    /// The index of the rule that its GOTO goes to.
+    pub jump: Option<usize>,
+}
+
+#[derive(Clone, Debug, PartialEq, Eq)]
+pub struct Pair {
+    pub key: Key,
+    pub operator: Operator,
+    pub content: Content,
+}
+
+impl Rule {
+    pub fn label(&self) -> Option<&[u8]> {
+        self.pairs.iter().find_map(|pair| match &pair.content {
+            Content::Label(label) => Some(label.as_slice()),
+            _ => None,
+        })
+    }
+
+    pub fn goto(&self) -> Option<&[u8]> {
+        self.pairs.iter().find_map(|pair| match &pair.content {
+            Content::Goto(label) => Some(label.as_slice()),
+            _ => None,
+        })
+    }
+
+    pub fn matches(&self) -> impl Iterator<Item = (Operator, &Match)> {
+        self.pairs.iter().filter_map(|pair| match &pair.content {
+            Content::Match(content) => Some((pair.operator, content)),
+            _ => None,
+        })
+    }
+
+    pub fn assignments(&self) -> impl Iterator<Item = (Operator, &Assignment)> {
+        self.pairs.iter().filter_map(|pair| match &pair.content {
+            Content::Assignment(assignment) => Some((pair.operator, assignment)),
+            _ => None,
+        })
+    }
+}
+
+/// The rules of an accepted text.
+pub fn read(text: &[u8]) -> Result<Vec<Rule>, Refusal> {
+    if text.len() > sizes::TEXT {
+        return Err(Fault::Text.without_line());
+    }
+    let mut rules = Vec::new();
+    for (line, number) in text.split(|&byte| byte == b'\n').zip(1..) {
+        read_line(line, number, &mut rules).map_err(|fault| fault.at_line(number))?;
+    }
+    find_jumps(&mut rules)?;
+    Ok(rules)
+}
+
+fn read_line(line: &[u8], number: u32, rules: &mut Vec<Rule>) -> Result<(), Fault> {
+    if line.len() > sizes::LINE || line.contains(&0) {
+        return Err(Fault::Line);
+    }
+    if is_skipped(line) {
+        return Ok(());
+    }
+    let pairs = read_pairs(line)?;
+    if rules.len() == sizes::RULES {
+        return Err(Fault::RuleCount);
+    }
+    rules.push(Rule {
+        line: number,
+        pairs,
+        jump: None,
+    });
+    Ok(())
+}
+
+fn is_skipped(line: &[u8]) -> bool {
+    let first = line.iter().find(|&&byte| !is_blank(byte));
+    matches!(first, None | Some(b'#'))
+}
+
+fn read_pairs(line: &[u8]) -> Result<Vec<Pair>, Fault> {
+    let mut cursor = Cursor { rest: line };
+    let mut pairs = Vec::new();
+    loop {
+        cursor.skip_blanks();
+        let pair = read_pair(&mut cursor)?;
+        if pairs.len() == sizes::PAIRS || is_second_label_or_goto(&pair, &pairs) {
+            return Err(Fault::PairCount);
+        }
+        pairs.push(pair);
+        cursor.skip_blanks();
+        match cursor.next() {
+            None => return Ok(pairs),
+            Some(b',') => {}
+            Some(_) => return Err(Fault::Separator),
+        }
+    }
+}
+
+fn is_second_label_or_goto(pair: &Pair, earlier: &[Pair]) -> bool {
+    matches!(pair.key, Key::Label | Key::Goto)
+        && earlier.iter().any(|earlier| earlier.key == pair.key)
+}
+
+fn read_pair(cursor: &mut Cursor) -> Result<Pair, Fault> {
+    let row = read_key(cursor).ok_or(Fault::Key)?;
+    let argument = read_argument(cursor, row.argument).ok_or(Fault::Argument)?;
+    cursor.skip_blanks();
+    let operator = read_operator(cursor)
+        .filter(|operator| row.operators.contains(operator))
+        .ok_or(Fault::Operator)?;
+    cursor.skip_blanks();
+    let value = read_value(cursor).ok_or(Fault::Value)?;
+    let content = read_content(row.key, argument, operator, &value).ok_or(Fault::Content)?;
+    Ok(Pair {
+        key: row.key,
+        operator,
+        content,
+    })
+}
+
+fn read_key(cursor: &mut Cursor) -> Option<&'static KeyRow> {
+    let name = cursor.take_while(|byte| byte.is_ascii_uppercase());
+    KEYS.iter().find(|row| row.name.as_bytes() == name)
+}
+
+/// The argument without its braces; empty where it may be absent and is.
+fn read_argument<'a>(cursor: &mut Cursor<'a>, rule: ArgumentRule) -> Option<&'a [u8]> {
+    if !cursor.take(b"{") {
+        return (rule != ArgumentRule::Name).then_some(b"");
+    }
+    let argument = cursor.take_while(|byte| byte != b'}');
+    let is_closed = cursor.take(b"}");
+    let is_allowed = match rule {
+        ArgumentRule::None => false,
+        ArgumentRule::Name => (1..=sizes::ARGUMENT).contains(&argument.len()),
+        ArgumentRule::RunTypeOrNone => matches!(argument, b"program" | b"builtin"),
+    };
+    (is_closed && is_allowed).then_some(argument)
+}
+
+fn read_operator(cursor: &mut Cursor) -> Option<Operator> {
+    // `==` stands before `=` in this list, so the longest is found.
+    Operator::ALL
+        .into_iter()
+        .find(|operator| cursor.take(operator.symbol().as_bytes()))
+}
+
+fn read_value(cursor: &mut Cursor) -> Option<Vec<u8>> {
+    if !cursor.take(b"\"") {
+        return None;
+    }
+    let mut value = Vec::new();
+    while !cursor.take(b"\"") {
+        if cursor.take(b"\\\"") {
+            value.push(b'"');
+        } else {
+            value.push(cursor.next()?);
+        }
+    }
+    (value.len() <= sizes::VALUE).then_some(value)
+}
+
+fn find_jumps(rules: &mut [Rule]) -> Result<(), Refusal> {
+    for index in 0..rules.len() {
+        let Some(label) = rules[index].goto() else {
+            continue;
+        };
+        let is_target = |later: &usize| rules[*later].label() == Some(label);
+        let target = (index + 1..rules.len()).find(is_target);
+        if target.is_none() {
+            return Err(Fault::Jump.at_line(rules[index].line));
+        }
+        rules[index].jump = target;
+    }
+    Ok(())
+}
+
+/// The part of a line that is not read yet.
+struct Cursor<'a> {
+    rest: &'a [u8],
+}
+
+impl<'a> Cursor<'a> {
+    fn next(&mut self) -> Option<u8> {
+        let (&byte, rest) = self.rest.split_first()?;
+        self.rest = rest;
+        Some(byte)
+    }
+
+    fn take(&mut self, expected: &[u8]) -> bool {
+        match self.rest.strip_prefix(expected) {
+            Some(rest) => {
+                self.rest = rest;
+                true
+            }
+            None => false,
+        }
+    }
+
+    fn take_while(&mut self, wanted: impl Fn(u8) -> bool) -> &'a [u8] {
+        let length = self.rest.iter().take_while(|&&byte| wanted(byte)).count();
+        let (taken, rest) = self.rest.split_at(length);
+        self.rest = rest;
+        taken
+    }
+
+    fn skip_blanks(&mut self) {
+        self.take_while(is_blank);
+    }
+}

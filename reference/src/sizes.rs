@@ -1,0 +1,37 @@
+//! The limits of document 01, in bytes or entries.
+
+pub const TEXT: usize = 32_768;
+pub const LINE: usize = 1_024;
+pub const VALUE: usize = 256;
+pub const ARGUMENT: usize = 64;
+pub const PAIRS: usize = 32;
+pub const RULES: usize = 512;
+
+pub const DEVICE_RECORD: usize = 16_384;
+pub const CHAIN: usize = 16;
+pub const PATH: usize = 256;
+pub const SUBSYSTEM: usize = 63;
+pub const DRIVER: usize = 63;
+pub const ATTRIBUTES: usize = 31;
+
+pub const PROPERTIES: usize = 32;
+/// Also the limit for attribute names.
+pub const PROPERTY_KEY: usize = 64;
+/// Also the limit for attribute values.
+pub const PROPERTY_VALUE: usize = 256;
+
+pub const SUBSTITUTED: usize = 512;
+pub const LINKS: usize = 16;
+pub const LINK: usize = 128;
+pub const TAGS: usize = 16;
+pub const TAG: usize = 64;
+pub const RUNS: usize = 16;
+pub const RUN: usize = 256;
+/// Also the limit for the group.
+pub const OWNER: usize = 32;
+pub const MODE_DIGITS: usize = 4;
+
+/// The fullest outcome record, and so the least room for a target of one.
+pub const OUTCOME_TARGET: usize = 17_611;
+/// The fullest run list, and so the least room for a target of one.
+pub const RUN_LIST_TARGET: usize = 8_225;

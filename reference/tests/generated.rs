@@ -1,0 +1,163 @@
+//! What the generated cases reach, and that the comparison finds differences.
+
+use reference::compare::{
+    compare_cases, compare_joins, first_number, read_case, replies, write_case, Engine, Reference,
+};
+use reference::coverage::{Coverage, Fact, PIECES};
+use reference::generate::edges::EDGES;
+use reference::generate::faults::FAULTY_PAIRS;
+use reference::generate::rng::Rng;
+use reference::generate::{case, pairing_shape};
+use reference::key::{Operator, KEYS};
+use reference::refusal::Fault;
+
+const CASES: u64 = 50_000;
+
+#[test]
+fn a_seed_gives_the_same_case_again() {
+    for seed in 0..200 {
+        let (first, second) = (case(seed), case(seed));
+        assert_eq!(first.text, second.text);
+        assert_eq!(first.device, second.device);
+        assert_eq!(first.outcome, second.outcome);
+        assert_eq!(first.rooms, second.rooms);
+    }
+}
+
+#[test]
+fn every_edge_gives_its_number() {
+    for edge in EDGES.into_iter().flatten() {
+        for seed in 0..20 {
+            let case = (edge.build)(&mut Rng::new(seed));
+            let number = first_number(&replies(&Reference, &case));
+            assert_eq!(number, edge.number, "{} with seed {seed}", edge.name);
+        }
+    }
+}
+
+#[test]
+fn every_faulty_pair_gives_its_number() {
+    for (number, pairs) in FAULTY_PAIRS {
+        for pair in *pairs {
+            let text = format!("# first\nTAG+=\"a\",{pair}");
+            let answer = reference::check(text.as_bytes());
+            assert_eq!((answer.number, answer.line), (*number, 2), "{pair}");
+        }
+    }
+}
+
+#[test]
+fn cases_reach_everything() {
+    let mut coverage = Coverage::default();
+    let findings = compare_cases(&Reference, &Reference, 0..CASES, 1, |case, replies| {
+        coverage.see(case, replies);
+    });
+    assert!(findings.is_empty());
+    assert_eq!(coverage.cases, CASES);
+    for fault in Fault::ALL {
+        let count = coverage.number_count(fault.number());
+        assert!(count >= 20, "{fault:?} only {count} times\n{coverage}");
+    }
+    for row in &KEYS {
+        for operator in Operator::ALL {
+            let shape = pairing_shape(row, operator);
+            let is_allowed = row.operators.contains(&operator);
+            let number = if is_allowed { 0 } else { 13 };
+            let reached = coverage.shapes.contains_key(&(shape.clone(), number));
+            // A jump without its label is refused.
+            assert!(reached || row.name == "GOTO", "{shape} {number}");
+            if is_allowed {
+                let count = coverage.pairs[&(row.key, operator)];
+                assert!(count.effective >= 20, "{shape} {count:?}");
+                assert!(count.without_effect >= 20, "{shape} {count:?}");
+            }
+        }
+    }
+    for piece in PIECES {
+        assert!(coverage.pieces[piece] >= 100, "{piece}");
+    }
+    for fact in Fact::ALL {
+        assert!(coverage.facts[&fact] >= 100, "{fact:?}");
+    }
+    for edge in EDGES.into_iter().flatten() {
+        let shape = (edge.name.to_string(), edge.number);
+        assert!(coverage.shapes.contains_key(&shape), "{}", edge.name);
+    }
+}
+
+/// The reference with a change to what some operation gives.
+struct Flawed {
+    flaw: fn(&mut [u32; 8], &mut [u8]),
+}
+
+impl Flawed {
+    fn spoil(&self, mut answer: [u32; 8], target: &mut [u8]) -> [u32; 8] {
+        (self.flaw)(&mut answer, target);
+        answer
+    }
+}
+
+impl Engine for Flawed {
+    fn check(&self, text: &[u8]) -> [u32; 8] {
+        self.spoil(Reference.check(text), &mut [])
+    }
+
+    fn fresh(&self, device: &[u8], target: &mut [u8]) -> [u32; 8] {
+        let answer = Reference.fresh(device, target);
+        self.spoil(answer, target)
+    }
+
+    fn run(&self, text: &[u8], device: &[u8], outcome: &[u8], target: &mut [u8]) -> [u32; 8] {
+        let answer = Reference.run(text, device, outcome, target);
+        self.spoil(answer, target)
+    }
+
+    fn close(&self, device: &[u8], outcome: &[u8], target: &mut [u8]) -> [u32; 8] {
+        let answer = Reference.close(device, outcome, target);
+        self.spoil(answer, target)
+    }
+}
+
+fn finds(flaw: fn(&mut [u32; 8], &mut [u8])) -> bool {
+    let flawed = Flawed { flaw };
+    let findings = compare_cases(&Reference, &flawed, 0..500, 3, |_, _| {});
+    let of_joins = compare_joins(&Reference, &flawed, 0..100, 3);
+    !findings.is_empty() && findings.len() <= 3 && !of_joins.is_empty()
+}
+
+#[test]
+fn the_comparison_finds_flaws() {
+    assert!(finds(|answer, _| answer[0] ^= 1));
+    assert!(finds(|answer, _| answer[1] += u32::from(answer[0] > 9)));
+    assert!(finds(|answer, _| answer[2] = 1));
+    assert!(finds(|answer, _| answer[3] += u32::from(answer[3] > 20)));
+    assert!(finds(|answer, _| answer[7] = 1));
+    assert!(finds(|answer, target| if answer[0] == 0 {
+        if let Some(last) = target.last_mut() {
+            *last = 0xAA;
+        }
+    }));
+    assert!(finds(|answer, target| if answer[0] == 31 {
+        target[0] = 0x10;
+    }));
+}
+
+#[test]
+fn the_comparison_finds_nothing_where_there_is_nothing() {
+    let same = Flawed { flaw: |_, _| {} };
+    assert!(compare_cases(&Reference, &same, 0..500, 3, |_, _| {}).is_empty());
+    assert!(compare_joins(&Reference, &same, 0..100, 3).is_empty());
+}
+
+#[test]
+fn cases_come_back_from_their_files() {
+    let directory = std::env::temp_dir().join(format!("reference-case-{}", std::process::id()));
+    let written = case(7);
+    write_case(&directory, &written).expect("the files are written");
+    let read = read_case(&directory).expect("the files are read");
+    std::fs::remove_dir_all(&directory).expect("the files are removed");
+    assert_eq!(read.text, written.text);
+    assert_eq!(read.device, written.device);
+    assert_eq!(read.outcome, written.outcome);
+    assert_eq!(read.rooms, written.rooms);
+}
