@@ -1,0 +1,62 @@
+-- `splice::store` meets its contract: after i turns the first i bytes of `src` stand at `at`.
+-- Assumes nothing.
+use Prim.Native.Nat.{ℕ, _≤_, _<_, _-_, _+_}
+use mathlib.Core.Path.{_≡_, ap, _∙_, sym, refl}
+use mathlib.Core.List.{List, _++_, append-assoc}
+use native.Mathlib.Omega.{arith}
+use native.Mathlib.Numerals.{add-one}
+use lib.ListN.{length, take, drop, set, getD, length-set}
+use lib.Seq.{paste, paste-zero, paste-suc, take-length}
+use Rattle.splice.specs.Moves.{stored}
+use Rattle.splice.proofs.store.Statement.{statement}
+use Rattle.splice.proofs.store.Tie as tie
+
+abbrev Inv-loop : tie.InvT-loop
+Inv-loop t₀ at src i₀ t i = (i ≤ length src) × (length t ≡ length t₀) × (t ≡ paste t₀ at src i)
+
+abbrev μ-loop : tie.MeasureT-loop
+μ-loop t₀ at src i₀ t i = length src - i
+
+turn : (t₀ t src : List ℕ) (at i : ℕ) → at + i < length t₀ → i < length src → t ≡ paste t₀ at src i
+    → set t (at + i) (getD src i 0) ≡ paste t₀ at src (i + 1)
+turn t₀ t src at i h k e =
+    ap (λ (l : List ℕ). set l (at + i) (getD src i 0)) e ∙ paste-suc t₀ at src i 0 h k ∙ ap (λ (n : ℕ). paste t₀ at src n) (sym (add-one i))
+
+done : (t₀ t src : List ℕ) (at i : ℕ) → t ≡ paste t₀ at src i → i ≡ length src → t ≡ stored t₀ at src
+done t₀ t src at i e h =
+    e
+    ∙ ap (λ (n : ℕ). paste t₀ at src n) h
+    ∙ append-assoc (take at t₀) (take (length src) src) (drop (at + length src) t₀)
+    ∙ ap (λ (l : List ℕ). take at t₀ ++ (l ++ drop (at + length src) t₀)) (take-length src)
+
+loop-holds : tie.Need-loop-holds Inv-loop μ-loop
+loop-holds c = (omega arith, refl, paste-zero (c .args .t .now) (c .args .at) (c .args .src .now))
+
+shared-slice-read-t : tie.Need-shared-slice-read-t Inv-loop μ-loop
+shared-slice-read-t c = omega arith
+
+add-t : tie.Need-add-t Inv-loop μ-loop
+add-t c = omega arith
+
+slice-write-t : tie.Need-slice-write-t Inv-loop μ-loop
+slice-write-t c = omega arith
+
+add-i : tie.Need-add-i Inv-loop μ-loop
+add-i c = omega arith
+
+loop-less : tie.Need-loop-less Inv-loop μ-loop
+loop-less c = omega arith
+
+loop-again : tie.Need-loop-again Inv-loop μ-loop
+loop-again c = (omega arith, simp length-set (omega arith), turn _ _ _ _ _ (omega arith) (omega arith) (c .before .before .loop .inv .2))
+
+same-length : tie.Need-same-length Inv-loop μ-loop
+same-length c = c .before .loop .inv .1
+
+returns : tie.Need-returns Inv-loop μ-loop
+returns c =
+    let a = c .before .before .args in
+    done (a .t .now) _ (a .src .now) (a .at) (c .before .loop .i) (c .before .loop .inv .2) (omega arith)
+
+pub store-spec : {M : Type 1} → statement M
+store-spec = tie.close (tie.spec Inv-loop μ-loop loop-holds shared-slice-read-t add-t slice-write-t add-i loop-less loop-again same-length returns)
