@@ -10,6 +10,8 @@ use Rattle.lists.specs.Lists.{isSome}
 use Rattle.lists.specs.Bytes.{sameBytes}
 use Rattle.lists.specs.Runs.{splitAt}
 use Rattle.lists.specs.Quoted.{bytes}
+use Rattle.bits.specs.Bits.{toBits, fromBits, bitsOf, bytesOf, numberAt}
+use Rattle.bits.specs.Fields.{packed}
 use Rattle.entries.specs.Entry.{Property}
 use Rattle.device.specs.Head.{header, lensBytes}
 use Rattle.device.specs.Device.{Member, Device, nameOf, attrOf, actionNames, actionOf, memberAt, encode, decode}
@@ -26,7 +28,7 @@ packs none bs = false
 packs (some d) bs = sameBytes (encode d) bs
 
 unfoldable pub right : Case → Bool
-unfolding bytes sameBytes splitAt header lensBytes actionNames actionOf encode decode
+unfolding bytes sameBytes splitAt toBits fromBits bitsOf bytesOf numberAt packed header lensBytes actionNames actionOf encode decode
 right (sound name bs) = packs (decode bs) bs
 right (faulty name bs) = not (isSome (decode bs))
 right (same name a b) = sameBytes a b

@@ -1,23 +1,24 @@
 -- What holds of every device that was read from a record.
 -- Assumes nothing.
-use Prim.Native.Nat.{ℕ, zero, suc, _+_, _%_, _≤_, _<_}
+use Prim.Native.Nat.{ℕ, _≤_, _<_}
 use mathlib.Core.Path.{_≡_, refl, sym, ap, _∙_, subst}
 use mathlib.Core.Bool.{Bool, true, false, _&&_, _||_}
 use mathlib.Core.List.{List, [], _∷_}
-use mathlib.Core.Option.{Option, none, some}
+use mathlib.Core.Option.{none, some}
 use native.Mathlib.Omega.{arith}
-use lib.ListN.{length, drop, getD}
+use lib.ListN.{length}
 use lib.Dec.{leb, eqb}
 use borrow.Author.Tests.{leb-true}
 use Rattle.lists.specs.Lists.{all}
 use Rattle.lists.specs.Bytes.{distinct}
-use Rattle.lists.proofs.Tests.{and-both, both-and}
-use Rattle.entries.specs.Parse.{Parse, got, bad, bind, keep, many}
+use Rattle.lists.proofs.Tests.{and-both}
+use Rattle.bits.proofs.Numbers.{number-lt}
+use Rattle.entries.specs.Parse.{Parse, got, bad, many}
 use Rattle.entries.specs.Entry.{exactly, Property, okProp, oneProp, keys}
 use Rattle.entries.proofs.Rows.{through, many-kept}
 use Rattle.entries.proofs.Entries.{kept, property-kept}
 use Rattle.lists.specs.Sizes.{mostChain, mostDevice, mostProperties}
-use Rattle.device.specs.Head.{Head, headOf, Lens, lensOf}
+use Rattle.device.specs.Head.{Head, headOf}
 use Rattle.device.specs.Device.{Member, Device, okMember, okHead, memberOf, readLens, oneMember, deviceOf, rising, readHead, parts, whole, ended, decode}
 
 -- ---- one device of the chain
@@ -54,16 +55,14 @@ parts-sound bs d r e =
     through (many oneProp (h .properties) r₀) _ d r e₀ λ ps r₁ p₁ e₁.
     through (oneMember r₁) _ d r e₁ λ m r₂ p₂ e₂.
     through (many oneMember (h .above) r₂) _ d r e₂ λ ms r₃ p₃ e₃.
-    let (t, x, y) = kept (leb 7 (length bs) && okHead (headOf bs)) (headOf bs) h (drop 7 bs) r₀ p₀ in
+    through (exactly 7 bs) _ h r₀ p₀ λ head q₀ p₄ e₄.
+    let (o₀, x, y) = kept (okHead (headOf head)) (headOf head) h q₀ r₀ e₄ in
     let (k, l) = many-kept okMember oneMember member-kept (h .above) r₂ ms r₃ p₃ in
     let (i, j) = many-kept okProp oneProp property-kept (h .properties) r₀ ps r₁ p₁ in
-    let o : okHead h ≡ true = ap okHead (sym x) ∙ and-both (leb 7 (length bs)) (okHead (headOf bs)) t .1 in
-    let a : h .above < mostChain = subst (λ (h : Head). h .above < mostChain) x (small bs) in
+    let o : okHead h ≡ true = ap okHead (sym x) ∙ o₀ in
+    let a : h .above < mostChain = subst (λ (h : Head). h .above < mostChain) x (number-lt head 4 4) in
     of-parts h ps m ms r₃ e₃ (member-kept r₁ m r₂ p₂) k (subst (λ (n : ℕ). n < mostChain) (sym l) a) i (subst (λ (n : ℕ). n ≤ mostProperties) (sym j) (few-properties h o))
   where
-    small : (bs : List ℕ) → headOf bs .above < mostChain
-    small bs = omega arith
-
     of-parts : (h : Head) (ps : List Property) (m : Member) (ms : List Member) (q : List ℕ) → got (deviceOf h ps m ms) q ≡ got d r
         → okMember m ≡ true → all okMember ms ≡ true → length ms < mostChain → all okProp ps ≡ true → length ps ≤ mostProperties → Sound d
     of-parts h ps m ms q e a b c i j =

@@ -1,11 +1,11 @@
 -- Document 01, Packed records and Sizes: the device record as a value, and the records that are sound.
 -- Assumes nothing.
-use Prim.Native.Nat.{ℕ, zero, suc, _+_}
+use Prim.Native.Nat.{ℕ, zero, suc}
 use mathlib.Core.Bool.{Bool, true, false, _&&_, _||_, not}
 use mathlib.Core.List.{List, [], _∷_, _++_}
 use mathlib.Core.Option.{Option, none, some}
 use lib.Dec.{eqb, leb}
-use lib.ListN.{length, drop}
+use lib.ListN.{length}
 use Rattle.lists.specs.Lists.{cat, all, isEmpty, nth}
 use Rattle.lists.specs.Bytes.{clean, distinct}
 use Rattle.lists.specs.Runs.{splitAt, lastOf}
@@ -136,7 +136,7 @@ abbrev pub pathOn : Lens → List ℕ → Parse Member
 pathOn n r = bind (exactly (n .path) r) (λ p q. subsystemOn n p q)
 
 abbrev pub readLens : List ℕ → Parse Lens
-readLens bs = keep (leb 4 (length bs) && eqb (lensOf bs .unused) 0) (lensOf bs) (drop 4 bs)
+readLens bs = bind (exactly 4 bs) (λ head r. keep (eqb (lensOf head .unused) 0) (lensOf head) r)
 
 abbrev pub oneMember : List ℕ → Parse Member
 oneMember bs = bind (readLens bs) pathOn
@@ -164,7 +164,7 @@ abbrev pub propsOn : Head → List ℕ → Parse Device
 propsOn h r = bind (many oneProp (h .properties) r) (λ ps q. eventOn h ps q)
 
 abbrev pub readHead : List ℕ → Parse Head
-readHead bs = keep (leb 7 (length bs) && okHead (headOf bs)) (headOf bs) (drop 7 bs)
+readHead bs = bind (exactly 7 bs) (λ head r. keep (okHead (headOf head)) (headOf head) r)
 
 abbrev pub parts : List ℕ → Parse Device
 parts bs = bind (readHead bs) propsOn

@@ -1,9 +1,9 @@
 -- Document 01, Packed records: the device record's first 7 bytes, and the 4 bytes in front of each device.
 -- Assumes nothing.
-use Prim.Native.Nat.{ℕ, _+_, _*_, _/_, _%_}
+use Prim.Native.Nat.{ℕ}
 use mathlib.Core.List.{List, [], _∷_}
-use lib.ListN.{getD}
-use Rattle.entries.specs.Fields.{Field, pack, bytesOf}
+use Rattle.bits.specs.Bits.{numberAt}
+use Rattle.bits.specs.Fields.{Field, packed}
 
 -- the header's fields, in their order; `above` is the chain's length less one
 pub record Head : Type 0 where
@@ -29,20 +29,20 @@ fields h =
     ∷ []
 
 unfoldable pub header : Head → List ℕ
-header h = bytesOf 7 (pack 0 (fields h))
+header h = packed (fields h)
 
--- the fields that stand in a record's first bytes
+-- the fields that stand in these bytes
 abbrev pub headOf : List ℕ → Head
 headOf bs =
     record {
-      edition = getD bs 0 0 / 16;
-      above = getD bs 0 0 % 16;
-      action = getD bs 1 0 / 32;
-      node = getD bs 1 0 / 16 % 2;
-      major = getD bs 1 0 % 16 * 256 + getD bs 2 0;
-      minor = getD bs 3 0 * 4096 + getD bs 4 0 * 16 + getD bs 5 0 / 16;
-      properties = getD bs 5 0 % 16 * 4 + getD bs 6 0 / 64;
-      unused = getD bs 6 0 % 64;
+      edition = numberAt bs 0 4;
+      above = numberAt bs 4 4;
+      action = numberAt bs 8 3;
+      node = numberAt bs 11 1;
+      major = numberAt bs 12 12;
+      minor = numberAt bs 24 20;
+      properties = numberAt bs 44 6;
+      unused = numberAt bs 50 6;
     }
 
 -- the numbers in front of one device of the chain
@@ -57,14 +57,14 @@ abbrev pub lensFields : Lens → List Field
 lensFields n = (9, n .path) ∷ (6, n .subsystem) ∷ (6, n .driver) ∷ (5, n .attributes) ∷ (6, n .unused) ∷ []
 
 unfoldable pub lensBytes : Lens → List ℕ
-lensBytes n = bytesOf 4 (pack 0 (lensFields n))
+lensBytes n = packed (lensFields n)
 
 abbrev pub lensOf : List ℕ → Lens
 lensOf bs =
     record {
-      path = getD bs 0 0 * 2 + getD bs 1 0 / 128;
-      subsystem = getD bs 1 0 / 2 % 64;
-      driver = getD bs 1 0 % 2 * 32 + getD bs 2 0 / 8;
-      attributes = getD bs 2 0 % 8 * 4 + getD bs 3 0 / 64;
-      unused = getD bs 3 0 % 64;
+      path = numberAt bs 0 9;
+      subsystem = numberAt bs 9 6;
+      driver = numberAt bs 15 6;
+      attributes = numberAt bs 21 5;
+      unused = numberAt bs 26 6;
     }

@@ -25,7 +25,8 @@ use Rattle.rules.specs.Pair.{Pair, Rule}
 use Rattle.rules.specs.Setting.{Setting, escape-none, escape-replace, priority, settingOf}
 use Rattle.device.specs.Device.{Member, Device, chain}
 use Rattle.outcome.specs.Content.{okLink, okName, okOwner, octal, octalFrom, okMode, modeNumber}
-use Rattle.outcome.specs.State.{Closed, Run, State, okRun, okTag, Entries, Properties, Runs, Good}
+use Rattle.outcome.specs.Head.{Closed}
+use Rattle.outcome.specs.State.{Run, State, okRun, okTag, Entries, Properties, Runs, Good}
 use Rattle.outcome.specs.Change.{withClosed, withOwner, withGroup, withMode, withPriority, withLinks, withProperties, withTags, withRuns, shutLinks, shutTags, shutRuns, shutOwner, shutGroup, shutMode}
 use Rattle.text.specs.Engine.{Stepped, went}
 use Rattle.lists.specs.Sizes.{mostChain, mostKey, mostTag, mostTags, mostValue, mostLinks, mostSubstituted}

@@ -19,7 +19,8 @@ use Rattle.rules.specs.Pair.{Pair, Rule, isBuiltin}
 use Rattle.rules.specs.Setting.{Setting, escape-none, escape-replace, priority, settingOf}
 use Rattle.device.specs.Device.{Device}
 use Rattle.outcome.specs.Content.{okName, okOwner, okMode, modeNumber}
-use Rattle.outcome.specs.State.{Closed, Run, State}
+use Rattle.outcome.specs.Head.{Closed}
+use Rattle.outcome.specs.State.{Run, State}
 use Rattle.outcome.specs.Change.{withClosed, withOwner, withGroup, withMode, withPriority, withLinks, withProperties, withTags, withRuns, shutLinks, shutTags, shutRuns, shutOwner, shutGroup, shutMode}
 use Rattle.outcome.specs.Edits.{append, addEntry, removeEntry, removeProperty, setProperty}
 use Rattle.engine.specs.Substitute.{Source, filled}

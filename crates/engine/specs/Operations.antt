@@ -1,6 +1,6 @@
 -- Document 01, Numbers given back: the public operations as full answers: a check of a text, a fresh record, a run, a close.
 -- Assumes nothing.
-use Prim.Native.Nat.{ℕ, zero, suc, _+_, _*_, _/_, _%_}
+use Prim.Native.Nat.{ℕ}
 use mathlib.Core.Bool.{Bool, true, false}
 use mathlib.Core.List.{List, [], _∷_, _++_}
 use mathlib.Core.Option.{Option, none, some}
@@ -10,12 +10,14 @@ use Rattle.lists.specs.Lists.{cat}
 use Rattle.lists.specs.Checked.{Checked, refused, ok, _>>=_, _>>_, require, found, Placed, line, onLine}
 use Rattle.lists.specs.Refusal.{Refusal, target-short, device-bad, outcome-bad}
 use Rattle.lists.specs.Sizes.{fullestOutcome, fullestRunList}
+use Rattle.bits.specs.Fields.{Field, packed}
 use Rattle.entries.specs.Entry.{Property}
 use Rattle.rules.specs.Reading.{reader}
 use Rattle.device.specs.Device as D
 use Rattle.device.specs.Device.{Device, chain}
 use Rattle.outcome.specs.State as O
-use Rattle.outcome.specs.State.{State, Run, bit}
+use Rattle.outcome.specs.Head.{bit}
+use Rattle.outcome.specs.State.{State, Run}
 use Rattle.text.specs.Engine.{Engine}
 use Rattle.text.specs.Run as generic
 use Rattle.text.specs.Run.{Answer, refusal, acceptance}
@@ -64,13 +66,21 @@ pub record Command : Type 0 where
   pub builtin : Bool
   pub text : List ℕ
 
--- type 1, length 10, unused 5, then the text
-abbrev pub encCommand : Command → List ℕ
-encCommand c = (bit (c .builtin) * 128 + length (c .text) / 8) ∷ (length (c .text) % 8 * 32) ∷ c .text
+-- its head: builtin 1, length 10, unused 5
+abbrev pub commandFields : Command → List Field
+commandFields c = (1, bit (c .builtin)) ∷ (10, length (c .text)) ∷ (5, 0) ∷ []
 
--- count 5, unused 3, then the entries
+-- its head, then the text
+abbrev pub encCommand : Command → List ℕ
+encCommand c = packed (commandFields c) ++ c .text
+
+-- the list's head: count 5, unused 3
+abbrev pub listFields : List Command → List Field
+listFields cs = (5, length cs) ∷ (3, 0) ∷ []
+
+-- its head, then the entries
 unfoldable pub runList : List Command → List ℕ
-runList cs = (length cs * 8) ∷ cat encCommand cs
+runList cs = packed (listFields cs) ++ cat encCommand cs
 
 -- each template substituted with the properties that the record holds at the end, in the list's order
 unfoldable pub commands : Device → List Property → List Run → Checked Refusal (List Command)

@@ -1,21 +1,26 @@
 -- Each entry is read back, and what was read was so written; how long entries are, and that they hold no NUL.
 -- Assumes nothing.
-use Prim.Native.Nat.{ℕ, zero, suc, _+_, _*_, _/_, _%_, _≤_, _<_}
+use Prim.Native.Nat.{ℕ, suc, _+_, _*_, _≤_}
 use mathlib.Core.Path.{_≡_, refl, sym, ap, ap₂, _∙_, subst}
-use mathlib.Core.Bool.{Bool, true, false, _&&_, _||_, not}
+use mathlib.Core.Bool.{Bool, true, false, _&&_}
 use mathlib.Core.List.{List, [], _∷_, _++_, append-assoc}
 use mathlib.Core.Option.{Option, none, some}
 use native.Mathlib.Omega.{arith}
-use lib.ListN.{length, take, drop, getD, length-append, length-take, length-drop, take-append-drop}
-use lib.Seq.{take-append-seam, drop-append-seam, take-append-le, drop-append-le, length-take-le, drop-drop, take-at, drop-at}
-use lib.Dec.{leb, ltb, eqb}
-use borrow.Author.Tests.{le-leb, leb-true, eq-eqb, eqb-true}
+use lib.ListN.{length, take, drop, length-append, length-drop, take-append-drop}
+use lib.Seq.{take-append-seam, drop-append-seam, length-take-le, drop-drop, drop-at}
+use lib.Dec.{leb}
+use borrow.Author.Tests.{le-leb, leb-true}
 use Rattle.lists.specs.Lists.{pick, all}
 use Rattle.lists.specs.Bytes.{clean, Bytes, sameBytes, okText}
-use Rattle.lists.proofs.Tests.{and-both, both-and}
+use Rattle.lists.proofs.Tests.{and-both}
+use Rattle.lists.proofs.Records.{bytes-first}
+use Rattle.bits.specs.Bits.{numberAt}
+use Rattle.bits.specs.Fields.{Field, width, packed, fieldsAt}
+use Rattle.bits.proofs.Fields.{length-packed}
 use Rattle.entries.specs.Parse.{Parse, got, bad, keep, bind}
-use Rattle.entries.specs.Entry.{encText, oneText, Property, okProp, encProp, propAt, oneProp, exactly, lookup}
-use Rattle.entries.proofs.Rows.{Laws}
+use Rattle.entries.specs.Entry.{encText, oneText, Property, okProp, propFields, encProp, propAt, propOn, oneProp, exactly, lookup}
+use Rattle.entries.proofs.Rows.{Laws, through}
+use Rattle.entries.proofs.Heads.{numberOf, head-read, head-back}
 
 -- a test that kept something held
 pub kept : {A : Type 0} (b : Bool) (x y : A) (q r : List ℕ) → keep b x q ≡ got y r → (b ≡ true) × (x ≡ y) × (q ≡ r)
@@ -36,6 +41,10 @@ exactly-back n bs x r e =
     let (t, a, b) = kept (leb n (length bs)) (take n bs) x (drop n bs) r e in
     let h : n ≤ length bs = leb-true n (length bs) t in
     (sym (take-append-drop n bs) ∙ ap₂ (λ (p q : List ℕ). p ++ q) a b, sym (ap length a) ∙ length-take-le n bs h)
+
+-- the bytes of a head in front of any others
+pub head-there : (fs : List Field) (k : ℕ) (r : List ℕ) → width fs ≡ 8 * k → exactly k (packed fs ++ r) ≡ got (packed fs) r
+head-there fs k r w = ap (λ (i : ℕ). exactly i (packed fs ++ r)) (sym (length-packed fs k w)) ∙ exactly-there (packed fs) r
 
 -- ---- a text
 
@@ -79,22 +88,22 @@ prop-there : (p : Property) (r : List ℕ) → okProp p ≡ true → oneProp (en
 prop-there p r h =
     let k = length (p .key) in
     let v = length (p .value) in
-    let o = and-both (okText 64 (p .key)) (leb v 256 && clean (p .value)) h in
-    let o₂ = and-both (leb v 256) (clean (p .value)) (o .1) in
-    let lv : v ≤ 256 = leb-true v 256 (o₂ .0) in
-    let e₁ : (k * 2 + v / 256) / 2 ≡ k = omega arith in
-    let e₂ : (k * 2 + v / 256) % 2 * 256 + v % 256 ≡ v = omega arith in
-    rw (e₁, e₂) (prop-put p r h)
+    let fs : List Field = propFields k v in
+    let (o, o′) = and-both (okText 64 (p .key)) _ h in
+    let (_, m) = and-both (leb 1 k) _ o in
+    let lk : k ≤ 64 = leb-true k 64 (and-both (leb k 64) _ m .0) in
+    let lv : v ≤ 256 = leb-true v 256 (and-both (leb v 256) _ o′ .0) in
+    let e : fieldsAt (packed fs) 0 (7 ∷ 9 ∷ []) ≡ fs = head-read fs 2 refl (omega arith, (omega arith, tt)) in
+    ap oneProp (append-assoc (packed fs) (p .key ++ p .value) r)
+    ∙ ap (λ (x : Parse (List ℕ)). bind x (λ head r. propOn (numberAt head 0 7) (numberAt head 7 9) r)) (head-there fs 2 (p .key ++ p .value ++ r) refl)
+    ∙ ap₂ (λ (i j : ℕ). propOn i j (p .key ++ p .value ++ r)) (ap (numberOf 0) e) (ap (numberOf 1) e)
+    ∙ prop-put p r h
 
--- what stands at the front, by the parts that were read of it
-prop-take : (a l : ℕ) (bs : List ℕ) → l < 256 → a / 2 + (a % 2 * 256 + l) ≤ length bs → let k = a / 2 in let v = a % 2 * 256 + l in _≡_ {A = List ℕ} (a ∷ l ∷ bs) (encProp (propAt k v bs) ++ drop (k + v) bs)
-prop-take a l bs hl h =
-    let k = a / 2 in
-    let v = a % 2 * 256 + l in
+-- what stands behind the lengths, by the parts that were read of it
+prop-take : (k v : ℕ) (bs : List ℕ) → k + v ≤ length bs → (packed (propFields k v) ++ bs ≡ encProp (propAt k v bs) ++ drop (k + v) bs)
+prop-take k v bs h =
     let n₁ : length (take k bs) ≡ k = length-take-le k bs (omega arith) in
     let n₂ : length (take v (drop k bs)) ≡ v = length-take-le v (drop k bs) (simp length-drop (omega arith)) in
-    let a₁ : a ≡ length (take k bs) * 2 + length (take v (drop k bs)) / 256 = rw (n₁, n₂) (omega arith) in
-    let a₂ : l ≡ length (take v (drop k bs)) % 256 = rw n₂ (omega arith) in
     let s : bs ≡ (take k bs ++ take v (drop k bs)) ++ drop (k + v) bs =
     sym
     (append-assoc (take k bs) (take v (drop k bs)) (drop (k + v) bs)
@@ -102,17 +111,25 @@ prop-take a l bs hl h =
     ∙ ap (λ (x : List ℕ). take k bs ++ x) (take-append-drop v (drop k bs))
     ∙ take-append-drop k bs)
     in
-    λ i. a₁ i ∷ a₂ i ∷ s i
+    ap₂ (λ (i j : ℕ). packed (propFields i j) ++ bs) (sym n₁) (sym n₂)
+    ∙ ap (λ (x : List ℕ). packed (propFields (length (take k bs)) (length (take v (drop k bs)))) ++ x) s
+    ∙ sym (append-assoc (packed (propFields (length (take k bs)) (length (take v (drop k bs))))) (take k bs ++ take v (drop k bs)) (drop (k + v) bs))
 
 prop-back : (bs : List ℕ) (p : Property) (r : List ℕ) → Bytes bs → oneProp bs ≡ got p r → (bs ≡ encProp p ++ r) × (okProp p ≡ true)
-prop-back [] p r h e = never p r e
-prop-back (a ∷ []) p r h e = never p r e
-prop-back (a ∷ l ∷ bs) p r h e =
-    let k = a / 2 in
-    let v = a % 2 * 256 + l in
-    let (t, x, y) = kept (leb (k + v) (length bs) && okProp (propAt k v bs)) (propAt k v bs) p (drop (k + v) bs) r e in
-    let (t₁, t₂) = and-both (leb (k + v) (length bs)) (okProp (propAt k v bs)) t in
-    (prop-take a l bs (h 1) (leb-true (k + v) (length bs) t₁) ∙ ap₂ (λ (x : Property) (y : List ℕ). encProp x ++ y) x y, ap okProp (sym x) ∙ t₂)
+prop-back bs p r h e =
+    through (exactly 2 bs) _ p r e λ head q p₁ e₁.
+    let (w, l) = exactly-back 2 bs head q p₁ in
+    let k = numberAt head 0 7 in
+    let v = numberAt head 7 9 in
+    let (t, x, y) = kept (leb (k + v) (length q) && okProp (propAt k v q)) (propAt k v q) p (drop (k + v) q) r e₁ in
+    let (t₁, t₂) = and-both (leb (k + v) (length q)) (okProp (propAt k v q)) t in
+    let b : packed (propFields k v) ≡ head = head-back head (7 ∷ 9 ∷ []) 2 refl l (bytes-first head q (subst Bytes w h)) in (
+      w
+          ∙ ap (λ (x : List ℕ). x ++ q) (sym b)
+          ∙ prop-take k v q (leb-true (k + v) (length q) t₁)
+          ∙ ap₂ (λ (x : Property) (y : List ℕ). encProp x ++ y) x y,
+      ap okProp (sym x) ∙ t₂,
+    )
 
 pub prop-laws : Laws Property encProp okProp oneProp
 prop-laws = record { there = prop-there; back = prop-back }
@@ -152,20 +169,24 @@ text-size most x h =
     let c = leb-true (length x) most (b .0) in
     omega arith
 
+pub prop-length : (p : Property) → length (encProp p) ≡ 2 + (length (p .key) + length (p .value))
+prop-length p =
+    let fs : List Field = propFields (length (p .key)) (length (p .value)) in
+    length-append (packed fs) (p .key ++ p .value) ∙ ap₂ (λ (i j : ℕ). i + j) (length-packed fs 2 refl) (length-append (p .key) (p .value))
+
 pub prop-size : (p : Property) → okProp p ≡ true → length (encProp p) ≤ 322
 prop-size p h =
     let a = and-both (okText 64 (p .key)) (leb (length (p .value)) 256 && clean (p .value)) h in
     let b = and-both (leb (length (p .value)) 256) (clean (p .value)) (a .1) in
     let c = leb-true (length (p .value)) 256 (b .0) in
     let d = text-size 64 (p .key) (a .0) in
-    omega (arith, length-append (p .key) (p .value))
+    omega (arith, prop-length p)
 
 -- a property that was read is sound
 pub property-kept : (bs : List ℕ) (p : Property) (r : List ℕ) → oneProp bs ≡ got p r → okProp p ≡ true
-property-kept [] p r e = let z : _≡_ {A = ℕ} 0 1 = cc in absurd (omega arith)
-property-kept (h ∷ []) p r e = let z : _≡_ {A = ℕ} 0 1 = cc in absurd (omega arith)
-property-kept (h ∷ l ∷ bs) p r e =
-    let k = h / 2 in
-    let v = h % 2 * 256 + l in
-    let (t, x, y) = kept (leb (k + v) (length bs) && okProp (propAt k v bs)) (propAt k v bs) p (drop (k + v) bs) r e in
-    ap okProp (sym x) ∙ and-both (leb (k + v) (length bs)) (okProp (propAt k v bs)) t .1
+property-kept bs p r e =
+    through (exactly 2 bs) _ p r e λ head q p₁ e₁.
+    let k = numberAt head 0 7 in
+    let v = numberAt head 7 9 in
+    let (t, x, y) = kept (leb (k + v) (length q) && okProp (propAt k v q)) (propAt k v q) p (drop (k + v) q) r e₁ in
+    ap okProp (sym x) ∙ and-both (leb (k + v) (length q)) (okProp (propAt k v q)) t .1

@@ -1,15 +1,17 @@
 -- Document 01, Packed records: the entries that both records hold, a text behind its length and a property.
 -- Assumes nothing.
-use Prim.Native.Nat.{ℕ, zero, suc, _+_, _*_, _/_, _%_}
-use mathlib.Core.Bool.{Bool, true, false, _&&_, _||_, not}
+use Prim.Native.Nat.{ℕ, _+_}
+use mathlib.Core.Bool.{Bool, true, false, _&&_}
 use mathlib.Core.List.{List, [], _∷_, _++_, map}
 use mathlib.Core.Option.{Option, none, some}
 use lib.ListN.{length, take, drop}
-use lib.Dec.{leb, ltb, eqb}
+use lib.Dec.{leb}
 use Rattle.lists.specs.Lists.{pick}
 use Rattle.lists.specs.Bytes.{sameBytes, clean, okText}
 use Rattle.lists.specs.Sizes.{mostKey, mostValue}
-use Rattle.entries.specs.Parse.{Parse, got, bad, keep}
+use Rattle.bits.specs.Bits.{numberAt}
+use Rattle.bits.specs.Fields.{Field, packed}
+use Rattle.entries.specs.Parse.{Parse, bad, bind, keep}
 
 -- n bytes
 abbrev pub exactly : ℕ → List ℕ → Parse (List ℕ)
@@ -33,22 +35,24 @@ pub record Property : Type 0 where
 abbrev pub okProp : Property → Bool
 okProp p = okText mostKey (p .key) && (leb (length (p .value)) mostValue && clean (p .value))
 
--- key length 7, value length 9, then the bytes of both
+-- the head of a property: key length 7, value length 9
+abbrev pub propFields : ℕ → ℕ → List Field
+propFields k v = (7, k) ∷ (9, v) ∷ []
+
+-- a property as its head and the bytes of both
 abbrev pub encProp : Property → List ℕ
-encProp p = (length (p .key) * 2 + length (p .value) / 256) ∷ length (p .value) % 256 ∷ (p .key ++ p .value)
+encProp p = packed (propFields (length (p .key)) (length (p .value))) ++ (p .key ++ p .value)
 
 -- a property of which the key has k bytes and the value v
 abbrev pub propAt : ℕ → ℕ → List ℕ → Property
 propAt k v bs = record { key = take k bs; value = take v (drop k bs) }
 
+-- a sound one of these lengths
+abbrev pub propOn : ℕ → ℕ → List ℕ → Parse Property
+propOn k v bs = keep (leb (k + v) (length bs) && okProp (propAt k v bs)) (propAt k v bs) (drop (k + v) bs)
+
 abbrev pub oneProp : List ℕ → Parse Property
-oneProp [] = bad
-oneProp (h ∷ []) = bad
-oneProp (h ∷ l ∷ bs) =
-    keep
-    (leb (h / 2 + (h % 2 * 256 + l)) (length bs) && okProp (propAt (h / 2) (h % 2 * 256 + l) bs))
-    (propAt (h / 2) (h % 2 * 256 + l) bs)
-    (drop (h / 2 + (h % 2 * 256 + l)) bs)
+oneProp bs = bind (exactly 2 bs) (λ head r. propOn (numberAt head 0 7) (numberAt head 7 9) r)
 
 abbrev pub keys : List Property → List (List ℕ)
 keys ps = map (λ (p : Property). p .key) ps

@@ -1,3 +1,2 @@
 pub mod Parse
-pub mod Fields
 pub mod Entry

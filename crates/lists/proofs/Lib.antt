@@ -8,3 +8,4 @@ pub mod Moves
 pub mod Scan
 pub mod Checked
 pub mod Examples
+pub mod Records

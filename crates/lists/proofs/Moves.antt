@@ -1,12 +1,13 @@
 -- Laws of parts of a list: a part from index a up to index b is `take (b - a) (drop a t)`, as `&t[a..b]` is.
 -- Assumes nothing.
 use Prim.Native.Nat.{ℕ, zero, suc, _+_, _-_, _≤_, _<_}
-use mathlib.Core.Path.{_≡_, sym, ap, _∙_}
+use mathlib.Core.Path.{_≡_, refl, sym, ap, _∙_}
 use mathlib.Core.List.{List, [], _∷_, _++_, append-assoc}
-use native.Mathlib.Nat.{not-suc-le-zero, suc-add, zero-add}
+use native.Mathlib.Nat.{not-suc-le-zero, le-of-suc-le-suc, suc-add, zero-add}
 use native.Mathlib.Omega.{arith}
 use lib.ListN.{length, getD, take, drop, set, replicate, length-append, length-take, length-drop, take-append-drop}
 use lib.Seq.{take-suc, drop-cons, set-at, take-at, drop-at, getD-drop, drop-drop, getD-append-add}
+use Rattle.lists.specs.Bytes.{Bytes}
 
 -- equal numbers give equal results; the numbers are written, so that `omega` can prove them equal
 pub ap-at {ℓ} : {A : Type ℓ} (f : ℕ → A) (a b : ℕ) → a ≡ b → f a ≡ f b
@@ -63,6 +64,12 @@ module _ {A : Type 0} where
   set-past p [] i v e h = absurd (not-suc-le-zero h)
   set-past p (y ∷ r) i v e h = set-at p y r v i e
 
+  -- a store over the last of the first elements
+  pub set-last : (t r : List A) (i : ℕ) (v : A) → i < length t → set (take (suc i) t ++ r) i v ≡ take i t ++ (v ∷ r)
+  set-last [] r i v h = absurd (not-suc-le-zero h)
+  set-last (x ∷ t) r zero v h = refl
+  set-last (x ∷ t) r (suc i) v h = ap (λ (l : List A). x ∷ l) (set-last t r i v (le-of-suc-le-suc h))
+
   pub getD-past : (p r : List A) (i j : ℕ) (d : A) → length p + j ≡ i → getD (p ++ r) i d ≡ getD r j d
   getD-past p r i j d e = ap (λ (n : ℕ). getD (p ++ r) n d) (sym e) ∙ getD-append-add p r j d
 
@@ -76,3 +83,14 @@ module _ {A : Type 0} where
   drop-replicate zero m a = ap-at (λ i. replicate i a) m (m - 0) (omega arith)
   drop-replicate (suc k) zero a = ap-at (λ i. replicate i a) 0 (0 - suc k) (omega arith)
   drop-replicate (suc k) (suc m) a = drop-replicate k m a ∙ ap-at (λ i. replicate i a) (m - k) (suc m - suc k) (omega arith)
+
+-- ---- parts of bytes
+
+pub bytes-take : (n : ℕ) (s : List ℕ) → Bytes s → Bytes (take n s)
+bytes-take zero s b i = omega arith
+bytes-take (suc n) [] b i = omega arith
+bytes-take (suc n) (x ∷ s) b zero = b 0
+bytes-take (suc n) (x ∷ s) b (suc i) = bytes-take n s (λ j. b (suc j)) i
+
+pub bytes-drop : (n : ℕ) (s : List ℕ) → Bytes s → Bytes (drop n s)
+bytes-drop n s b i = rw (getD-drop n s i 0) (b (n + i))

@@ -7,7 +7,8 @@ use mathlib.Core.List.{List}
 use Rattle.lists.specs.Sizes.{mostLinks, mostTags}
 use Rattle.entries.specs.Entry.{Property}
 use Rattle.outcome.specs.Content.{okLink, okOwner}
-use Rattle.outcome.specs.State.{Closed, Run, State, okTag, Entries, Properties, Runs, Good}
+use Rattle.outcome.specs.Head.{Closed}
+use Rattle.outcome.specs.State.{Run, State, okTag, Entries, Properties, Runs, Good}
 use Rattle.outcome.specs.Change.{withClosed, withOwner, withGroup, withMode, withPriority, withLinks, withProperties, withTags, withRuns}
 
 module _ (n : ℕ) (s : State) (g : Good n s) where

@@ -13,11 +13,13 @@ use Rattle.lists.specs.Bytes.{sameBytes, starts}
 use Rattle.lists.specs.Runs.{splitAt, span}
 use Rattle.lists.specs.Items.{items, inBraces}
 use Rattle.lists.specs.Quoted.{bytes}
+use Rattle.bits.specs.Bits.{toBits, fromBits, bitsOf, bytesOf, numberAt}
+use Rattle.bits.specs.Fields.{packed}
 use Rattle.entries.specs.Entry.{Property}
 use Rattle.template.specs.Template as T
 use Rattle.template.specs.Template.{wellFormed}
 use Rattle.outcome.specs.Head.{header}
-use Rattle.outcome.specs.State.{Closed, Run, State, open-all, encode, decode}
+use Rattle.outcome.specs.State.{Run, State, open-all, encode, decode}
 
 pub data Case : Type 0 where
   -- beside a chain of so many devices: a sound record, which its state packs to again
@@ -31,7 +33,7 @@ packs none bs = false
 packs (some s) bs = sameBytes (encode s) bs
 
 unfoldable pub right : Case → Bool
-unfolding bytes sameBytes splitAt items inBraces span starts T.letter T.names T.nameIn T.pieces T.wellFormed header encode decode
+unfolding bytes sameBytes splitAt items inBraces span starts T.letter T.names T.nameIn T.pieces T.wellFormed toBits fromBits bitsOf bytesOf numberAt packed header encode decode
 right (sound name n bs) = packs (decode n bs) bs
 right (faulty name n bs) = not (isSome (decode n bs))
 right (sized name n bs) = eqb (length bs) n

@@ -1,9 +1,9 @@
 -- The fullest outcome record has 17,611 bytes.
 -- Assumes nothing.
-use Prim.Native.Nat.{ℕ, zero, suc, _+_, _*_, _/_, _%_, _≤_, _<_}
-use mathlib.Core.Path.{_≡_, ap, sym, _∙_}
-use mathlib.Core.Bool.{Bool, true, _&&_}
-use mathlib.Core.List.{List, [], _∷_, _++_, append-nil}
+use Prim.Native.Nat.{ℕ, _+_, _*_, _≤_}
+use mathlib.Core.Path.{_≡_, refl}
+use mathlib.Core.Bool.{true}
+use mathlib.Core.List.{List}
 use native.Mathlib.Omega.{arith}
 use lib.ListN.{length, length-append}
 use lib.Dec.{leb}
@@ -12,12 +12,14 @@ use Rattle.lists.specs.Lists.{cat, all}
 use Rattle.lists.specs.Bytes.{clean, okText}
 use Rattle.lists.proofs.Tests.{and-both}
 use Rattle.lists.proofs.Lists.{cat-size}
-use Rattle.entries.specs.Entry.{encText, Property, okProp, encProp}
+use Rattle.bits.specs.Fields.{packed}
+use Rattle.bits.proofs.Fields.{length-packed}
+use Rattle.entries.specs.Entry.{encText, okProp, encProp}
 use Rattle.entries.proofs.Entries.{text-size, prop-size}
 use Rattle.template.specs.Template.{wellFormed}
-use Rattle.outcome.specs.Head.{header}
+use Rattle.outcome.proofs.Head.{header-length}
 use Rattle.outcome.specs.Content.{okLink, okName, okOwner, ownerByte}
-use Rattle.outcome.specs.State.{Run, State, okRun, encRun, okTag, headFor, body, encode, Good}
+use Rattle.outcome.specs.State.{Run, State, okRun, runFields, encRun, okTag, encode, Good}
 
 link-size : (x : List ℕ) → okLink x ≡ true → length (encText x) ≤ 129
 link-size x h =
@@ -32,7 +34,8 @@ run-size n r h =
     let b = and-both (leb (r .place) n) _ (a .1) in
     let c = and-both (okText 256 (r .template)) (wellFormed (r .template)) (b .1) in
     let d = text-size 256 (r .template) (c .0) in
-    omega arith
+    let e = length-packed (runFields r) 2 refl in
+    omega (arith, length-append (packed (runFields r)) (r .template))
 
 owner-size : (x : List ℕ) → okOwner x ≡ true → length x ≤ 32
 owner-size x h = leb-true (length x) 32 (and-both (leb (length x) 32) (all ownerByte x) h .0)
@@ -44,8 +47,8 @@ sum o g l p t r nl np nt nr ho hg hl hp ht hr a b c d = omega arith
 pub encode-size : (s : State)
     → length (encode s)
     ≡ 11 + (length (s .owner) + (length (s .group) + (length (cat encText (s .links)) + (length (cat encProp (s .properties)) + (length (cat encText (s .tags)) + length (cat encRun (s .runs)))))))
-unfolding encode header
-encode-size s = simp length-append (omega arith)
+unfolding encode
+encode-size s = simp (length-append, header-length) (omega arith)
 
 pub fits : (n : ℕ) (s : State) → Good n s → length (encode s) ≤ 17611
 fits n s g =

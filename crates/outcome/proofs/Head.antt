@@ -1,185 +1,159 @@
--- The header is read back.
+-- The header is read back, what was read was so written, and a field put anew gives the header with that field.
 -- Assumes nothing.
-use Prim.Native.Nat.{ℕ, zero, suc, _+_, _-_, _*_, _/_, _%_, _^_, _<_, _≤_}
-use mathlib.Core.Path.{_≡_, refl, sym, ap, ap₂, _∙_, subst}
-use native.Mathlib.Omega.{arith}
-use native.Mathlib.Nat.{not-suc-le-zero, le-of-suc-le-suc}
+use Prim.Native.Nat.{ℕ, zero, suc, _<_}
+use mathlib.Core.Path.{_≡_, refl, sym, ap, _∙_}
+use mathlib.Core.Bool.{Bool, true, false}
 use mathlib.Core.List.{List, [], _∷_, _++_}
-use lib.ListN.{getD, drop, take, length}
+use native.Mathlib.Omega.{arith}
+use lib.ListN.{length}
+use lib.Dec.{eqb}
 use Rattle.lists.specs.Bytes.{Bytes}
-use Rattle.lists.proofs.Rest.{elems, elems-take}
-use Rattle.entries.specs.Fields.{pack, bytesOf}
-use Rattle.outcome.specs.Head.{Head, Fit, header, plain, headOf, fields}
+use Rattle.bits.specs.Bits.{numberAt, putAt}
+use Rattle.bits.specs.Fields.{Field, packed, fieldsAt}
+use Rattle.bits.proofs.Numbers.{number-lt}
+use Rattle.bits.proofs.Fields as F
+use Rattle.bits.proofs.Fields.{length-packed}
+use Rattle.entries.specs.Parse.{got}
+use Rattle.entries.specs.Entry.{exactly}
+use Rattle.entries.proofs.Heads as heads
+use Rattle.entries.proofs.Heads.{numberOf, head-read, withNumber, placeOf, widthOf, head-put}
+use Rattle.entries.proofs.Entries as entries
+use Rattle.outcome.specs.Head.{Head, bit, fields, header, flagAt, headOf}
 
--- ---- the bytes of the one number: `a` is what stands above, `y` what stands below
+-- ---- flags
 
-e0 : (h : Head) → Fit h → pack 0 (fields h) / 2 ^ 80 % 256 ≡ h .edition * 16 + h .shut / 4
-e0 h f = omega arith
+pub bit-small : (b : Bool) → bit b < 2
+bit-small true = omega arith
+bit-small false = omega arith
 
-e1 : (h : Head) → Fit h → pack 0 (fields h) / 2 ^ 72 % 256 ≡ h .shut % 4 * 64 + h .owner
-e1 h f = omega arith
+pub eqb-bit : (b : Bool) → eqb (bit b) 1 ≡ b
+eqb-bit true = refl
+eqb-bit false = refl
 
-e2 : (h : Head) → Fit h → pack 0 (fields h) / 2 ^ 64 % 256 ≡ h .group * 4 + h .modeSet * 2 + h .mode / 2048
-e2 h f = omega arith
+pub bit-eqb : (n : ℕ) → n < 2 → bit (eqb n 1) ≡ n
+bit-eqb zero h = refl
+bit-eqb (suc zero) h = refl
+bit-eqb (suc (suc n)) h = absurd (omega arith)
 
-e3 : (h : Head) → Fit h → pack 0 (fields h) / 2 ^ 56 % 256 ≡ h .mode / 8 % 256
-e3 h f = omega arith
+pub bit-flag : (bs : List ℕ) (at : ℕ) → bit (flagAt bs at) ≡ numberAt bs at 1
+bit-flag bs at = bit-eqb (numberAt bs at 1) (number-lt bs at 1)
 
-e4 : (h : Head) → Fit h → pack 0 (fields h) / 2 ^ 48 % 256 ≡ h .mode % 8 * 32 + h .priority / 134217728
-e4 h f = omega arith
+-- ---- numbers
 
-e5 : (h : Head) → Fit h → pack 0 (fields h) / 2 ^ 40 % 256 ≡ h .priority / 524288 % 256
-e5 h f = omega arith
+-- each number fits its field
+pub record Fit (h : Head) : Type 0 where
+  pub edition : h .edition < 16
+  pub owner : h .owner < 64
+  pub group : h .group < 64
+  pub modeSet : h .modeSet < 2
+  pub mode : h .mode < 4096
+  pub priority : h .priority < 4294967296
+  pub links : h .links < 32
+  pub properties : h .properties < 64
+  pub tags : h .tags < 32
+  pub runs : h .runs < 32
 
-e6 : (h : Head) → Fit h → pack 0 (fields h) / 2 ^ 32 % 256 ≡ h .priority / 2048 % 256
-e6 h f = omega arith
+fit-counts : (h : Head) → Fit h → F.Fit ((5, h .links) ∷ (6, h .properties) ∷ (5, h .tags) ∷ (5, h .runs) ∷ [])
+fit-counts h f = (f .links, (f .properties, (f .tags, (f .runs, tt))))
 
-e7 : (h : Head) → Fit h → pack 0 (fields h) / 2 ^ 24 % 256 ≡ h .priority / 8 % 256
-e7 h f = omega arith
+fit-numbers : (h : Head) → Fit h
+    → F.Fit ((6, h .owner) ∷ (6, h .group) ∷ (1, h .modeSet) ∷ (12, h .mode) ∷ (32, h .priority) ∷ (5, h .links) ∷ (6, h .properties) ∷ (5, h .tags) ∷ (5, h .runs) ∷ [])
+fit-numbers h f = (f .owner, (f .group, (f .modeSet, (f .mode, (f .priority, fit-counts h f)))))
 
-e8 : (h : Head) → Fit h → pack 0 (fields h) / 2 ^ 16 % 256 ≡ h .priority % 8 * 32 + h .links
-e8 h f = omega arith
+fit-fields : (h : Head) → Fit h → F.Fit (fields h)
+fit-fields h f =
+    let c = h .closed in
+    (f .edition, (bit-small (c .links), (bit-small (c .tags), (bit-small (c .runs), (bit-small (c .owner), (bit-small (c .group), (bit-small (c .mode), fit-numbers h f)))))))
 
-e9 : (h : Head) → Fit h → pack 0 (fields h) / 2 ^ 8 % 256 ≡ h .properties * 4 + h .tags / 8
-e9 h f = omega arith
+-- what was read fits
+pub head-fits : (bs : List ℕ) → Fit (headOf bs)
+head-fits bs =
+    record {
+      edition = number-lt bs 0 4;
+      owner = number-lt bs 10 6;
+      group = number-lt bs 16 6;
+      modeSet = number-lt bs 22 1;
+      mode = number-lt bs 23 12;
+      priority = number-lt bs 35 32;
+      links = number-lt bs 67 5;
+      properties = number-lt bs 72 6;
+      tags = number-lt bs 78 5;
+      runs = number-lt bs 83 5;
+    }
 
-e10 : (h : Head) → Fit h → pack 0 (fields h) / 2 ^ 0 % 256 ≡ h .tags % 8 * 32 + h .runs
-e10 h f = omega arith
+-- ---- the header
 
-pub header-plain : (h : Head) → Fit h → header h ≡ plain h
+pub header-length : (h : Head) → length (header h) ≡ 11
 unfolding header
-header-plain h f =
-    λ i. e0 h f i ∷ e1 h f i ∷ e2 h f i ∷ e3 h f i ∷ e4 h f i ∷ e5 h f i ∷ e6 h f i ∷ e7 h f i ∷ e8 h f i ∷ e9 h f i ∷ e10 h f i ∷ []
+header-length h = length-packed (fields h) 11 refl
 
--- a 32-bit number by the bits that each byte has of it
-word : (p : ℕ) → p / 134217728 * 134217728 + p / 524288 % 256 * 524288 + p / 2048 % 256 * 2048 + p / 8 % 256 * 8 + p % 8 ≡ p
-word p =
-    let a : p / 8 / 256 ≡ p / 2048 = omega arith in
-    let b : p / 2048 / 256 ≡ p / 524288 = omega arith in
-    let c : p / 524288 / 256 ≡ p / 134217728 = omega arith in
-    omega arith
+-- it is the first 11 bytes
+pub header-first : (h : Head) (r : List ℕ) → exactly 11 (header h ++ r) ≡ got (header h) r
+unfolding header
+header-first h r = entries.head-there (fields h) 11 r refl
 
--- reading the fields of a header gives them
-pub head-there : (h : Head) (r : List ℕ) → Fit h → headOf (plain h ++ r) ≡ h
-head-there h r f =
+-- reading its fields gives them
+pub head-there : (h : Head) → Fit h → headOf (header h) ≡ h
+unfolding header
+head-there h f =
+    let e : fieldsAt (packed (fields h)) 0 (4 ∷ 1 ∷ 1 ∷ 1 ∷ 1 ∷ 1 ∷ 1 ∷ 6 ∷ 6 ∷ 1 ∷ 12 ∷ 32 ∷ 5 ∷ 6 ∷ 5 ∷ 5 ∷ []) ≡ fields h = head-read (fields h) 11 refl (fit-fields h f) in
+    let c = h .closed in
     λ i.
     record {
-      edition = a0 i;
-      shut = a1 i;
-      owner = a2 i;
-      group = a3 i;
-      modeSet = a4 i;
-      mode = a5 i;
-      priority = a6 i;
-      links = a7 i;
-      properties = a8 i;
-      tags = a9 i;
-      runs = a10 i;
+      edition = ap (numberOf 0) e i;
+      closed = record {
+        links = (ap (λ (l : List Field). eqb (numberOf 1 l) 1) e ∙ eqb-bit (c .links)) i;
+        tags = (ap (λ (l : List Field). eqb (numberOf 2 l) 1) e ∙ eqb-bit (c .tags)) i;
+        runs = (ap (λ (l : List Field). eqb (numberOf 3 l) 1) e ∙ eqb-bit (c .runs)) i;
+        owner = (ap (λ (l : List Field). eqb (numberOf 4 l) 1) e ∙ eqb-bit (c .owner)) i;
+        group = (ap (λ (l : List Field). eqb (numberOf 5 l) 1) e ∙ eqb-bit (c .group)) i;
+        mode = (ap (λ (l : List Field). eqb (numberOf 6 l) 1) e ∙ eqb-bit (c .mode)) i;
+      };
+      owner = ap (numberOf 7) e i;
+      group = ap (numberOf 8) e i;
+      modeSet = ap (numberOf 9) e i;
+      mode = ap (numberOf 10) e i;
+      priority = ap (numberOf 11) e i;
+      links = ap (numberOf 12) e i;
+      properties = ap (numberOf 13) e i;
+      tags = ap (numberOf 14) e i;
+      runs = ap (numberOf 15) e i;
     }
-  where
-    a0 : (h .edition * 16 + h .shut / 4) / 16 ≡ h .edition
-    a0 = omega (arith, f .shut)
 
-    a1 : (h .edition * 16 + h .shut / 4) % 16 * 4 + (h .shut % 4 * 64 + h .owner) / 64 ≡ h .shut
-    a1 = omega (arith, f .shut, f .owner)
-
-    a2 : (h .shut % 4 * 64 + h .owner) % 64 ≡ h .owner
-    a2 = omega (arith, f .owner)
-
-    a3 : (h .group * 4 + h .modeSet * 2 + h .mode / 2048) / 4 ≡ h .group
-    a3 = omega (arith, f .modeSet, f .mode)
-
-    a4 : (h .group * 4 + h .modeSet * 2 + h .mode / 2048) / 2 % 2 ≡ h .modeSet
-    a4 = omega (arith, f .modeSet, f .mode)
-
-    a5 : (h .group * 4 + h .modeSet * 2 + h .mode / 2048) % 2 * 2048 + h .mode / 8 % 256 * 8 + (h .mode % 8 * 32 + h .priority / 134217728) / 32 ≡ h .mode
-    a5 =
-        let u : (h .group * 4 + h .modeSet * 2 + h .mode / 2048) % 2 ≡ h .mode / 2048 = omega arith in
-        let v : (h .mode % 8 * 32 + h .priority / 134217728) / 32 ≡ h .mode % 8 = omega arith in
-        let w : h .mode / 8 / 256 ≡ h .mode / 2048 = omega arith in
-        omega arith
-
-    a6 : (h .mode % 8 * 32 + h .priority / 134217728) % 32 * 134217728 + h .priority / 524288 % 256 * 524288 + h .priority / 2048 % 256 * 2048 + h .priority / 8 % 256 * 8 + (h .priority % 8 * 32 + h .links) / 32 ≡ h .priority
-    a6 =
-        let u : (h .mode % 8 * 32 + h .priority / 134217728) % 32 ≡ h .priority / 134217728 = omega arith in
-        let v : (h .priority % 8 * 32 + h .links) / 32 ≡ h .priority % 8 = omega arith in
-        rw (u, v) (word (h .priority))
-
-    a7 : (h .priority % 8 * 32 + h .links) % 32 ≡ h .links
-    a7 = omega arith
-
-    a8 : (h .properties * 4 + h .tags / 8) / 4 ≡ h .properties
-    a8 = omega arith
-
-    a9 : (h .properties * 4 + h .tags / 8) % 4 * 8 + (h .tags % 8 * 32 + h .runs) / 32 ≡ h .tags
-    a9 = omega arith
-
-    a10 : (h .tags % 8 * 32 + h .runs) % 32 ≡ h .runs
-    a10 = omega arith
-
--- what was read of bytes fits
-pub head-fits : (bs : List ℕ) → Bytes bs → Fit (headOf bs)
-head-fits bs h =
-    record {
-      edition = omega (arith, h 0);
-      shut = omega (arith, h 1);
-      owner = omega arith;
-      group = omega (arith, h 2);
-      modeSet = omega arith;
-      mode = omega (arith, h 3, h 4);
-      priority = omega (arith, h 5, h 6, h 7, h 8);
-      links = omega arith;
-      properties = omega (arith, h 9);
-      tags = omega (arith, h 10);
-      runs = omega arith;
-    }
+-- the fields that are read are those that are written
+pub same-fields : (bs : List ℕ) → fields (headOf bs) ≡ fieldsAt bs 0 (4 ∷ 1 ∷ 1 ∷ 1 ∷ 1 ∷ 1 ∷ 1 ∷ 6 ∷ 6 ∷ 1 ∷ 12 ∷ 32 ∷ 5 ∷ 6 ∷ 5 ∷ 5 ∷ [])
+same-fields bs =
+    let h = headOf bs in
+    λ i.
+    (4, h .edition)
+    ∷ (1, bit-flag bs 4 i)
+    ∷ (1, bit-flag bs 5 i)
+    ∷ (1, bit-flag bs 6 i)
+    ∷ (1, bit-flag bs 7 i)
+    ∷ (1, bit-flag bs 8 i)
+    ∷ (1, bit-flag bs 9 i)
+    ∷ (6, h .owner)
+    ∷ (6, h .group)
+    ∷ (1, h .modeSet)
+    ∷ (12, h .mode)
+    ∷ (32, h .priority)
+    ∷ (5, h .links)
+    ∷ (6, h .properties)
+    ∷ (5, h .tags)
+    ∷ (5, h .runs)
+    ∷ []
 
 -- writing the fields that were read gives the bytes
-module _ (b0 b1 b2 b3 b4 b5 b6 b7 b8 b9 b10 : ℕ) where
-  h2 : b2 < 256 → b3 < 256 → b4 < 256 → b2 / 4 * 4 + b2 / 2 % 2 * 2 + (b2 % 2 * 2048 + b3 * 8 + b4 / 32) / 2048 ≡ b2
-  h2 p q r = omega arith
+pub head-back : (bs : List ℕ) → Bytes bs → length bs ≡ 11 → header (headOf bs) ≡ bs
+unfolding header
+head-back bs b l = ap packed (same-fields bs) ∙ heads.head-back bs (4 ∷ 1 ∷ 1 ∷ 1 ∷ 1 ∷ 1 ∷ 1 ∷ 6 ∷ 6 ∷ 1 ∷ 12 ∷ 32 ∷ 5 ∷ 6 ∷ 5 ∷ 5 ∷ []) 11 refl l b
 
-  h3 : b3 < 256 → b4 < 256 → (b2 % 2 * 2048 + b3 * 8 + b4 / 32) / 8 % 256 ≡ b3
-  h3 p q = omega arith
+-- writing the i-th field in place gives the header with that field
+pub header-put : (h g : Head) (i v : ℕ) (r : List ℕ) → i < 16 → fields g ≡ withNumber i v (fields h) → Bytes r
+    → putAt (header h ++ r) (placeOf i (fields h)) (widthOf i (fields h)) v ≡ header g ++ r
+unfolding header
+header-put h g i v r k e b = head-put (fields h) i v 11 r k refl b ∙ ap (λ (l : List Field). packed l ++ r) (sym e)
 
-  h4 : b4 < 256 → b5 < 256 → b6 < 256 → b7 < 256 → b8 < 256 → (b2 % 2 * 2048 + b3 * 8 + b4 / 32) % 8 * 32 + (b4 % 32 * 134217728 + b5 * 524288 + b6 * 2048 + b7 * 8 + b8 / 32) / 134217728 ≡ b4
-  h4 p q r s t = omega arith
-
-  h5 : b5 < 256 → b6 < 256 → b7 < 256 → b8 < 256 → (b4 % 32 * 134217728 + b5 * 524288 + b6 * 2048 + b7 * 8 + b8 / 32) / 524288 % 256 ≡ b5
-  h5 p q r s = omega arith
-
-  h6 : b6 < 256 → b7 < 256 → b8 < 256 → (b4 % 32 * 134217728 + b5 * 524288 + b6 * 2048 + b7 * 8 + b8 / 32) / 2048 % 256 ≡ b6
-  h6 p q r = omega arith
-
-  h7 : b7 < 256 → b8 < 256 → (b4 % 32 * 134217728 + b5 * 524288 + b6 * 2048 + b7 * 8 + b8 / 32) / 8 % 256 ≡ b7
-  h7 p q = omega arith
-
-  h8 : b8 < 256 → (b4 % 32 * 134217728 + b5 * 524288 + b6 * 2048 + b7 * 8 + b8 / 32) % 8 * 32 + b8 % 32 ≡ b8
-  h8 p = omega arith
-
-pub head-back : (bs : List ℕ) → Bytes bs → 11 ≤ length bs → plain (headOf bs) ≡ take 11 bs
-head-back bs h l =
-    let b0 : ℕ = getD bs 0 0 in
-    let b1 : ℕ = getD bs 1 0 in
-    let b2 : ℕ = getD bs 2 0 in
-    let b3 : ℕ = getD bs 3 0 in
-    let b4 : ℕ = getD bs 4 0 in
-    let b5 : ℕ = getD bs 5 0 in
-    let b6 : ℕ = getD bs 6 0 in
-    let b7 : ℕ = getD bs 7 0 in
-    let b8 : ℕ = getD bs 8 0 in
-    let b9 : ℕ = getD bs 9 0 in
-    let b10 : ℕ = getD bs 10 0 in
-    let c0 : b0 / 16 * 16 + (b0 % 16 * 4 + b1 / 64) / 4 ≡ b0 = omega (arith, h 1) in
-    let c1 : (b0 % 16 * 4 + b1 / 64) % 4 * 64 + b1 % 64 ≡ b1 = omega (arith, h 1) in
-    let c9 : b9 / 4 * 4 + (b9 % 4 * 8 + b10 / 32) / 8 ≡ b9 = omega (arith, h 10) in
-    let c10 : (b9 % 4 * 8 + b10 / 32) % 8 * 32 + b10 % 32 ≡ b10 = omega (arith, h 10) in
-    let c2 = h2 b0 b1 b2 b3 b4 b5 b6 b7 b8 b9 b10 (h 2) (h 3) (h 4) in
-    let c3 = h3 b0 b1 b2 b3 b4 b5 b6 b7 b8 b9 b10 (h 3) (h 4) in
-    let c4 = h4 b0 b1 b2 b3 b4 b5 b6 b7 b8 b9 b10 (h 4) (h 5) (h 6) (h 7) (h 8) in
-    let c5 = h5 b0 b1 b2 b3 b4 b5 b6 b7 b8 b9 b10 (h 5) (h 6) (h 7) (h 8) in
-    let c6 = h6 b0 b1 b2 b3 b4 b5 b6 b7 b8 b9 b10 (h 6) (h 7) (h 8) in
-    let c7 = h7 b0 b1 b2 b3 b4 b5 b6 b7 b8 b9 b10 (h 7) (h 8) in
-    let c8 = h8 b0 b1 b2 b3 b4 b5 b6 b7 b8 b9 b10 (h 8) in
-    let e : plain (headOf bs) ≡ elems bs 0 11 = λ i. c0 i ∷ c1 i ∷ c2 i ∷ c3 i ∷ c4 i ∷ c5 i ∷ c6 i ∷ c7 i ∷ c8 i ∷ c9 i ∷ c10 i ∷ [] in
-    e ∙ elems-take bs 0 11 l
+-- the count of links, for one
+links-put : (h g : Head) (v : ℕ) (r : List ℕ) → fields g ≡ withNumber 12 v (fields h) → Bytes r → putAt (header h ++ r) 67 5 v ≡ header g ++ r
+links-put h g v r e b = header-put h g 12 v r (omega arith) e b

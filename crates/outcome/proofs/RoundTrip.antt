@@ -1,27 +1,28 @@
 -- A record is read back to the state that it was made of, and what was read was so made.
 -- Assumes nothing.
-use Prim.Native.Nat.{ℕ, zero, suc, _+_, _*_, _/_, _%_, _≤_, _<_}
+use Prim.Native.Nat.{ℕ, _≤_}
 use mathlib.Core.Path.{_≡_, refl, sym, ap, ap₂, _∙_, subst, subst₂}
-use mathlib.Core.Bool.{Bool, true, false, _&&_, _||_}
+use mathlib.Core.Bool.{Bool, true, false, _||_}
 use mathlib.Core.List.{List, [], _∷_, _++_, append-assoc, append-nil}
-use mathlib.Core.Option.{Option, some, none}
+use mathlib.Core.Option.{some, none}
 use native.Mathlib.Omega.{arith}
-use lib.ListN.{length, take, drop, getD, length-append, take-append-drop}
-use lib.Dec.{leb, ltb, eqb}
-use borrow.Author.Tests.{le-leb, leb-true, eq-eqb, eqb-true}
+use lib.ListN.{length}
+use lib.Dec.{leb, eqb}
+use borrow.Author.Tests.{le-leb, leb-true, eqb-true}
 use Rattle.lists.specs.Lists.{cat, all}
 use Rattle.lists.specs.Bytes.{Bytes, distinct}
-use Rattle.lists.proofs.Tests.{and-both, both-and}
+use Rattle.lists.proofs.Tests.{and-both}
 use Rattle.lists.proofs.Bytes.{bytes-rest}
+use Rattle.lists.proofs.Records.{bytes-first}
 use Rattle.entries.specs.Parse.{Parse, got, bad, keep, bind, many}
-use Rattle.entries.specs.Entry.{encText, oneText, Property, okProp, encProp, oneProp, keys}
-use Rattle.entries.proofs.Rows.{Laws, through, many-there, many-back}
-use Rattle.entries.proofs.Entries.{kept, text-laws, prop-laws}
-use Rattle.outcome.specs.Head.{Head, header, plain, headOf, Fit}
-use Rattle.outcome.proofs.Head.{header-plain, head-there, head-back, head-fits}
+use Rattle.entries.specs.Entry.{exactly, encText, oneText, Property, okProp, encProp, oneProp, keys}
+use Rattle.entries.proofs.Rows.{through, many-there, many-back}
+use Rattle.entries.proofs.Entries.{kept, exactly-back, text-laws, prop-laws}
+use Rattle.outcome.specs.Head.{Head, header, headOf}
+use Rattle.outcome.proofs.Head.{Fit, header-first, head-there, head-back, head-fits}
 use Rattle.outcome.specs.Content.{okLink, okOwner, ownerByte}
-use Rattle.outcome.proofs.Parts.{shut-small, closed-there, closed-back, mode-there, mode-set, mode-bits, mode-okay, mode-small, set-small, set-or, owner-there, owner-back, run-laws}
-use Rattle.outcome.specs.State.{Closed, Run, State, shutOf, closedOf, modeSet, modeBits, modeOf, okModeBits, okRun, encRun, oneRun, okTag, headFor, body, encode, okHead, apart, Good, readHead, stateOf, oneOwner, parts, ended, decode}
+use Rattle.outcome.proofs.Parts.{mode-there, mode-set, mode-bits, mode-okay, mode-small, set-small, set-or, owner-there, owner-back, run-laws}
+use Rattle.outcome.specs.State.{Run, State, modeSet, okModeBits, okRun, encRun, oneRun, okTag, headFor, encode, okHead, apart, Good, readHead, stateOf, oneOwner, parts, ended, decode}
 
 -- ---- what a good state's header is
 
@@ -35,7 +36,6 @@ module _ (n : ℕ) where
       let p = owner-short (s .group) (g .group) in
       record {
         edition = omega arith;
-        shut = shut-small (s .closed);
         owner = omega arith;
         group = omega arith;
         modeSet = set-small (s .mode);
@@ -73,24 +73,24 @@ fromLinks s z = cat encText (s .links) ++ fromProps s z
 abbrev pub fromOwner : State → List ℕ → List ℕ
 fromOwner s z = s .owner ++ (s .group ++ fromLinks s z)
 
--- a record as its header's bytes and then its parts
-pub laid : (s : State) (z : List ℕ) → Fit (headFor s) → encode s ++ z ≡ plain (headFor s) ++ fromOwner s z
+-- a record as its header and then its parts
+pub laid : (s : State) (z : List ℕ) → encode s ++ z ≡ header (headFor s) ++ fromOwner s z
 unfolding encode
-laid s z f = ap (λ (l : List ℕ). (l ++ body s) ++ z) (header-plain (headFor s) f) ∙ simp append-assoc
+laid s z = simp append-assoc
 
-head-got : (h : Head) (r : List ℕ) → Fit h → okHead h ≡ true → readHead (plain h ++ r) ≡ got h r
+head-got : (h : Head) (r : List ℕ) → Fit h → okHead h ≡ true → readHead (header h ++ r) ≡ got h r
 head-got h r f o =
-    ap (λ (x : Head). keep (leb 11 (length (plain h ++ r)) && okHead x) x r) (head-there h r f)
-    ∙ ap₂ (λ (x y : Bool). keep (x && y) h r) (le-leb 11 (length (plain h ++ r)) (omega arith)) o
+    ap (λ (x : Parse (List ℕ)). bind x (λ head r. keep (okHead (headOf head)) (headOf head) r)) (header-first h r)
+    ∙ ap (λ (x : Head). keep (okHead x) x r) (head-there h f)
+    ∙ ap (λ (x : Bool). keep x h r) o
 
 -- a state made of its own parts
 same-state : (s : State) → stateOf (headFor s) (s .owner) (s .group) (s .links) (s .properties) (s .tags) (s .runs) ≡ s
 same-state s =
-    let c = closed-there (s .closed) in
     let m = mode-there (s .mode) in
     λ i.
     record {
-      closed = c i;
+      closed = s .closed;
       owner = s .owner;
       group = s .group;
       mode = m i;
@@ -105,7 +105,7 @@ module _ (n : ℕ) where
   pub parts-there : (s : State) (z : List ℕ) → Good n s → parts n (encode s ++ z) ≡ got s z
   parts-there s z g =
       rw (
-        laid s z (good-fit n s g),
+        laid s z,
         head-got (headFor s) (fromOwner s z) (good-fit n s g) (good-head n s g),
         owner-there (s .owner) (s .group ++ fromLinks s z) (g .owner),
         owner-there (s .group) (fromLinks s z) (g .group),
@@ -141,13 +141,12 @@ same-head h o g ls ps ts rs f k lo lg ll lp lt lr =
     let a = and-both (eqb (h .edition) 1) _ k in
     let b = and-both (eqb (h .modeSet) 1 || eqb (h .mode) 0) _ (a .1) in
     let ed : 1 ≡ h .edition = sym (eqb-true (h .edition) 1 (a .0)) in
-    let sh = closed-back (h .shut) (f .shut) in
     let ms = mode-set (h .modeSet) (h .mode) (f .modeSet) in
     let mb = mode-bits (h .modeSet) (h .mode) (b .0) in
     λ j.
     record {
       edition = ed j;
-      shut = sh j;
+      closed = h .closed;
       owner = lo j;
       group = lg j;
       modeSet = ms j;
@@ -169,13 +168,14 @@ module _ (n : ℕ) where
       through (many oneProp (h .properties) r₃) _ s z e₃ λ ps r₄ p₄ e₄.
       through (many (oneText okTag) (h .tags) r₄) _ s z e₄ λ ts r₅ p₅ e₅.
       through (many (oneRun n) (h .runs) r₅) _ s z e₅ λ rs r₆ p₆ e₆.
-      let (t, hh, hr) = kept (leb 11 (length bs) && okHead (headOf bs)) (headOf bs) h (drop 11 bs) r₀ p₀ in
-      let (t₁, t₂) = and-both (leb 11 (length bs)) (okHead (headOf bs)) t in
-      let l : 11 ≤ length bs = leb-true 11 (length bs) t₁ in
+      through (exactly 11 bs) _ h r₀ p₀ λ head q p₇ e₇.
+      let (t, hh, hr) = kept (okHead (headOf head)) (headOf head) h q r₀ e₇ in
+      let (qh, l) = exactly-back 11 bs head q p₇ in
       let (q₀, n₀, o₀) = owner-back (h .owner) r₀ o r₁ p₁ in
       let (q₁, n₁, o₁) = owner-back (h .group) r₁ g r₂ p₂ in
-      let w : bs ≡ take 11 bs ++ r₀ = sym (take-append-drop 11 bs) ∙ ap (λ (x : List ℕ). take 11 bs ++ x) hr in
-      let b₀ : Bytes r₀ = bytes-rest (take 11 bs) r₀ (subst Bytes w b) in
+      let w : bs ≡ head ++ r₀ = qh ∙ ap (λ (x : List ℕ). head ++ x) hr in
+      let bh : Bytes head = bytes-first head r₀ (subst Bytes w b) in
+      let b₀ : Bytes r₀ = bytes-rest head r₀ (subst Bytes w b) in
       let b₁ : Bytes r₁ = bytes-rest o r₁ (subst Bytes q₀ b₀) in
       let b₂ : Bytes r₂ = bytes-rest g r₂ (subst Bytes q₁ b₁) in
       let (q₂, k₂, n₂) = many-back (text-laws okLink) (h .links) r₂ ls r₃ b₂ p₃ in
@@ -186,8 +186,8 @@ module _ (n : ℕ) where
       let b₅ : Bytes r₅ = bytes-rest (cat encText ts) r₅ (subst Bytes q₄ b₄) in
       let (q₅, k₅, n₅) = many-back (run-laws n) (h .runs) r₅ rs r₆ b₅ p₆ in
       let v : State = stateOf h o g ls ps ts rs in
-      let fh : Fit h = subst Fit hh (head-fits bs b) in
-      let f : headFor v ≡ h = same-head h o g ls ps ts rs fh (ap okHead (sym hh) ∙ t₂) n₀ n₁ n₂ n₃ n₄ n₅ in
+      let fh : Fit h = subst Fit hh (head-fits head) in
+      let f : headFor v ≡ h = same-head h o g ls ps ts rs fh (ap okHead (sym hh) ∙ t) n₀ n₁ n₂ n₃ n₄ n₅ in
       let fv : Fit (headFor v) = subst Fit (sym f) fh in
       let from : r₀ ≡ fromOwner v r₆ =
       q₀
@@ -199,15 +199,15 @@ module _ (n : ℕ) where
       in
       let eq : bs ≡ encode v ++ r₆ =
       w
-      ∙ ap₂ (λ (x y : List ℕ). x ++ y) (sym (head-back bs b l)) from
-      ∙ ap (λ (x : Head). plain x ++ fromOwner v r₆) (hh ∙ sym f)
-      ∙ sym (laid v r₆ fv)
+      ∙ ap₂ (λ (x y : List ℕ). x ++ y) (sym (head-back head bh l)) from
+      ∙ ap (λ (x : Head). header x ++ fromOwner v r₆) (hh ∙ sym f)
+      ∙ sym (laid v r₆)
       in
       let read : Read n bs v r₆ =
       record {
         eq = eq;
         fit = fv;
-        head = ap okHead (f ∙ sym hh) ∙ t₂;
+        head = ap okHead (f ∙ sym hh) ∙ t;
         owner = o₀;
         group = o₁;
         mode = mode-okay (h .modeSet) (h .mode) (fh .mode);

@@ -5,7 +5,8 @@ use mathlib.Core.Bool.{true}
 use mathlib.Core.List.{List}
 use mathlib.Core.Option.{some}
 use Rattle.entries.specs.Entry.{Property}
-use Rattle.outcome.specs.State.{Closed, Run, State}
+use Rattle.outcome.specs.Head.{Closed}
+use Rattle.outcome.specs.State.{Run, State}
 
 abbrev pub withClosed : State → Closed → State
 withClosed s c = record { closed = c; owner = s .owner; group = s .group; mode = s .mode; priority = s .priority; links = s .links; properties = s .properties; tags = s .tags; runs = s .runs }

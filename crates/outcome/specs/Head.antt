@@ -1,14 +1,25 @@
 -- Document 01, Packed records: the outcome record's first 11 bytes.
 -- Assumes nothing.
-use Prim.Native.Nat.{ℕ, _+_, _*_, _/_, _%_, _<_}
+use Prim.Native.Nat.{ℕ}
+use mathlib.Core.Bool.{Bool, true, false}
 use mathlib.Core.List.{List, [], _∷_}
-use lib.ListN.{getD}
-use Rattle.entries.specs.Fields.{Field, pack, bytesOf}
+use lib.Dec.{eqb}
+use Rattle.bits.specs.Bits.{numberAt}
+use Rattle.bits.specs.Fields.{Field, packed}
 
--- the fields, in their order; `shut` holds the six closed flags
+-- which keys are closed, in the record's order
+pub record Closed : Type 0 where
+  pub links : Bool
+  pub tags : Bool
+  pub runs : Bool
+  pub owner : Bool
+  pub group : Bool
+  pub mode : Bool
+
+-- the fields, in their order
 pub record Head : Type 0 where
   pub edition : ℕ
-  pub shut : ℕ
+  pub closed : Closed
   pub owner : ℕ
   pub group : ℕ
   pub modeSet : ℕ
@@ -19,10 +30,20 @@ pub record Head : Type 0 where
   pub tags : ℕ
   pub runs : ℕ
 
+-- a flag as one bit
+abbrev pub bit : Bool → ℕ
+bit true = 1
+bit false = 0
+
 abbrev pub fields : Head → List Field
 fields h =
     (4, h .edition)
-    ∷ (6, h .shut)
+    ∷ (1, bit (h .closed .links))
+    ∷ (1, bit (h .closed .tags))
+    ∷ (1, bit (h .closed .runs))
+    ∷ (1, bit (h .closed .owner))
+    ∷ (1, bit (h .closed .group))
+    ∷ (1, bit (h .closed .mode))
     ∷ (6, h .owner)
     ∷ (6, h .group)
     ∷ (1, h .modeSet)
@@ -35,51 +56,36 @@ fields h =
     ∷ []
 
 unfoldable pub header : Head → List ℕ
-header h = bytesOf 11 (pack 0 (fields h))
+header h = packed (fields h)
 
--- each number fits its field
-pub record Fit (h : Head) : Type 0 where
-  pub edition : h .edition < 16
-  pub shut : h .shut < 64
-  pub owner : h .owner < 64
-  pub group : h .group < 64
-  pub modeSet : h .modeSet < 2
-  pub mode : h .mode < 4096
-  pub priority : h .priority < 4294967296
-  pub links : h .links < 32
-  pub properties : h .properties < 64
-  pub tags : h .tags < 32
-  pub runs : h .runs < 32
+-- the flag at a bit of some bytes
+abbrev pub flagAt : List ℕ → ℕ → Bool
+flagAt bs at = eqb (numberAt bs at 1) 1
 
--- the same bytes, each from the fields that it holds
-abbrev pub plain : Head → List ℕ
-plain h =
-    (h .edition * 16 + h .shut / 4)
-    ∷ (h .shut % 4 * 64 + h .owner)
-    ∷ (h .group * 4 + h .modeSet * 2 + h .mode / 2048)
-    ∷ (h .mode / 8 % 256)
-    ∷ (h .mode % 8 * 32 + h .priority / 134217728)
-    ∷ (h .priority / 524288 % 256)
-    ∷ (h .priority / 2048 % 256)
-    ∷ (h .priority / 8 % 256)
-    ∷ (h .priority % 8 * 32 + h .links)
-    ∷ (h .properties * 4 + h .tags / 8)
-    ∷ (h .tags % 8 * 32 + h .runs)
-    ∷ []
+abbrev pub closedOf : List ℕ → Closed
+closedOf bs =
+    record {
+      links = flagAt bs 4;
+      tags = flagAt bs 5;
+      runs = flagAt bs 6;
+      owner = flagAt bs 7;
+      group = flagAt bs 8;
+      mode = flagAt bs 9;
+    }
 
--- the fields that stand in a record's first bytes
+-- the fields that stand in these bytes
 abbrev pub headOf : List ℕ → Head
 headOf bs =
     record {
-      edition = getD bs 0 0 / 16;
-      shut = getD bs 0 0 % 16 * 4 + getD bs 1 0 / 64;
-      owner = getD bs 1 0 % 64;
-      group = getD bs 2 0 / 4;
-      modeSet = getD bs 2 0 / 2 % 2;
-      mode = getD bs 2 0 % 2 * 2048 + getD bs 3 0 * 8 + getD bs 4 0 / 32;
-      priority = getD bs 4 0 % 32 * 134217728 + getD bs 5 0 * 524288 + getD bs 6 0 * 2048 + getD bs 7 0 * 8 + getD bs 8 0 / 32;
-      links = getD bs 8 0 % 32;
-      properties = getD bs 9 0 / 4;
-      tags = getD bs 9 0 % 4 * 8 + getD bs 10 0 / 32;
-      runs = getD bs 10 0 % 32;
+      edition = numberAt bs 0 4;
+      closed = closedOf bs;
+      owner = numberAt bs 10 6;
+      group = numberAt bs 16 6;
+      modeSet = numberAt bs 22 1;
+      mode = numberAt bs 23 12;
+      priority = numberAt bs 35 32;
+      links = numberAt bs 67 5;
+      properties = numberAt bs 72 6;
+      tags = numberAt bs 78 5;
+      runs = numberAt bs 83 5;
     }

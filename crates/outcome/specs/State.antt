@@ -1,6 +1,6 @@
 -- Document 01, Packed records and Sizes: the outcome as a value, its record, and the records that are sound.
 -- Assumes nothing.
-use Prim.Native.Nat.{ℕ, zero, suc, _+_, _*_, _/_, _%_, _<_, _≤_}
+use Prim.Native.Nat.{ℕ, _<_, _≤_}
 use mathlib.Core.Path.{_≡_}
 use mathlib.Core.Bool.{Bool, true, false, _&&_, _||_, not}
 use mathlib.Core.List.{List, [], _∷_, _++_}
@@ -9,22 +9,15 @@ use lib.ListN.{length, take, drop}
 use lib.Dec.{leb, eqb}
 use Rattle.lists.specs.Lists.{pick, cat, all}
 use Rattle.lists.specs.Bytes.{distinct, okText}
+use Rattle.bits.specs.Bits.{numberAt}
+use Rattle.bits.specs.Fields.{Field, packed}
 use Rattle.entries.specs.Parse.{Parse, got, bad, keep, bind, many}
 use Rattle.entries.specs.Entry.{exactly, encText, oneText, Property, okProp, encProp, oneProp, keys}
 use Rattle.device.specs.Device.{Device}
 use Rattle.lists.specs.Sizes.{mostChain, mostLinks, mostProperties, mostTags, mostTag, mostRuns, mostValue}
 use Rattle.template.specs.Template.{wellFormed}
-use Rattle.outcome.specs.Head.{Head, header, headOf, Fit}
+use Rattle.outcome.specs.Head.{Closed, Head, header, headOf, bit, flagAt}
 use Rattle.outcome.specs.Content.{okLink, okOwner}
-
--- which keys are closed, in the record's order
-pub record Closed : Type 0 where
-  pub links : Bool
-  pub tags : Bool
-  pub runs : Bool
-  pub owner : Bool
-  pub group : Bool
-  pub mode : Bool
 
 -- a program to run later: its type, the place of the matched device (0 is none), its template
 pub record Run : Type 0 where
@@ -44,25 +37,7 @@ pub record State : Type 0 where
   pub tags : List (List ℕ)
   pub runs : List Run
 
--- ---- flags and mode as numbers of the header
-
-abbrev pub bit : Bool → ℕ
-bit true = 1
-bit false = 0
-
-abbrev pub shutOf : Closed → ℕ
-shutOf c = bit (c .links) * 32 + bit (c .tags) * 16 + bit (c .runs) * 8 + bit (c .owner) * 4 + bit (c .group) * 2 + bit (c .mode)
-
-abbrev pub closedOf : ℕ → Closed
-closedOf n =
-    record {
-      links = eqb (n / 32 % 2) 1;
-      tags = eqb (n / 16 % 2) 1;
-      runs = eqb (n / 8 % 2) 1;
-      owner = eqb (n / 4 % 2) 1;
-      group = eqb (n / 2 % 2) 1;
-      mode = eqb (n % 2) 1;
-    }
+-- ---- mode as numbers of the header
 
 abbrev pub modeSet : Option ℕ → ℕ
 modeSet none = 0
@@ -81,24 +56,28 @@ modeOf set m = pick (eqb set 1) (some m) none
 abbrev pub okRun : ℕ → Run → Bool
 okRun n r = leb (r .place) mostChain && (leb (r .place) n && (okText mostValue (r .template) && wellFormed (r .template)))
 
--- type 1, place 5, length 9, unused 1, then the template
-abbrev pub encRun : Run → List ℕ
-encRun r =
-    (bit (r .builtin) * 128 + r .place * 4 + length (r .template) / 128)
-    ∷ (length (r .template) % 128 * 2)
-    ∷ r .template
+-- the head of a run: builtin 1, place 5, length 9, unused 1
+abbrev pub runFields : Run → List Field
+runFields r = (1, bit (r .builtin)) ∷ (5, r .place) ∷ (9, length (r .template)) ∷ (1, 0) ∷ []
 
-abbrev pub runAt : ℕ → ℕ → List ℕ → Run
-runAt h l bs = record { builtin = eqb (h / 128) 1; place = h / 4 % 32; template = take (h % 4 * 128 + l / 2) bs }
+-- its head, then the template
+abbrev pub encRun : Run → List ℕ
+encRun r = packed (runFields r) ++ r .template
+
+-- the run of a head whose template stands first in the bytes behind it
+abbrev pub runAt : List ℕ → List ℕ → Run
+runAt head bs = record { builtin = flagAt head 0; place = numberAt head 1 5; template = take (numberAt head 6 9) bs }
+
+-- if it is there, sound, and the unused bit is zero
+abbrev pub runOn : ℕ → List ℕ → List ℕ → Parse Run
+runOn n head bs =
+    keep
+    (eqb (numberAt head 15 1) 0 && (leb (numberAt head 6 9) (length bs) && okRun n (runAt head bs)))
+    (runAt head bs)
+    (drop (numberAt head 6 9) bs)
 
 abbrev pub oneRun : ℕ → List ℕ → Parse Run
-oneRun n [] = bad
-oneRun n (h ∷ []) = bad
-oneRun n (h ∷ l ∷ bs) =
-    keep
-    (eqb (l % 2) 0 && (leb (h % 4 * 128 + l / 2) (length bs) && okRun n (runAt h l bs)))
-    (runAt h l bs)
-    (drop (h % 4 * 128 + l / 2) bs)
+oneRun n bs = bind (exactly 2 bs) (runOn n)
 
 -- ---- the record
 
@@ -106,7 +85,7 @@ abbrev pub headFor : State → Head
 headFor s =
     record {
       edition = 1;
-      shut = shutOf (s .closed);
+      closed = s .closed;
       owner = length (s .owner);
       group = length (s .group);
       modeSet = modeSet (s .mode);
@@ -172,12 +151,12 @@ pub record Good (n : ℕ) (s : State) : Type 0 where
   pub runs : Runs n (s .runs)
 
 abbrev pub readHead : List ℕ → Parse Head
-readHead bs = keep (leb 11 (length bs) && okHead (headOf bs)) (headOf bs) (drop 11 bs)
+readHead bs = bind (exactly 11 bs) (λ head r. keep (okHead (headOf head)) (headOf head) r)
 
 abbrev pub stateOf : Head → List ℕ → List ℕ → List (List ℕ) → List Property → List (List ℕ) → List Run → State
 stateOf h o g ls ps ts rs =
     record {
-      closed = closedOf (h .shut);
+      closed = h .closed;
       owner = o;
       group = g;
       mode = modeOf (h .modeSet) (h .mode);

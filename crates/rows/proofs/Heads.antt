@@ -1,44 +1,40 @@
--- The lengths in an entry's head, from its bytes.
+-- The lengths in an entry's head, and the places of its parts.
 -- Assumes nothing.
-use Prim.Native.Nat.{ℕ, _+_, _*_, _/_, _%_, _≤_, _<_}
-use mathlib.Core.Path.{_≡_, refl, sym, ap, ap₂, _∙_}
+use Prim.Native.Nat.{ℕ, _+_, _-_, _≤_, _<_}
+use mathlib.Core.Path.{_≡_, sym, ap, _∙_}
 use mathlib.Core.List.{List}
 use native.Mathlib.Omega.{arith}
-use lib.ListN.{length, getD, drop, length-drop}
+use lib.ListN.{length, getD, take, drop, length-drop}
 use lib.Seq.{getD-drop}
 use Rattle.lists.proofs.Moves.{ap-at}
+use Rattle.bits.specs.Bits.{numberAt}
 use Rattle.rows.specs.Entry.{headLen, nameLen, restLen, size, Shaped, Placed}
 use Rattle.rows.specs.declared.Kind.{Kind}
 use Rattle.rows.specs.declared.Shape.{Shape}
 use Rattle.rows.specs.declared.Kind.the-variants.{Text, Property, Run}
 
 module _ (l : List ℕ) (p : ℕ) where
-  first : getD (drop p l) 0 0 ≡ getD l p 0
-  first = getD-drop p l 0 0 ∙ ap-at (λ i. getD l i 0) (p + 0) p (omega arith)
+  -- two bytes as code takes them
+  two : take (p + 2 - p) (drop p l) ≡ take 2 (drop p l)
+  two = ap-at (λ i. take i (drop p l)) (p + 2 - p) 2 (omega arith)
 
-  pub text-shaped : (h : ℕ) → h ≡ getD l p 0 → h < 256 → Shaped Text (drop p l) (record { name = h; rest = 0 })
+  pub text-shaped : (s : Shape) → s .name ≡ getD l p 0 → s .rest ≡ 0 → s .name < 256 → Shaped Text (drop p l) s
   unfolding nameLen restLen
-  text-shaped h e k = record { name = e ∙ sym first; rest = refl; few = omega arith }
+  text-shaped s e f k = record { name = e ∙ ap-at (λ i. getD l i 0) p (p + 0) (omega arith) ∙ sym (getD-drop p l 0 0); rest = f; few = omega arith }
 
-  pub property-shaped : (h m : ℕ) → h ≡ getD l p 0 → m ≡ getD l (p + 1) 0 → h < 256 → m < 256
-      → Shaped Property (drop p l) (record { name = h / 2; rest = h % 2 * 256 + m })
+  pub property-shaped : (s : Shape) → let head = take (p + 2 - p) (drop p l) in s .name ≡ numberAt head 0 7 → s .rest ≡ numberAt head 7 9 → s .name < 128 → s .rest < 512
+      → Shaped Property (drop p l) s
   unfolding nameLen restLen
-  property-shaped h m e f k j =
+  property-shaped s e f k j =
       record {
-        name = ap (λ (i : ℕ). i / 2) (e ∙ sym first);
-        rest = ap₂ (λ (i o : ℕ). i % 2 * 256 + o) (e ∙ sym first) (f ∙ sym (getD-drop p l 1 0));
+        name = e ∙ ap (λ (x : List ℕ). numberAt x 0 7) two;
+        rest = f ∙ ap (λ (x : List ℕ). numberAt x 7 9) two;
         few = omega arith;
       }
 
-  pub run-shaped : (h m : ℕ) → h ≡ getD l p 0 → m ≡ getD l (p + 1) 0 → h < 256 → m < 256
-      → Shaped Run (drop p l) (record { name = h % 4 * 128 + m / 2; rest = 0 })
+  pub run-shaped : (s : Shape) → s .name ≡ numberAt (take (p + 2 - p) (drop p l)) 6 9 → s .rest ≡ 0 → s .name < 512 → Shaped Run (drop p l) s
   unfolding nameLen restLen
-  run-shaped h m e f k j =
-      record {
-        name = ap₂ (λ (i o : ℕ). i % 4 * 128 + o / 2) (e ∙ sym first) (f ∙ sym (getD-drop p l 1 0));
-        rest = refl;
-        few = omega arith;
-      }
+  run-shaped s e f k = record { name = e ∙ ap (λ (x : List ℕ). numberAt x 6 9) two; rest = f; few = omega arith }
 
 -- ---- the places of the parts, from the lengths
 

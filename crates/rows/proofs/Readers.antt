@@ -1,6 +1,6 @@
 -- What the definitions read of an entry, by its size and its parts; and the checked rows.
 -- Assumes nothing.
-use Prim.Native.Nat.{ℕ, zero, suc, _+_, _-_, _*_, _/_, _%_, _≤_, _<_}
+use Prim.Native.Nat.{ℕ, zero, suc, _+_, _-_, _≤_, _<_}
 use mathlib.Core.Path.{_≡_, refl, sym, ap, ap₂, _∙_, subst}
 use mathlib.Core.Bool.{Bool, true, false, _&&_}
 use mathlib.Core.List.{List, [], _∷_, map}
@@ -12,8 +12,9 @@ use lib.ListN.{length, take, drop, getD, length-drop}
 use lib.Seq.{drop-drop}
 use Rattle.lists.proofs.Tests.{and-both, and-false}
 use Rattle.lists.proofs.Moves.{ap-at}
+use Rattle.bits.specs.Bits.{numberAt}
 use Rattle.entries.specs.Parse.{Parse, got, bad, bind, keep, many}
-use Rattle.entries.specs.Entry.{Property, okProp, oneProp, oneText, propAt}
+use Rattle.entries.specs.Entry.{exactly, Property, okProp, propAt, propOn, oneProp, oneText}
 use Rattle.entries.proofs.Rows.{through}
 use Rattle.entries.proofs.Entries.{kept}
 use Rattle.rows.specs.Entry.{headLen, nameLen, restLen, size, name, rest, Placed}
@@ -60,22 +61,41 @@ text-reads ok = record { is = at }
 abbrev pub propertyHere : List ℕ → Property
 propertyHere bs = record { key = name kind.Property bs; value = rest kind.Property bs }
 
+-- the head of an entry
+pub head-cut : (n : ℕ) (bs : List ℕ) → length bs < n → exactly n bs ≡ bad
+head-cut n bs h = rw (lt-leb n (length bs) h)
+
+pub head-whole : (n : ℕ) (bs : List ℕ) → n ≤ length bs → exactly n bs ≡ got (take n bs) (drop n bs)
+head-whole n bs h = rw (le-leb n (length bs) h)
+
+-- a property by the lengths in its head
+property-by : (bs : List ℕ) (k v : ℕ) → 2 ≤ length bs
+    → let p : Property = record { key = take k (drop 2 bs); value = take v (drop (2 + k) bs) } in
+    propOn k v (drop 2 bs) ≡ keep (leb (2 + k + v) (length bs) && okProp p) p (drop (2 + k + v) bs)
+property-by bs k v h =
+    let p : Property = record { key = take k (drop 2 bs); value = take v (drop (2 + k) bs) } in
+    let d : drop k (drop 2 bs) ≡ drop (2 + k) bs = drop-drop k 2 bs in
+    let e : drop (k + v) (drop 2 bs) ≡ drop (2 + k + v) bs = drop-drop (k + v) 2 bs ∙ ap-at (λ i. drop i bs) (2 + (k + v)) (2 + k + v) (omega arith) in
+    let q : propAt k v (drop 2 bs) ≡ p = λ i. record { key = take k (drop 2 bs); value = take v (d i) } in
+    ap₂ (λ (x : Property) (r : List ℕ). keep (leb (k + v) (length (drop 2 bs)) && okProp x) x r) q e
+    ∙ ap (λ (t : Bool). keep (t && okProp p) p (drop (2 + k + v) bs))
+    (leb-more 2 (k + v) (length (drop 2 bs)) (2 + k + v) (length bs) (omega arith) (omega (arith, length-drop 2 bs)))
+
 pub property-reads : Reads Property kind.Property oneProp (λ bs. okProp (propertyHere bs)) propertyHere
 unfolding nameLen restLen
 property-reads = record { is = at }
   where
     at : (bs : List ℕ) → oneProp bs ≡ keep (leb (size kind.Property bs) (length bs) && okProp (propertyHere bs)) (propertyHere bs) (drop (size kind.Property bs) bs)
-    at [] = short (size kind.Property []) 0 (okProp (propertyHere [])) (propertyHere []) (drop (size kind.Property []) []) (omega arith)
-    at (h ∷ []) = short (size kind.Property (h ∷ [])) 1 (okProp (propertyHere (h ∷ []))) (propertyHere (h ∷ [])) (drop (size kind.Property (h ∷ [])) (h ∷ [])) (omega arith)
-    at (h ∷ l ∷ bs) =
-        let k = h / 2 in
-        let v = h % 2 * 256 + l in
-        let all : List ℕ = h ∷ l ∷ bs in
-        let d : drop (2 + k) all ≡ drop k bs = ap-at (λ i. drop i all) (2 + k) (suc (suc k)) (omega arith) in
-        let e : drop (2 + k + v) all ≡ drop (k + v) bs = ap-at (λ i. drop i all) (2 + k + v) (suc (suc (k + v))) (omega arith) in
-        let q : propAt k v bs ≡ propertyHere all = λ i. record { key = take k bs; value = take v (sym d i) } in
-        ap₂ (λ (x : Property) (r : List ℕ). keep (leb (k + v) (length bs) && okProp x) x r) q (sym e)
-        ∙ ap (λ (t : Bool). keep (t && okProp (propertyHere all)) (propertyHere all) (drop (2 + k + v) all)) (leb-more 2 (k + v) (length bs) (2 + k + v) (suc (suc (length bs))) (omega arith) (omega arith))
+    at bs = go (leb 2 (length bs)) refl
+      where
+        go : (t : Bool) → leb 2 (length bs) ≡ t → oneProp bs ≡ keep (leb (size kind.Property bs) (length bs) && okProp (propertyHere bs)) (propertyHere bs) (drop (size kind.Property bs) bs)
+        go true h =
+            ap (λ (x : Parse (List ℕ)). bind x (λ head r. propOn (numberAt head 0 7) (numberAt head 7 9) r)) (head-whole 2 bs (leb-true 2 (length bs) h))
+            ∙ property-by bs (numberAt (take 2 bs) 0 7) (numberAt (take 2 bs) 7 9) (leb-true 2 (length bs) h)
+        go false h =
+            let l : length bs < 2 = leb-false 2 (length bs) h in
+            ap (λ (x : Parse (List ℕ)). bind x (λ head r. propOn (numberAt head 0 7) (numberAt head 7 9) r)) (head-cut 2 bs l)
+            ∙ short (size kind.Property bs) (length bs) (okProp (propertyHere bs)) (propertyHere bs) (drop (size kind.Property bs) bs) (omega arith)
 
 -- ---- a row that was read
 

@@ -1,13 +1,15 @@
 // Rows of entries that lie in a lent record: one entry, a check, a search by name, distinct names, the end of a row.
 
+use bits::BitCursor;
 ghost use mathlib.Core.Path.{_≡_};
 ghost use Prim.Native.Nat.{_+_, _-_, _≤_, _<_};
 ghost use mathlib.Core.Bool.{_&&_};
 ghost use lib.ListN.{length, drop};
 ghost use Rattle.lists.specs.Bytes.{clean as clean-list, okText, among, distinct as distinct-list};
+ghost use Rattle.bits.specs.Bits.{numberAt};
 ghost use Rattle.entries.specs.Parse.{many};
 ghost use Rattle.entries.specs.Entry.{Property, okProp, oneProp};
-ghost use Rattle.rows.specs.Entry.{headLen, size, Shaped, Placed, Read};
+ghost use Rattle.rows.specs.Entry.{headLen, size, RunRead, Shaped, Placed, Read};
 ghost use Rattle.rows.specs.Row.{Row, names, findIn, partOf, Within, endIn, endOf};
 
 // What an entry is: a text behind its length (a link, a tag), a property or an attribute, a run.
@@ -21,6 +23,14 @@ pub enum Kind {
 struct Shape {
     name: usize,
     rest: usize,
+}
+
+// The fields of a run's head.
+pub struct RunHead {
+    pub builtin: usize,
+    pub place: usize,
+    pub len: usize,
+    pub unused: usize,
 }
 
 // Where the parts of an entry begin, and where it ends.
@@ -48,12 +58,6 @@ pub enum Found {
     Missing(usize),
 }
 
-fn wide(x: u8) -> usize
-    ensures { λ r. ⌜ (r ≡ x) × (r < 256) ⌝ }
-{
-    x as usize
-}
-
 // ---- one entry
 
 fn head_len(kind: Kind) -> usize
@@ -66,38 +70,52 @@ fn head_len(kind: Kind) -> usize
     }
 }
 
-fn text_shape(rec: &[u8], p: usize) -> Shape
-    requires { ⌜ p + 1 ≤ length (now rec) ⌝ }
-    ensures { λ r. ⌜ Shaped Kind.Text (drop p (now (rec .entry))) r ⌝ }
+fn text_shape(head: u8) -> Shape
+    ensures { λ r. ⌜ (r .name ≡ head) × (r .rest ≡ 0) × (r .name < 256) ⌝ }
 {
     Shape {
-        name: wide(rec[p]),
+        name: head as usize,
         rest: 0,
     }
 }
 
-// Key length 7, value length 9.
-fn property_shape(rec: &[u8], p: usize) -> Shape
-    requires { ⌜ p + 2 ≤ length (now rec) ⌝ }
-    ensures { λ r. ⌜ Shaped Kind.Property (drop p (now (rec .entry))) r ⌝ }
+// The head of a property: key length 7, value length 9.
+fn property_shape(head: &[u8]) -> Shape
+    requires { ⌜ 2 ≤ length (now head) ⌝ }
+    ensures { λ r. ⌜ (r .name ≡ numberAt (now (head .entry)) 0 7) × (r .rest ≡ numberAt (now (head .entry)) 7 9) × (r .name < 128) × (r .rest < 512) ⌝ }
 {
-    let h = wide(rec[p]);
-    let l = wide(rec[p + 1]);
+    let key = BitCursor { at: 0 }.take(head, 7);
+    let value = key.next.take(head, 9);
     Shape {
-        name: h / 2,
-        rest: h % 2 * 256 + l,
+        name: key.value,
+        rest: value.value,
     }
 }
 
-// Type 1, place 5, length 9, unused 1.
-fn run_shape(rec: &[u8], p: usize) -> Shape
-    requires { ⌜ p + 2 ≤ length (now rec) ⌝ }
-    ensures { λ r. ⌜ Shaped Kind.Run (drop p (now (rec .entry))) r ⌝ }
+// The head of a run: builtin 1, place 5, length 9, unused 1.
+pub fn run_head(head: &[u8]) -> RunHead
+    requires { ⌜ 2 ≤ length (now head) ⌝ }
+    ensures { λ r. ⌜ RunRead (now (head .entry)) r ⌝ }
 {
-    let h = wide(rec[p]);
-    let l = wide(rec[p + 1]);
+    let builtin = BitCursor { at: 0 }.take(head, 1);
+    let place = builtin.next.take(head, 5);
+    let len = place.next.take(head, 9);
+    let unused = len.next.take(head, 1);
+    RunHead {
+        builtin: builtin.value,
+        place: place.value,
+        len: len.value,
+        unused: unused.value,
+    }
+}
+
+fn run_shape(head: &[u8]) -> Shape
+    requires { ⌜ 2 ≤ length (now head) ⌝ }
+    ensures { λ r. ⌜ (r .name ≡ numberAt (now (head .entry)) 6 9) × (r .rest ≡ 0) × (r .name < 512) ⌝ }
+{
+    let h = run_head(head);
     Shape {
-        name: h % 4 * 128 + l / 2,
+        name: h.len,
         rest: 0,
     }
 }
@@ -107,9 +125,9 @@ fn shape_at(rec: &[u8], p: usize, kind: Kind) -> Shape
     ensures { λ r. ⌜ Shaped kind (drop p (now (rec .entry))) r ⌝ }
 {
     match kind {
-        Kind::Text => text_shape(rec, p),
-        Kind::Property => property_shape(rec, p),
-        Kind::Run => run_shape(rec, p),
+        Kind::Text => text_shape(rec[p]),
+        Kind::Property => property_shape(&rec[p..p + 2]),
+        Kind::Run => run_shape(&rec[p..p + 2]),
     }
 }
 

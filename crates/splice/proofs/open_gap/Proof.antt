@@ -2,11 +2,11 @@
 -- Assumes nothing.
 use Prim.Native.Nat.{ℕ, suc, _≤_, _<_, _-_, _+_}
 use mathlib.Core.Path.{_≡_, ap, _∙_, sym, refl}
-use mathlib.Core.List.{List, [], _∷_, _++_}
+use mathlib.Core.List.{List, _++_}
 use native.Mathlib.Omega.{arith}
 use lib.ListN.{length, take, drop, set, getD, length-set, length-take, List·getD-append, take-append-drop}
-use lib.Seq.{take-suc, getD-take, append-snoc, set-at, length-take-le}
-use Rattle.lists.proofs.Moves.{ap-at, part-none, part-cons}
+use lib.Seq.{getD-take}
+use Rattle.lists.proofs.Moves.{ap-at, part-none, part-cons, set-last}
 use Rattle.splice.specs.Moves.{part, opened}
 use Rattle.splice.proofs.open_gap.Statement.{statement}
 use Rattle.splice.proofs.open_gap.Tie as tie
@@ -27,18 +27,14 @@ turn : (t₀ : List ℕ) (j used n : ℕ) → j < used → used + n ≤ length t
     → set (opened t₀ (suc j) used n) (j + n) (getD (opened t₀ (suc j) used n) j 0) ≡ opened t₀ j used n
 turn t₀ j used n h k =
     let r : List ℕ = part t₀ (suc j) used ++ drop (used + n) t₀ in
-    let x : ℕ = getD t₀ (j + n) 0 in
     let v : ℕ = getD t₀ j 0 in
-    let f : List ℕ = take (j + n) t₀ in
     let read : getD (take (suc j + n) t₀ ++ r) j 0 ≡ v =
     List·getD-append (take (suc j + n) t₀) r 0 j (simp length-take (omega arith)) ∙ getD-take (suc j + n) t₀ j 0 (omega arith)
     in
-    let e : take (suc j + n) t₀ ≡ f ++ (x ∷ []) = ap-at (λ m. take m t₀) (suc j + n) (suc (j + n)) (omega arith) ∙ take-suc t₀ (j + n) 0 (omega arith) in
     ap (λ (m : ℕ). set (take (suc j + n) t₀ ++ r) (j + n) m) read
-    ∙ ap (λ (l : List ℕ). set (l ++ r) (j + n) v) e
-    ∙ ap (λ (l : List ℕ). set l (j + n) v) (append-snoc f x r)
-    ∙ set-at f x r v (j + n) (length-take-le (j + n) t₀ (omega arith))
-    ∙ ap (λ (l : List ℕ). f ++ (l ++ drop (used + n) t₀)) (sym (part-cons t₀ j used h (omega arith)))
+    ∙ ap-at (λ m. set (take m t₀ ++ r) (j + n) v) (suc j + n) (suc (j + n)) (omega arith)
+    ∙ set-last t₀ r (j + n) v (omega arith)
+    ∙ ap (λ (l : List ℕ). take (j + n) t₀ ++ (l ++ drop (used + n) t₀)) (sym (part-cons t₀ j used h (omega arith)))
 
 step : (t₀ t : List ℕ) (k used n : ℕ) → 0 < k → k ≤ used → used + n ≤ length t₀ → t ≡ opened t₀ k used n
     → set t (k - 1 + n) (getD t (k - 1) 0) ≡ opened t₀ (k - 1) used n

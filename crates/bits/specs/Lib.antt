@@ -1,0 +1,4 @@
+pub mod Bits
+pub mod Fields
+pub mod Signed
+pub mod Cursor
