@@ -2,10 +2,10 @@
 use Prim.Native.Nat.{ℕ, zero, suc, _+_}
 use Prim.Native.String.{String}
 use mathlib.Core.Path.{_≡_, refl}
-use mathlib.Core.Bool.{Bool, true, false, not, _&&_}
+use mathlib.Core.Bool.{Bool, true, false, not}
 use mathlib.Core.List.{List, [], _∷_, _++_}
 use mathlib.Core.Option.{Option, none, some}
-use lib.ListN.{length, take, drop, set, replicate}
+use lib.ListN.{take, drop, set, replicate}
 use Rattle.lists.specs.Lists.{isSome}
 use Rattle.lists.specs.Bytes.{sameBytes}
 use Rattle.lists.specs.Runs.{splitAt}
@@ -14,7 +14,7 @@ use Rattle.bits.specs.Bits.{toBits, fromBits, bitsOf, bytesOf, numberAt}
 use Rattle.bits.specs.Fields.{packed}
 use Rattle.entries.specs.Entry.{Property}
 use Rattle.device.specs.Head.{header, lensBytes}
-use Rattle.device.specs.Device.{Member, Device, nameOf, attrOf, actionNames, actionOf, memberAt, encode, decode}
+use Rattle.device.specs.Device.{Member, Device, nameOf, attrOf, actionNames, actionOf, encode, decode}
 
 pub data Case : Type 0 where
   -- a sound record, which its device packs to again

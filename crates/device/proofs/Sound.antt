@@ -1,11 +1,10 @@
 -- What holds of every device that was read from a record.
 -- Assumes nothing.
 use Prim.Native.Nat.{ℕ, _≤_, _<_}
-use mathlib.Core.Path.{_≡_, refl, sym, ap, _∙_, subst}
-use mathlib.Core.Bool.{Bool, true, false, _&&_, _||_}
-use mathlib.Core.List.{List, [], _∷_}
-use mathlib.Core.Option.{none, some}
-use native.Mathlib.Omega.{arith}
+use mathlib.Core.Path.{_≡_, sym, ap, _∙_, subst}
+use mathlib.Core.Bool.{true, _&&_, _||_}
+use mathlib.Core.List.{List, []}
+use mathlib.Core.Option.{some}
 use lib.ListN.{length}
 use lib.Dec.{leb, eqb}
 use borrow.Author.Tests.{leb-true}
@@ -13,13 +12,14 @@ use Rattle.lists.specs.Lists.{all}
 use Rattle.lists.specs.Bytes.{distinct}
 use Rattle.lists.proofs.Tests.{and-both}
 use Rattle.bits.proofs.Numbers.{number-lt}
-use Rattle.entries.specs.Parse.{Parse, got, bad, many}
+use Rattle.entries.specs.Parse.{got, many}
 use Rattle.entries.specs.Entry.{exactly, Property, okProp, oneProp, keys}
 use Rattle.entries.proofs.Rows.{through, many-kept}
 use Rattle.entries.proofs.Entries.{kept, property-kept}
-use Rattle.lists.specs.Sizes.{mostChain, mostDevice, mostProperties}
+use Rattle.lists.specs.Sizes.{mostChain, mostProperties}
 use Rattle.device.specs.Head.{Head, headOf}
-use Rattle.device.specs.Device.{Member, Device, okMember, okHead, memberOf, readLens, oneMember, deviceOf, rising, readHead, parts, whole, ended, decode}
+use Rattle.device.proofs.RoundTrip.{decoded}
+use Rattle.device.specs.Device.{Member, Device, okMember, okHead, memberOf, readLens, oneMember, deviceOf, rising, readHead, parts, decode}
 
 -- ---- one device of the chain
 
@@ -69,41 +69,9 @@ parts-sound bs d r e =
         let p : deviceOf h ps m ms ≡ d = cc in
         subst Sound p (record { event = a; parents = b; few = c; properties = i; few-properties = j })
 
-ended-sound : (p : Parse Device) (d : Device) → ((r : List ℕ) → p ≡ got d r → Sound d) → ended p ≡ some d → Sound d
-ended-sound bad d f e = let z : _≡_ {A = ℕ} 0 1 = cc in absurd (omega arith)
-ended-sound (got v (b ∷ bs)) d f e = let z : _≡_ {A = ℕ} 0 1 = cc in absurd (omega arith)
-ended-sound (got v []) d f e = at (whole v) refl e
-  where
-    at : (t : Bool) → whole v ≡ t → ended (got v []) ≡ some d → Sound d
-    at true h e = let q : some v ≡ some d = rw (h, ended) at e in let w : v ≡ d = cc in f [] (ap (λ (x : Device). got x []) w)
-    at false h e = let q : none ≡ some d = rw (h, ended) at e in let z : _≡_ {A = ℕ} 0 1 = cc in absurd (omega arith)
-
 pub device-sound : (bs : List ℕ) (d : Device) → decode bs ≡ some d → Sound d
-unfolding decode
-device-sound bs d e = at (leb (length bs) mostDevice) refl e
-  where
-    at : (t : Bool) → leb (length bs) mostDevice ≡ t → decode bs ≡ some d → Sound d
-    at true h e = let q : ended (parts bs) ≡ some d = rw (h, decode) at e in ended-sound (parts bs) d (λ r p. parts-sound bs d r p) q
-    at false h e = let q : none ≡ some d = rw (h, decode) at e in let z : _≡_ {A = ℕ} 0 1 = cc in absurd (omega arith)
+device-sound bs d e = parts-sound bs d [] (decoded bs d e .1)
 
 -- no property key stands twice
 pub device-distinct : (bs : List ℕ) (d : Device) → decode bs ≡ some d → distinct (keys (d .properties)) ≡ true
-unfolding decode
-device-distinct bs d e = at (leb (length bs) mostDevice) refl e
-  where
-    of-ended : (p : Parse Device) → ended p ≡ some d → distinct (keys (d .properties)) ≡ true
-    of-ended bad e = let z : _≡_ {A = ℕ} 0 1 = cc in absurd (omega arith)
-    of-ended (got v (b ∷ bs)) e = let z : _≡_ {A = ℕ} 0 1 = cc in absurd (omega arith)
-    of-ended (got v []) e = by (whole v) refl e
-      where
-        by : (t : Bool) → whole v ≡ t → ended (got v []) ≡ some d → distinct (keys (d .properties)) ≡ true
-        by true h e =
-            let q : some v ≡ some d = rw (h, ended) at e in
-            let w : v ≡ d = cc in
-            let a : whole d ≡ true = ap whole (sym w) ∙ h in
-            and-both (distinct (keys (d .properties))) (rising (d .event) (d .parents)) a .0
-        by false h e = let q : none ≡ some d = rw (h, ended) at e in let z : _≡_ {A = ℕ} 0 1 = cc in absurd (omega arith)
-
-    at : (t : Bool) → leb (length bs) mostDevice ≡ t → decode bs ≡ some d → distinct (keys (d .properties)) ≡ true
-    at true h e = let q : ended (parts bs) ≡ some d = rw (h, decode) at e in of-ended (parts bs) q
-    at false h e = let q : none ≡ some d = rw (h, decode) at e in let z : _≡_ {A = ℕ} 0 1 = cc in absurd (omega arith)
+device-distinct bs d e = and-both (distinct (keys (d .properties))) (rising (d .event) (d .parents)) (decoded bs d e .2) .0

@@ -4,6 +4,7 @@ pub mod Rest
 pub mod Bytes
 pub mod Runs
 pub mod Items
+pub mod Places
 pub mod Moves
 pub mod Scan
 pub mod Checked

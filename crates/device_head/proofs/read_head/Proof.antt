@@ -1,0 +1,84 @@
+-- `device_head::read_head` meets its contract.
+-- Assumes nothing.
+use Prim.Native.Nat.{ℕ, _+_}
+use mathlib.Core.Path.{_≡_, refl, ap, _∙_}
+use native.Mathlib.Omega.{arith}
+use borrow.Author.Needs.{needs}
+use Rattle.device_head.proofs.Fields.{head-field}
+use Rattle.device_head.proofs.read_head.Statement.{statement}
+use Rattle.device_head.proofs.read_head.Tie as tie
+
+-- src/lib.rt:38:9
+take-requires : tie.Need-take-requires
+take-requires c κs = search needs
+
+-- src/lib.rt:39:9
+take-requires-2 : tie.Need-take-requires-2
+take-requires-2 c κs = search needs
+
+-- src/lib.rt:40:9
+take-requires-3 : tie.Need-take-requires-3
+take-requires-3 c κs = search needs
+
+-- src/lib.rt:41:9
+take-requires-4 : tie.Need-take-requires-4
+take-requires-4 c κs = search needs
+
+-- src/lib.rt:42:9
+take-requires-5 : tie.Need-take-requires-5
+take-requires-5 c κs = search needs
+
+-- src/lib.rt:43:9
+take-requires-6 : tie.Need-take-requires-6
+take-requires-6 c κs = search needs
+
+-- src/lib.rt:44:9
+take-requires-7 : tie.Need-take-requires-7
+take-requires-7 c κs = search needs
+
+-- src/lib.rt:45:9
+take-requires-8 : tie.Need-take-requires-8
+take-requires-8 c κs = search needs
+
+-- src/lib.rt:34:1
+returns : tie.Need-returns
+returns c =
+    let l = c .before .before .before .before .before .before .before .before .before .args .rec .now in
+    let t1 = c .before .before .before .before .before .before .before .take in
+    let t2 = c .before .before .before .before .before .before .take2 in
+    let t3 = c .before .before .before .before .before .take3 in
+    let t4 = c .before .before .before .before .take4 in
+    let t5 = c .before .before .before .take5 in
+    let t6 = c .before .before .take6 in
+    let t7 = c .before .take7 in
+    let t8 = c .take8 in
+    let p1 : t1 .result .next .at ≡ 4 = t1 .ensures .next in
+    let p2 : t2 .result .next .at ≡ 8 = t2 .ensures .next ∙ ap (λ (x : ℕ). x + 4) p1 in
+    let p3 : t3 .result .next .at ≡ 11 = t3 .ensures .next ∙ ap (λ (x : ℕ). x + 3) p2 in
+    let p4 : t4 .result .next .at ≡ 12 = t4 .ensures .next ∙ ap (λ (x : ℕ). x + 1) p3 in
+    let p5 : t5 .result .next .at ≡ 24 = t5 .ensures .next ∙ ap (λ (x : ℕ). x + 12) p4 in
+    let p6 : t6 .result .next .at ≡ 44 = t6 .ensures .next ∙ ap (λ (x : ℕ). x + 20) p5 in
+    let p7 : t7 .result .next .at ≡ 50 = t7 .ensures .next ∙ ap (λ (x : ℕ). x + 6) p6 in
+    let e1 = head-field l 0 0 4 (t1 .result .value) (c .before .before .before .before .before .before .before .before .before .pre) refl (omega arith) (t1 .ensures .value) in
+    let e2 = head-field l (t1 .result .next .at) 4 4 (t2 .result .value) (c .before .before .before .before .before .before .before .before .before .pre) p1 (omega arith) (t2 .ensures .value) in
+    let e3 = head-field l (t2 .result .next .at) 8 3 (t3 .result .value) (c .before .before .before .before .before .before .before .before .before .pre) p2 (omega arith) (t3 .ensures .value) in
+    let e4 = head-field l (t3 .result .next .at) 11 1 (t4 .result .value) (c .before .before .before .before .before .before .before .before .before .pre) p3 (omega arith) (t4 .ensures .value) in
+    let e5 = head-field l (t4 .result .next .at) 12 12 (t5 .result .value) (c .before .before .before .before .before .before .before .before .before .pre) p4 (omega arith) (t5 .ensures .value) in
+    let e6 = head-field l (t5 .result .next .at) 24 20 (t6 .result .value) (c .before .before .before .before .before .before .before .before .before .pre) p5 (omega arith) (t6 .ensures .value) in
+    let e7 = head-field l (t6 .result .next .at) 44 6 (t7 .result .value) (c .before .before .before .before .before .before .before .before .before .pre) p6 (omega arith) (t7 .ensures .value) in
+    let e8 = head-field l (t7 .result .next .at) 50 6 (t8 .result .value) (c .before .before .before .before .before .before .before .before .before .pre) p7 (omega arith) (t8 .ensures .value) in
+    record { is = λ j. record { edition = e1 j; above = e2 j; action = e3 j; node = e4 j; major = e5 j; minor = e6 j; properties = e7 j; unused = e8 j }; above = t2 .ensures .below; properties = t7 .ensures .below }
+
+pub read-head-spec : {M : Type 1} → statement M
+read-head-spec =
+    tie.close
+    (tie.spec
+    take-requires
+    take-requires-2
+    take-requires-3
+    take-requires-4
+    take-requires-5
+    take-requires-6
+    take-requires-7
+    take-requires-8
+    returns)

@@ -1,0 +1,366 @@
+// The keys of a rule: the table of what each allows, and the key that a run of letters names.
+ghost use mathlib.Core.Path.{_≡_};
+ghost use mathlib.Core.Option.{some};
+ghost use Prim.Native.Nat.{_≤_, _<_};
+ghost use lib.ListN.{take};
+ghost use Rattle.lists.specs.Lists.{nth};
+ghost use Rattle.lists.specs.Bytes.{sameBytes};
+ghost use Rattle.rules.specs.Key as rules;
+ghost use Rattle.keys.specs.Table.{keyOf, operatorOf, allowedOf, rowOf, foundOf};
+ghost use Rattle.keys.specs.Slots.{slotOf, IsPlace, keyIn};
+
+pub enum Key {
+    Action,
+    Devpath,
+    Kernel,
+    Kernels,
+    Subsystem,
+    Subsystems,
+    Driver,
+    Drivers,
+    Attr,
+    Attrs,
+    Env,
+    Symlink,
+    Tag,
+    Owner,
+    Group,
+    Mode,
+    Run,
+    Label,
+    Goto,
+    Options,
+}
+
+// `==` `!=` `=` `+=` `-=` `:=`
+pub enum Operator {
+    Equal,
+    Unequal,
+    Assign,
+    Add,
+    Remove,
+    Final,
+}
+
+// The argument in braces that a key takes: none; one; or the type of a program, which may be absent.
+pub enum Takes {
+    Nothing,
+    One,
+    RunType,
+}
+
+// ---- the table
+
+// A bit for each operator that a key allows.
+const EQUAL: u8 = 1;
+
+const UNEQUAL: u8 = 2;
+
+const ASSIGN: u8 = 4;
+
+const ADD: u8 = 8;
+
+const REMOVE: u8 = 16;
+
+const FINAL: u8 = 32;
+
+const JUDGED: u8 = EQUAL + UNEQUAL;
+
+const EVERY: u8 = JUDGED + ASSIGN + ADD + REMOVE + FINAL;
+
+// The name is the first len bytes of name.
+pub struct Row {
+    pub name: [u8; 10],
+    pub len: u8,
+    pub key: Key,
+    pub takes: Takes,
+    pub operators: u8,
+}
+
+const ROWS: [Row; 20] = [
+    Row {
+        name: *b"ACTION\0\0\0\0",
+        len: 6,
+        key: Key::Action,
+        takes: Takes::Nothing,
+        operators: JUDGED,
+    },
+    Row {
+        name: *b"DEVPATH\0\0\0",
+        len: 7,
+        key: Key::Devpath,
+        takes: Takes::Nothing,
+        operators: JUDGED,
+    },
+    Row {
+        name: *b"KERNEL\0\0\0\0",
+        len: 6,
+        key: Key::Kernel,
+        takes: Takes::Nothing,
+        operators: JUDGED,
+    },
+    Row {
+        name: *b"KERNELS\0\0\0",
+        len: 7,
+        key: Key::Kernels,
+        takes: Takes::Nothing,
+        operators: JUDGED,
+    },
+    Row {
+        name: *b"SUBSYSTEM\0",
+        len: 9,
+        key: Key::Subsystem,
+        takes: Takes::Nothing,
+        operators: JUDGED,
+    },
+    Row {
+        name: *b"SUBSYSTEMS",
+        len: 10,
+        key: Key::Subsystems,
+        takes: Takes::Nothing,
+        operators: JUDGED,
+    },
+    Row {
+        name: *b"DRIVER\0\0\0\0",
+        len: 6,
+        key: Key::Driver,
+        takes: Takes::Nothing,
+        operators: JUDGED,
+    },
+    Row {
+        name: *b"DRIVERS\0\0\0",
+        len: 7,
+        key: Key::Drivers,
+        takes: Takes::Nothing,
+        operators: JUDGED,
+    },
+    Row {
+        name: *b"ATTR\0\0\0\0\0\0",
+        len: 4,
+        key: Key::Attr,
+        takes: Takes::One,
+        operators: JUDGED,
+    },
+    Row {
+        name: *b"ATTRS\0\0\0\0\0",
+        len: 5,
+        key: Key::Attrs,
+        takes: Takes::One,
+        operators: JUDGED,
+    },
+    Row {
+        name: *b"ENV\0\0\0\0\0\0\0",
+        len: 3,
+        key: Key::Env,
+        takes: Takes::One,
+        operators: JUDGED + ASSIGN,
+    },
+    Row {
+        name: *b"SYMLINK\0\0\0",
+        len: 7,
+        key: Key::Symlink,
+        takes: Takes::Nothing,
+        operators: EVERY,
+    },
+    Row {
+        name: *b"TAG\0\0\0\0\0\0\0",
+        len: 3,
+        key: Key::Tag,
+        takes: Takes::Nothing,
+        operators: EVERY,
+    },
+    Row {
+        name: *b"OWNER\0\0\0\0\0",
+        len: 5,
+        key: Key::Owner,
+        takes: Takes::Nothing,
+        operators: ASSIGN + FINAL,
+    },
+    Row {
+        name: *b"GROUP\0\0\0\0\0",
+        len: 5,
+        key: Key::Group,
+        takes: Takes::Nothing,
+        operators: ASSIGN + FINAL,
+    },
+    Row {
+        name: *b"MODE\0\0\0\0\0\0",
+        len: 4,
+        key: Key::Mode,
+        takes: Takes::Nothing,
+        operators: ASSIGN + FINAL,
+    },
+    Row {
+        name: *b"RUN\0\0\0\0\0\0\0",
+        len: 3,
+        key: Key::Run,
+        takes: Takes::RunType,
+        operators: ASSIGN + ADD + FINAL,
+    },
+    Row {
+        name: *b"LABEL\0\0\0\0\0",
+        len: 5,
+        key: Key::Label,
+        takes: Takes::Nothing,
+        operators: ASSIGN,
+    },
+    Row {
+        name: *b"GOTO\0\0\0\0\0\0",
+        len: 4,
+        key: Key::Goto,
+        takes: Takes::Nothing,
+        operators: ASSIGN,
+    },
+    Row {
+        name: *b"OPTIONS\0\0\0",
+        len: 7,
+        key: Key::Options,
+        takes: Takes::Nothing,
+        operators: ASSIGN + ADD,
+    },
+];
+
+pub fn row_at(k: usize) -> Row
+    requires { ⌜ k < 20 ⌝ }
+    ensures { λ r. ⌜ (nth k rules.rows ≡ some (rowOf r)) × (r .len ≤ 10) ⌝ }
+{
+    ROWS[k]
+}
+
+pub fn allowed(operators: u8, operator: Operator) -> bool
+    ensures { λ r. ⌜ r ≡ rules.allows (allowedOf operators) (operatorOf operator) ⌝ }
+{
+    match operator {
+        Operator::Equal => operators % 2 == 1,
+        Operator::Unequal => operators / 2 % 2 == 1,
+        Operator::Assign => operators / 4 % 2 == 1,
+        Operator::Add => operators / 8 % 2 == 1,
+        Operator::Remove => operators / 16 % 2 == 1,
+        Operator::Final => operators / 32 % 2 == 1,
+    }
+}
+
+// ---- lookup
+
+// The place of the one row whose name can have a slot, a number below 32 that differs for the names of the table.
+const PLACES: [u8; 32] = [
+    0,
+    0,
+    0,
+    10,
+    4,
+    8,
+    0,
+    0,
+    11,
+    14,
+    13,
+    0,
+    5,
+    9,
+    6,
+    0,
+    0,
+    12,
+    18,
+    16,
+    2,
+    1,
+    7,
+    19,
+    15,
+    17,
+    0,
+    0,
+    3,
+    0,
+    0,
+    0,
+];
+
+fn slot(name: &[u8]) -> usize
+    ensures { λ r. ⌜ r ≡ slotOf (now (name .entry)) ⌝ }
+{
+    let first = scan::byte_at(name, 0);
+    let second = scan::byte_at(name, 1);
+    (scan::wide(first) + 5 * scan::wide(second) + 8 * (name.len() % 4)) % 32
+}
+
+// The place of the one row that a name can have.
+fn place(name: &[u8]) -> usize
+    ensures { λ r. ⌜ (r < 20) × IsPlace (now (name .entry)) r ⌝ }
+{
+    let s = slot(name);
+    scan::wide(PLACES[s])
+}
+
+fn key_at(place: usize) -> Key
+    ensures { λ r. ⌜ keyOf r ≡ keyIn place rules.rows ⌝ }
+{
+    match place {
+        0 => Key::Action,
+        1 => Key::Devpath,
+        2 => Key::Kernel,
+        3 => Key::Kernels,
+        4 => Key::Subsystem,
+        5 => Key::Subsystems,
+        6 => Key::Driver,
+        7 => Key::Drivers,
+        8 => Key::Attr,
+        9 => Key::Attrs,
+        10 => Key::Env,
+        11 => Key::Symlink,
+        12 => Key::Tag,
+        13 => Key::Owner,
+        14 => Key::Group,
+        15 => Key::Mode,
+        16 => Key::Run,
+        17 => Key::Label,
+        18 => Key::Goto,
+        _ => Key::Options,
+    }
+}
+
+// Whether a run of letters is the first len bytes of a row's name.
+fn same_name(run: &[u8], name: [u8; 10], len: usize) -> bool
+    requires { ⌜ len ≤ 10 ⌝ }
+    ensures { λ r. ⌜ r ≡ sameBytes (take len name) (now (run .entry)) ⌝ }
+{
+    if run.len() != len {
+        return false;
+    }
+    let mut i: usize = 0;
+    while i < len {
+        if run[i] != name[i] {
+            return false;
+        }
+        i += 1;
+    }
+    true
+}
+
+// The key, the argument that it takes and the operators that it allows.
+pub enum KeyFound {
+    Known(Key, Takes, u8),
+    Unknown,
+}
+
+pub fn find_key(name: &[u8]) -> KeyFound
+    ensures { λ r. ⌜ foundOf (now (name .entry)) r ≡ rules.rowOf (now (name .entry)) ⌝ }
+{
+    let row = row_at(place(name));
+    let own = row.name;
+    if same_name(name, own, scan::wide(row.len)) {
+        let key = row.key;
+        let takes = row.takes;
+        return KeyFound::Known(key, takes, row.operators);
+    }
+    KeyFound::Unknown
+}
+
+// The key of a name that the table has.
+pub fn known_key(name: &[u8]) -> Key
+    ensures { λ r. ⌜ ((row : rules.Row) → rules.rowOf (now (name .entry)) ≡ some row → keyOf r ≡ row .key) ⌝ }
+{
+    key_at(place(name))
+}

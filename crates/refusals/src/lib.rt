@@ -1,0 +1,52 @@
+// The refusals of document 01's table, and their numbers.
+ghost use mathlib.Core.Path.{_≡_};
+ghost use Rattle.lists.specs.Refusal as refusal;
+ghost use Rattle.refusals.specs.Refusals.{refusalOf};
+
+pub enum Refusal {
+    TargetShort,
+    TextLong,
+    LineBad,
+    KeyBad,
+    ArgumentBad,
+    OperatorBad,
+    ValueBad,
+    ContentBad,
+    PairExtra,
+    CommaMissing,
+    RuleExtra,
+    LabelMissing,
+    DeviceBad,
+    OutcomeBad,
+    SubstitutionLong,
+    LinkBad,
+    ListFull,
+    OwnerBad,
+    ModeBad,
+}
+
+pub fn number(r: Refusal) -> u32
+    ensures { λ n. ⌜ n ≡ refusal.number (refusalOf r) ⌝ }
+{
+    match r {
+        Refusal::TargetShort => 1,
+        Refusal::TextLong => 2,
+        Refusal::LineBad => 10,
+        Refusal::KeyBad => 11,
+        Refusal::ArgumentBad => 12,
+        Refusal::OperatorBad => 13,
+        Refusal::ValueBad => 14,
+        Refusal::ContentBad => 15,
+        Refusal::PairExtra => 16,
+        Refusal::CommaMissing => 17,
+        Refusal::RuleExtra => 18,
+        Refusal::LabelMissing => 19,
+        Refusal::DeviceBad => 3,
+        Refusal::OutcomeBad => 4,
+        Refusal::SubstitutionLong => 30,
+        Refusal::LinkBad => 31,
+        Refusal::ListFull => 32,
+        Refusal::OwnerBad => 33,
+        Refusal::ModeBad => 34,
+    }
+}
