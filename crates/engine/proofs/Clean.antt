@@ -9,20 +9,21 @@ use native.Mathlib.Omega.{arith}
 use lib.ListN.{length, drop}
 use lib.Dec.{leb, ltb, eqb}
 use borrow.Author.Tests.{ne-eqb}
-use Rattle.lists.specs.Lists.{pick, all, nth}
+use Rattle.lists.specs.Lists.{pick, all, nth, All}
 use Rattle.lists.specs.Bytes.{isSpace, isDigit, starts, clean, distinct}
 use Rattle.lists.specs.Runs.{Part, splitAt}
 use Rattle.lists.specs.Items.{Item, before, itemThen, items, inBraces}
 use Rattle.lists.proofs.Tests.{and-both, both-and}
-use Rattle.lists.proofs.Lists.{all-append, all-map}
+use Rattle.lists.proofs.Lists.{all-append, all-map, pick-both}
 use Rattle.lists.proofs.Bytes.{split-clean, last-clean, trim-clean, digits-clean}
 use Rattle.entries.specs.Entry.{Property, okProp, keys, lookup, orEmpty}
 use Rattle.entries.proofs.Entries.{Clean, lookup-clean}
 use Rattle.template.specs.Template as T
-use Rattle.template.specs.Template.{Piece, Form, plain, braced, letter, Named, names, nameIn, lettered, letterAt, withBraces, bracesBy, bracesAt, formed, formAt, Sign, dollar-sign, percent-sign, no-sign, signOf, pieceBy, pieceAt, pieces}
+use Rattle.template.specs.Decimal.{decimalOn, decimal}
+use Rattle.template.specs.Template.{Piece, Form, plain, braced, Named, names, letters, nameIn, textIn, withText, formed, namedPiece, Sign, dollar-sign, percent-sign, no-sign, signOf, pieceBy, pieceAt, pieces}
 use Rattle.device.specs.Device.{Member, Device, chain, nameOf, attrOf, memberAt, okPath, okMember}
 use Rattle.lists.specs.Sizes.{mostPath, mostSubsystem, mostAttributes}
-use Rattle.engine.specs.Substitute.{decimalOn, decimal, ofMatched, attrAt, firstOf, Source, matchedIn, inserted, isWritten, noSpace, pieceText, textOf, piecesOf, substituted}
+use Rattle.engine.specs.Substitute.{ofMatched, attrAt, firstOf, Source, matchedIn, inserted, isWritten, noSpace, pieceText, textOf, piecesOf, substituted}
 use Rattle.device.proofs.Sound.{Sound}
 
 -- ---- the pieces of a template without NUL
@@ -49,84 +50,42 @@ abbrev ItemOk : Option (Item Piece) → Type 0
 ItemOk none = Unit {0}
 ItemOk (some i) = cleanPiece (i .value) ≡ true
 
-abbrev FormItemOk : Option (Item Form) → Type 0
-FormItemOk none = Unit {0}
-FormItemOk (some i) = FormOk (i .value)
-
-abbrev FormOptOk : Option Form → Type 0
-FormOptOk none = Unit {0}
-FormOptOk (some f) = FormOk f
-
 abbrev AllOk : Option (List Piece) → Type 0
 AllOk none = Unit {0}
 AllOk (some ps) = all cleanPiece ps ≡ true
 
-pick-item : (t : Bool) (a b : Option (Item Form)) → FormItemOk a → FormItemOk b → FormItemOk (pick t a b)
-pick-item true a b h k = h
-pick-item false a b h k = k
+abbrev NameOk : Option Named → Type 0
+NameOk none = Unit {0}
+NameOk (some n) = FormOk (n .form)
 
-pick-form : (t : Bool) (a b : Option Form) → FormOptOk a → FormOptOk b → FormOptOk (pick t a b)
-pick-form true a b h k = h
-pick-form false a b h k = k
-
-letter-ok : (c : ℕ) → FormOptOk (letter c)
-unfolding letter
-letter-ok c =
-    pick-form (eqb c 107) (some (plain T.kernel)) _ refl
-    (pick-form (eqb c 110) (some (plain T.number)) _ refl
-    (pick-form (eqb c 112) (some (plain T.devpath)) _ refl
-    (pick-form (eqb c 98) (some (plain T.id)) _ refl
-    (pick-form (eqb c 115) (some (braced T.attr)) _ (λ k. refl)
-    (pick-form (eqb c 69) (some (braced T.env)) _ (λ k. refl)
-    (pick-form (eqb c 77) (some (plain T.major)) _ refl
-    (pick-form (eqb c 109) (some (plain T.minor)) _ refl
-    (pick-form (eqb c 37) (some (plain T.percent)) none refl tt))))))))
-
-lettered-ok : (o : Option Form) → FormOptOk o → FormItemOk (lettered o)
-lettered-ok none h = tt
-lettered-ok (some f) h = h
-
-letterAt-ok : (bs : List ℕ) → FormItemOk (letterAt bs)
-letterAt-ok [] = tt
-letterAt-ok (c ∷ bs) = lettered-ok (letter c) (letter-ok c)
-
-abbrev NamesOk : List Named → Type 0
-NamesOk [] = Unit {0}
-NamesOk (n ∷ ns) = FormOk (n .form) × NamesOk ns
-
-nameIn-ok : (ns : List Named) → NamesOk ns → (bs : List ℕ) → FormItemOk (nameIn ns bs)
+nameIn-ok : (ns : List Named) → All (λ (n : Named). FormOk (n .form)) ns → (bs : List ℕ) → NameOk (nameIn ns bs)
 unfolding nameIn
 nameIn-ok [] h bs = tt
-nameIn-ok (n ∷ ns) (h, k) bs =
-    pick-item (starts (n .name) bs) (some (record { value = n .form; more = length (n .name) })) (nameIn ns bs) h (nameIn-ok ns k bs)
+nameIn-ok (n ∷ ns) (h, k) bs = pick-both NameOk (starts (n .name) bs) (some n) (nameIn ns bs) h (nameIn-ok ns k bs)
 
-names-ok : NamesOk names
+names-ok : All (λ (n : Named). FormOk (n .form)) names
 unfolding names
 names-ok = (refl, (refl, (refl, (refl, (refl, ((λ k. refl), ((λ k. refl), (refl, (refl, (refl, tt))))))))))
 
-withBraces-ok : (f : List ℕ → Piece) (n : ℕ) (o : Option (Part (List ℕ))) → ((k : List ℕ) → cleanPiece (f k) ≡ true) → ItemOk (withBraces f n o)
-withBraces-ok f n none h = tt
-withBraces-ok f n (some p) h = h (p .value)
+letters-ok : All (λ (n : Named). FormOk (n .form)) letters
+unfolding letters
+letters-ok = (refl, (refl, (refl, (refl, ((λ k. refl), ((λ k. refl), (refl, (refl, (refl, tt)))))))))
 
-bracesBy-ok : (t : Bool) (f : List ℕ → Piece) (n : ℕ) (bs : List ℕ) → ((k : List ℕ) → cleanPiece (f k) ≡ true) → ItemOk (bracesBy t f n bs)
-bracesBy-ok true f n bs h = withBraces-ok f n (inBraces bs) h
-bracesBy-ok false f n bs h = tt
-
-bracesAt-ok : (f : List ℕ → Piece) (n : ℕ) (bs : List ℕ) → ((k : List ℕ) → cleanPiece (f k) ≡ true) → ItemOk (bracesAt f n bs)
-bracesAt-ok f n [] h = tt
-bracesAt-ok f n (b ∷ bs) h = bracesBy-ok (eqb b 123) f n bs h
+withText-ok : (f : List ℕ → Piece) (n : ℕ) (o : Option (List ℕ)) → ((k : List ℕ) → cleanPiece (f k) ≡ true) → ItemOk (withText f n o)
+withText-ok f n none h = tt
+withText-ok f n (some text) h = h text
 
 formed-ok : (f : Form) (n : ℕ) (rest : List ℕ) → FormOk f → ItemOk (formed f n rest)
 formed-ok (plain p) n rest h = h
-formed-ok (braced f) n rest h = bracesAt-ok f n rest h
+formed-ok (braced f) n rest h = withText-ok f n (textIn rest) h
 
-formAt-ok : (o : Option (Item Form)) (bs : List ℕ) → FormItemOk o → ItemOk (formAt o bs)
-formAt-ok none bs h = tt
-formAt-ok (some i) bs h = formed-ok (i .value) (i .more) (drop (i .more) bs) h
+named-ok : (o : Option Named) (bs : List ℕ) → NameOk o → ItemOk (namedPiece o bs)
+named-ok none bs h = tt
+named-ok (some n) bs h = formed-ok (n .form) (length (n .name)) (drop (length (n .name)) bs) h
 
 pieceBy-ok : (s : Sign) (b : ℕ) (bs : List ℕ) → not (eqb b 0) ≡ true → ItemOk (pieceBy s b bs)
-pieceBy-ok dollar-sign b bs h = formAt-ok (nameIn names bs) bs (nameIn-ok names names-ok bs)
-pieceBy-ok percent-sign b bs h = formAt-ok (letterAt bs) bs (letterAt-ok bs)
+pieceBy-ok dollar-sign b bs h = named-ok (nameIn names bs) bs (nameIn-ok names names-ok bs)
+pieceBy-ok percent-sign b bs h = named-ok (nameIn letters bs) bs (nameIn-ok letters letters-ok bs)
 pieceBy-ok no-sign b bs h = h
 
 before-ok : (p : Piece) (o : Option (List Piece)) → cleanPiece p ≡ true → AllOk o → AllOk (before p o)

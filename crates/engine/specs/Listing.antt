@@ -17,7 +17,7 @@ use Rattle.device.specs.Device as D
 use Rattle.outcome.specs.State as O
 use Rattle.outcome.specs.State.{State}
 use Rattle.text.specs.Run.{runChecked}
-use Rattle.engine.specs.Substitute.{decimal}
+use Rattle.template.specs.Decimal.{decimal}
 use Rattle.engine.specs.Operations.{engine, Command, commands}
 
 -- a digit in hexadecimal, lower case

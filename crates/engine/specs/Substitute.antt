@@ -13,17 +13,10 @@ use Rattle.lists.specs.Checked.{Checked, refused, ok}
 use Rattle.lists.specs.Refusal.{Refusal, substitution-long}
 use Rattle.lists.specs.Sizes.{mostSubstituted}
 use Rattle.entries.specs.Entry.{Property, lookup, orEmpty}
+use Rattle.template.specs.Decimal.{decimal}
 use Rattle.template.specs.Template as T
 use Rattle.template.specs.Template.{Piece, pieces}
 use Rattle.device.specs.Device.{Member, Device, nameOf, attrOf, memberAt}
-
--- a number below 10 ^ k in decimal, in front of what is written already
-unfoldable pub decimalOn : ℕ → ℕ → List ℕ → List ℕ
-decimalOn zero n done = done
-decimalOn (suc k) n done = elim (ltb n 10) [ true ↦ (48 + n) ∷ done | false ↦ decimalOn k (n / 10) ((48 + n % 10) ∷ done) ]
-
-abbrev pub decimal : ℕ → List ℕ
-decimal n = decimalOn 10 n []
 
 -- of the device at the matched place, if there is one
 abbrev pub ofMatched : Option Member → (Member → List ℕ) → List ℕ

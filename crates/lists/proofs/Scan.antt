@@ -9,12 +9,18 @@ use native.Mathlib.Numerals.{sub-one}
 use native.Mathlib.Nat.{le-of-suc-le-suc, not-suc-le-zero}
 use borrow.Author.Tests.{eq-eqb, not-true}
 use lib.Dec.{eqb}
-use lib.ListN.{length, getD, take, drop}
+use lib.ListN.{length, getD, take, drop, length-append}
 use Rattle.lists.specs.Lists.{all}
 use Rattle.lists.specs.Bytes.{isSpace, isDigit}
 use Rattle.lists.specs.Runs.{span, spanStep, onto, splitStep, splitAt, lastOf, trimStep, trim, endsInSpace, endDigits}
 use Rattle.lists.proofs.Tests.{and-both, both-and, and-false}
 use Rattle.lists.proofs.Rest.{rest-at}
+use Rattle.lists.proofs.Runs.{span-whole}
+
+-- ---- runs
+
+pub span-length : (p : ℕ → Bool) (bs : List ℕ) → length (span p bs .value) + length (span p bs .rest) ≡ length bs
+span-length p bs = sym (length-append (span p bs .value) (span p bs .rest)) ∙ ap length (span-whole p bs)
 
 -- ---- parts between separators
 

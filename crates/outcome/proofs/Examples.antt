@@ -33,7 +33,7 @@ packs none bs = false
 packs (some s) bs = sameBytes (encode s) bs
 
 unfoldable pub right : Case → Bool
-unfolding bytes sameBytes splitAt items inBraces span starts T.letter T.names T.nameIn T.pieces T.wellFormed toBits fromBits bitsOf bytesOf numberAt packed header encode decode
+unfolding bytes sameBytes splitAt items inBraces span starts T.names T.letters T.nameIn T.pieces T.wellFormed toBits fromBits bitsOf bytesOf numberAt packed header encode decode
 right (sound name n bs) = packs (decode n bs) bs
 right (faulty name n bs) = not (isSome (decode n bs))
 right (sized name n bs) = eqb (length bs) n

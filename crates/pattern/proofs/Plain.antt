@@ -5,7 +5,7 @@ use mathlib.Core.Path.{_≡_, refl, ap, _∙_}
 use mathlib.Core.Bool.{Bool, true, false, not, _&&_, _||_, or-false}
 use mathlib.Core.List.{List, [], _∷_}
 use mathlib.Core.Option.{Option, none, some}
-use borrow.Author.Tests.{not-true}
+use borrow.Author.Tests.{not-true, eqb-false}
 use lib.Dec.{eqb}
 use Rattle.lists.specs.Lists.{isSome, all}
 use Rattle.lists.specs.Bytes.{sameBytes}
@@ -16,21 +16,24 @@ use Rattle.pattern.specs.Pattern.{Element, byte, elementAt, elements, ta
 use Rattle.pattern.proofs.Elements.{elements-at, match-empty, match-single}
 
 module _ (b : ℕ) where
-  not-special : isSpecial b ≡ false → (eqb b 42 ≡ false) × (eqb b 63 ≡ false) × (eqb b 91 ≡ false) × (eqb b 124 ≡ false)
-  not-special h =
+  tests : isSpecial b ≡ false → (eqb b 42 ≡ false) × (eqb b 63 ≡ false) × (eqb b 91 ≡ false) × (eqb b 124 ≡ false)
+  tests h =
       let (h3, d) = neither (eqb b 42 || eqb b 63 || eqb b 91) (eqb b 124) h in
       let (h2, c) = neither (eqb b 42 || eqb b 63) (eqb b 91) h3 in
       let (a, e) = neither (eqb b 42) (eqb b 63) h2 in
       (a, e, c, d)
 
+  pub not-special : isSpecial b ≡ false → (b ≡ 42 → ⊥) × (b ≡ 63 → ⊥) × (b ≡ 91 → ⊥) × (b ≡ 124 → ⊥)
+  not-special h = let n = tests h in (eqb-false b 42 (n .0), eqb-false b 63 (n .1), eqb-false b 91 (n .2), eqb-false b 124 (n .3))
+
   plain-byte : (bs : List ℕ) → isSpecial b ≡ false → elementAt b bs ≡ some (record { value = byte b; more = 0 })
-  plain-byte bs h = let n = not-special h in rw (n .0, n .1, n .2)
+  plain-byte bs h = let n = tests h in rw (n .0, n .1, n .2)
 
 no-bar : (p : List ℕ) → isPlain p ≡ true → all (λ x. not (eqb x 124)) p ≡ true
 no-bar [] h = refl
 no-bar (b ∷ p) h =
     let (q, r) = and-both (not (isSpecial b)) (isPlain p) h in
-    let n = not-special b (not-true (isSpecial b) q) in
+    let n = tests b (not-true (isSpecial b) q) in
     rw (n .3, no-bar p r)
 
 plain-elements : (p : List ℕ) → isPlain p ≡ true → isSome (elements p) ≡ true

@@ -227,5 +227,5 @@ examples =
     ∷ []
 
 pub shown : wrong examples ≡ []
-unfolding wrong right numbered examples bytes built many nameOf argumentText pairText ruleText rulesText sameBytes starts span splitAt items inBraces pattern.members pattern.bodyOf pattern.elements pattern.wellFormed template.letter template.names template.nameIn template.pieces template.wellFormed rows rowIn rowOf valueOf digitsFrom integerOf settingOf readKey isType readArgument readOp quoted unescape readValue sound readPair readPairs readLine lines collect goesTo settle text.readText
+unfolding wrong right numbered examples bytes built many nameOf argumentText pairText ruleText rulesText sameBytes starts span splitAt items inBraces pattern.members pattern.bodyOf pattern.elements pattern.wellFormed template.names template.letters template.nameIn template.pieces template.wellFormed rows rowIn rowOf valueOf digitsFrom integerOf settingOf readKey isType readArgument readOp quoted unescape readValue sound readPair readPairs readLine lines collect goesTo settle text.readText
 shown = refl

@@ -1,4 +1,4 @@
--- Templates ("Patterns and templates"): their pieces, and what is well formed.
+-- Document 01, Patterns and templates: the pieces of a template, and what is well formed.
 -- Assumes nothing.
 use Prim.Native.Nat.{ℕ, _+_}
 use mathlib.Core.Bool.{Bool, true, false}
@@ -12,33 +12,17 @@ use Rattle.lists.specs.Runs.{Part}
 use Rattle.lists.specs.Items.{inBraces, Item, items}
 use Rattle.lists.specs.Quoted.{bytes}
 
--- a written byte, a part to be inserted, or one of the two signs for itself
+-- a written byte, something to be inserted, or one of the two signs for itself
 pub data Piece : Type 0 where
   written : ℕ → Piece
   kernel number devpath id driver major minor : Piece
   attr env : List ℕ → Piece
   dollar percent : Piece
 
--- what a name or a letter stands for: a piece, or one with a text in braces
+-- what a name stands for: a piece, or one that takes a text in braces
 pub data Form : Type 0 where
   plain : Piece → Form
   braced : (List ℕ → Piece) → Form
-
--- ---- the letters behind a per cent sign
-
-unfoldable pub letter : ℕ → Option Form
-letter c =
-    pick (eqb c 107) (some (plain kernel))
-    (pick (eqb c 110) (some (plain number))
-    (pick (eqb c 112) (some (plain devpath))
-    (pick (eqb c 98) (some (plain id))
-    (pick (eqb c 115) (some (braced attr))
-    (pick (eqb c 69) (some (braced env))
-    (pick (eqb c 77) (some (plain major))
-    (pick (eqb c 109) (some (plain minor))
-    (pick (eqb c 37) (some (plain percent)) none))))))))
-
--- ---- the names behind a dollar sign
 
 pub record Named : Type 0 where
   pub name : List ℕ
@@ -47,6 +31,7 @@ pub record Named : Type 0 where
 abbrev named : List ℕ → Form → Named
 named n f = record { name = n; form = f }
 
+-- behind `$`
 unfoldable pub names : List Named
 unfolding bytes
 names =
@@ -62,41 +47,56 @@ names =
     ∷ named (bytes "$") (plain dollar)
     ∷ []
 
--- the first name that starts the text, with its length
-unfoldable pub nameIn : List Named → List ℕ → Option (Item Form)
+-- behind `%`
+unfoldable pub letters : List Named
+unfolding bytes
+letters =
+    named (bytes "k") (plain kernel)
+    ∷ named (bytes "n") (plain number)
+    ∷ named (bytes "p") (plain devpath)
+    ∷ named (bytes "b") (plain id)
+    ∷ named (bytes "s") (braced attr)
+    ∷ named (bytes "E") (braced env)
+    ∷ named (bytes "M") (plain major)
+    ∷ named (bytes "m") (plain minor)
+    ∷ named (bytes "%") (plain percent)
+    ∷ []
+
+-- the first name of a table that begins a text, whatever follows it there
+unfoldable pub nameIn : List Named → List ℕ → Option Named
 nameIn [] bs = none
-nameIn (n ∷ ns) bs = pick (starts (n .name) bs) (some (record { value = n .form; more = length (n .name) })) (nameIn ns bs)
+nameIn (n ∷ ns) bs = pick (starts (n .name) bs) (some n) (nameIn ns bs)
+
+-- ---- a text in braces
+
+abbrev pub inside : Option (Part (List ℕ)) → Option (List ℕ)
+inside none = none
+inside (some p) = some (p .value)
+
+abbrev pub textBy : Bool → List ℕ → Option (List ℕ)
+textBy true bs = inside (inBraces bs)
+textBy false bs = none
+
+-- 1 to 64 bytes between the brace that begins a list and the next closing one
+abbrev pub textIn : List ℕ → Option (List ℕ)
+textIn [] = none
+textIn (b ∷ bs) = textBy (eqb b 123) bs
 
 -- ---- the pieces
 
-abbrev pub lettered : Option Form → Option (Item Form)
-lettered none = none
-lettered (some f) = some (record { value = f; more = 1 })
+-- a text and its braces, behind n bytes
+abbrev pub withText : (List ℕ → Piece) → ℕ → Option (List ℕ) → Option (Item Piece)
+withText f n none = none
+withText f n (some text) = some (record { value = f text; more = n + length text + 2 })
 
-abbrev pub letterAt : List ℕ → Option (Item Form)
-letterAt [] = none
-letterAt (c ∷ bs) = lettered (letter c)
-
-abbrev pub withBraces : (List ℕ → Piece) → ℕ → Option (Part (List ℕ)) → Option (Item Piece)
-withBraces f n none = none
-withBraces f n (some p) = some (record { value = f (p .value); more = n + length (p .value) + 2 })
-
-abbrev pub bracesBy : Bool → (List ℕ → Piece) → ℕ → List ℕ → Option (Item Piece)
-bracesBy true f n bs = withBraces f n (inBraces bs)
-bracesBy false f n bs = none
-
-abbrev pub bracesAt : (List ℕ → Piece) → ℕ → List ℕ → Option (Item Piece)
-bracesAt f n [] = none
-bracesAt f n (b ∷ bs) = bracesBy (eqb b 123) f n bs
-
--- a form of n bytes behind its sign, and the rest behind those
+-- a form behind n bytes of its name
 abbrev pub formed : Form → ℕ → List ℕ → Option (Item Piece)
 formed (plain p) n rest = some (record { value = p; more = n })
-formed (braced f) n rest = bracesAt f n rest
+formed (braced f) n rest = withText f n (textIn rest)
 
-abbrev pub formAt : Option (Item Form) → List ℕ → Option (Item Piece)
-formAt none bs = none
-formAt (some i) bs = formed (i .value) (i .more) (drop (i .more) bs)
+abbrev pub namedPiece : Option Named → List ℕ → Option (Item Piece)
+namedPiece none bs = none
+namedPiece (some n) bs = formed (n .form) (length (n .name)) (drop (length (n .name)) bs)
 
 pub data Sign : Type 0 where
   dollar-sign percent-sign no-sign : Sign
@@ -105,14 +105,14 @@ abbrev pub signOf : ℕ → Sign
 signOf b = pick (eqb b 36) dollar-sign (pick (eqb b 37) percent-sign no-sign)
 
 abbrev pub pieceBy : Sign → ℕ → List ℕ → Option (Item Piece)
-pieceBy dollar-sign b bs = formAt (nameIn names bs) bs
-pieceBy percent-sign b bs = formAt (letterAt bs) bs
+pieceBy dollar-sign b bs = namedPiece (nameIn names bs) bs
+pieceBy percent-sign b bs = namedPiece (nameIn letters bs) bs
 pieceBy no-sign b bs = some (record { value = written b; more = 0 })
 
 abbrev pub pieceAt : ℕ → List ℕ → Option (Item Piece)
 pieceAt b bs = pieceBy (signOf b) b bs
 
--- the pieces of a template from left to right, or none for a fault
+-- the pieces of a template from left to right; none for a fault
 unfoldable pub pieces : List ℕ → Option (List Piece)
 pieces template = items pieceAt 0 template
 

@@ -1,1 +1,1 @@
-// definitions; no code
+// Definitions of templates; no code.

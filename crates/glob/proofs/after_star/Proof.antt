@@ -1,0 +1,112 @@
+-- `glob::after_star` meets its contract.
+-- Assumes nothing.
+use Prim.Native.Nat.{_+_, _-_, _*_}
+use native.Mathlib.Omega.{arith}
+use borrow.Author.Needs.{needs}
+use lib.ListN.{length}
+use Rattle.glob.proofs.Search.{Searching, search-begins, search-done, search-star, search-eat, search-miss, search-stop, further-less, later-less}
+use Rattle.glob.specs.declared.Step.the-variants.{Done, Star, Miss, Stop}
+use Rattle.glob.specs.Step.{StepIs, Eaten}
+use Rattle.glob.proofs.after_star.Statement.{statement}
+use Rattle.glob.proofs.after_star.Tie as tie
+
+abbrev Inv-loop : tie.InvT-loop
+Inv-loop pattern star value from behind₀ start₀ p₀ t₀ behind start p t = Searching pattern star value from behind start p t
+
+abbrev μ-loop : tie.MeasureT-loop
+μ-loop pattern star value from behind₀ start₀ p₀ t₀ behind start p t = (length value - start) * (length pattern + 1) + (length pattern - p)
+
+loop-holds : tie.Need-loop-holds Inv-loop μ-loop
+loop-holds c = search-begins (c .before .before .args .pattern .now) (c .before .before .args .star) (c .before .before .args .value .now) (c .before .before .args .from) (c .before .before .pre .0) (c .before .before .pre .1)
+
+step-at-requires : tie.Need-step-at-requires Inv-loop μ-loop
+step-at-requires c κs = c .loop .inv .place-in
+
+enum-told : tie.Need-enum-told Inv-loop μ-loop
+enum-told c = search needs
+
+returns : tie.Need-returns Inv-loop μ-loop
+returns c =
+    let w : StepIs Done (c .before .before .before .before .before .before .args .pattern .now) (c .before .before .before .loop .p) (c .before .before .before .before .before .before .args .value .now) (c .before .before .before .loop .t) = rw (c .enum-told .given .1) at (c .before .before .step-at .ensures) in search-done (c .before .before .before .before .before .before .args .pattern .now) (c .before .before .before .before .before .before .args .star) (c .before .before .before .before .before .before .args .value .now) (c .before .before .before .before .before .before .args .from) (c .before .before .before .loop .behind) (c .before .before .before .loop .start) (c .before .before .before .loop .p) (c .before .before .before .loop .t) (c .before .before .before .loop .inv) w
+
+enum-told-2 : tie.Need-enum-told-2 Inv-loop μ-loop
+enum-told-2 c = search needs
+
+add-behind : tie.Need-add-behind Inv-loop μ-loop
+add-behind c =
+    let w : StepIs Star (c .before .before .before .before .before .before .args .pattern .now) (c .before .before .before .loop .p) (c .before .before .before .before .before .before .args .value .now) (c .before .before .before .loop .t) = rw (c .enum-told2 .given .1) at (c .before .before .step-at .ensures) in omega (arith, w .0)
+
+loop-less : tie.Need-loop-less Inv-loop μ-loop
+loop-less c =
+    let w : StepIs Star (c .before .before .before .before .before .before .args .pattern .now) (c .before .before .before .loop .p) (c .before .before .before .before .before .before .args .value .now) (c .before .before .before .loop .t) = rw (c .enum-told2 .given .1) at (c .before .before .step-at .ensures) in further-less (length (c .before .before .before .before .before .before .args .value .now) - c .before .before .before .loop .t) (length (c .before .before .before .before .before .before .args .value .now) - c .before .before .before .loop .start) (length (c .before .before .before .before .before .before .args .pattern .now) + 1) (length (c .before .before .before .before .before .before .args .pattern .now) - (c .before .before .before .loop .p + 1)) (length (c .before .before .before .before .before .before .args .pattern .now) - c .before .before .before .loop .p) (omega (arith, c .before .before .before .loop .inv .ahead)) (omega (arith, w .0))
+
+loop-again : tie.Need-loop-again Inv-loop μ-loop
+loop-again c =
+    let w : StepIs Star (c .before .before .before .before .before .before .args .pattern .now) (c .before .before .before .loop .p) (c .before .before .before .before .before .before .args .value .now) (c .before .before .before .loop .t) = rw (c .enum-told2 .given .1) at (c .before .before .step-at .ensures) in search-star (c .before .before .before .before .before .before .args .pattern .now) (c .before .before .before .before .before .before .args .star) (c .before .before .before .before .before .before .args .value .now) (c .before .before .before .before .before .before .args .from) (c .before .before .before .loop .behind) (c .before .before .before .loop .start) (c .before .before .before .loop .p) (c .before .before .before .loop .t) (c .before .before .before .loop .inv) w
+
+enum-known-next : tie.Need-enum-known-next Inv-loop μ-loop
+enum-known-next c = search needs
+
+add-t : tie.Need-add-t Inv-loop μ-loop
+add-t c =
+    let w : Eaten (c .before .before .before .before .before .before .before .args .pattern .now) (c .before .before .before .before .loop .p) (c .before .before .before .before .before .before .before .args .value .now) (c .before .before .before .before .loop .t) (c .before .next .given .0 .0) = rw (c .before .next .given .1) at (c .before .before .before .step-at .ensures) in omega (arith, w .byte)
+
+loop-less-2 : tie.Need-loop-less-2 Inv-loop μ-loop
+loop-less-2 c =
+    let w : Eaten (c .before .before .before .before .before .before .before .args .pattern .now) (c .before .before .before .before .loop .p) (c .before .before .before .before .before .before .before .args .value .now) (c .before .before .before .before .loop .t) (c .before .next .given .0 .0) = rw (c .before .next .given .1) at (c .before .before .before .step-at .ensures) in further-less (length (c .before .before .before .before .before .before .before .args .value .now) - c .before .before .before .before .loop .start) (length (c .before .before .before .before .before .before .before .args .value .now) - c .before .before .before .before .loop .start) (length (c .before .before .before .before .before .before .before .args .pattern .now) + 1) (length (c .before .before .before .before .before .before .before .args .pattern .now) - c .before .next .given .0 .0) (length (c .before .before .before .before .before .before .before .args .pattern .now) - c .before .before .before .before .loop .p) (omega arith) (omega (arith, w .forward, w .inside))
+
+loop-again-2 : tie.Need-loop-again-2 Inv-loop μ-loop
+loop-again-2 c =
+    let w : Eaten (c .before .before .before .before .before .before .before .args .pattern .now) (c .before .before .before .before .loop .p) (c .before .before .before .before .before .before .before .args .value .now) (c .before .before .before .before .loop .t) (c .before .next .given .0 .0) = rw (c .before .next .given .1) at (c .before .before .before .step-at .ensures) in search-eat (c .before .before .before .before .before .before .before .args .pattern .now) (c .before .before .before .before .before .before .before .args .star) (c .before .before .before .before .before .before .before .args .value .now) (c .before .before .before .before .before .before .before .args .from) (c .before .before .before .before .loop .behind) (c .before .before .before .before .loop .start) (c .before .before .before .before .loop .p) (c .before .before .before .before .loop .t) (c .before .before .before .before .loop .inv) (c .before .next .given .0 .0) w
+
+enum-told-3 : tie.Need-enum-told-3 Inv-loop μ-loop
+enum-told-3 c = search needs
+
+add-next-start : tie.Need-add-next-start Inv-loop μ-loop
+add-next-start c =
+    let w : StepIs Miss (c .before .before .before .before .before .before .args .pattern .now) (c .before .before .before .loop .p) (c .before .before .before .before .before .before .args .value .now) (c .before .before .before .loop .t) = rw (c .enum-told3 .given .1) at (c .before .before .step-at .ensures) in omega (arith, w .0, c .before .before .before .loop .inv .ahead)
+
+next-start-requires : tie.Need-next-start-requires Inv-loop μ-loop
+next-start-requires c κs =
+    let w : StepIs Miss (c .before .before .before .before .before .before .args .pattern .now) (c .before .before .before .loop .p) (c .before .before .before .before .before .before .args .value .now) (c .before .before .before .loop .t) = rw (c .enum-told3 .given .1) at (c .before .before .step-at .ensures) in omega (arith, w .0, c .before .before .before .loop .inv .ahead)
+
+loop-less-3 : tie.Need-loop-less-3 Inv-loop μ-loop
+loop-less-3 c =
+    let w : StepIs Miss (c .before .before .before .before .before .before .before .args .pattern .now) (c .before .before .before .before .loop .p) (c .before .before .before .before .before .before .before .args .value .now) (c .before .before .before .before .loop .t) = rw (c .before .enum-told3 .given .1) at (c .before .before .before .step-at .ensures) in later-less (length (c .before .before .before .before .before .before .before .args .value .now) - c .next-start .result) (length (c .before .before .before .before .before .before .before .args .value .now) - c .before .before .before .before .loop .start) (length (c .before .before .before .before .before .before .before .args .pattern .now)) (length (c .before .before .before .before .before .before .before .args .pattern .now) - c .before .before .before .before .loop .behind) (length (c .before .before .before .before .before .before .before .args .pattern .now) - c .before .before .before .before .loop .p) (omega (arith, w .0, c .before .before .before .before .loop .inv .ahead, c .next-start .ensures .ahead)) (omega arith)
+
+loop-again-3 : tie.Need-loop-again-3 Inv-loop μ-loop
+loop-again-3 c =
+    let w : StepIs Miss (c .before .before .before .before .before .before .before .args .pattern .now) (c .before .before .before .before .loop .p) (c .before .before .before .before .before .before .before .args .value .now) (c .before .before .before .before .loop .t) = rw (c .before .enum-told3 .given .1) at (c .before .before .before .step-at .ensures) in search-miss (c .before .before .before .before .before .before .before .args .pattern .now) (c .before .before .before .before .before .before .before .args .star) (c .before .before .before .before .before .before .before .args .value .now) (c .before .before .before .before .before .before .before .args .from) (c .before .before .before .before .loop .behind) (c .before .before .before .before .loop .start) (c .before .before .before .before .loop .p) (c .before .before .before .before .loop .t) (c .before .before .before .before .loop .inv) w (c .next-start .result) (c .next-start .ensures)
+
+enum-told-4 : tie.Need-enum-told-4 Inv-loop μ-loop
+enum-told-4 c = search needs
+
+returns-2 : tie.Need-returns-2 Inv-loop μ-loop
+returns-2 c =
+    let w : StepIs Stop (c .before .before .before .before .before .before .args .pattern .now) (c .before .before .before .loop .p) (c .before .before .before .before .before .before .args .value .now) (c .before .before .before .loop .t) = rw (c .enum-told4 .given .1) at (c .before .before .step-at .ensures) in search-stop (c .before .before .before .before .before .before .args .pattern .now) (c .before .before .before .before .before .before .args .star) (c .before .before .before .before .before .before .args .value .now) (c .before .before .before .before .before .before .args .from) (c .before .before .before .loop .behind) (c .before .before .before .loop .start) (c .before .before .before .loop .p) (c .before .before .before .loop .t) (c .before .before .before .loop .inv) w
+
+pub after-star-spec : {M : Type 1} → statement M
+after-star-spec =
+    tie.close
+    (tie.spec
+    Inv-loop
+    μ-loop
+    loop-holds
+    step-at-requires
+    enum-told
+    returns
+    enum-told-2
+    add-behind
+    loop-less
+    loop-again
+    enum-known-next
+    add-t
+    loop-less-2
+    loop-again-2
+    enum-told-3
+    add-next-start
+    next-start-requires
+    loop-less-3
+    loop-again-3
+    enum-told-4
+    returns-2)

@@ -1,0 +1,57 @@
+-- `glob::matches` meets its contract.
+-- Assumes nothing.
+use Prim.Native.Nat.{_+_, _-_, _≤_}
+use mathlib.Core.Path.{_≡_, refl, sym, _∙_}
+use native.Mathlib.Omega.{arith}
+use borrow.Author.Needs.{needs}
+use lib.ListN.{length}
+use Rattle.glob.proofs.Alternatives.{anyFrom, any-here, any-behind, any-none}
+use Rattle.pattern.specs.Pattern.{matches}
+use Rattle.glob.proofs.matches.Statement.{statement}
+use Rattle.glob.proofs.matches.Tie as tie
+
+abbrev Inv-loop : tie.InvT-loop
+Inv-loop pattern value at₀ at = (at ≤ length pattern) × (anyFrom pattern at value ≡ matches pattern value)
+
+abbrev μ-loop : tie.MeasureT-loop
+μ-loop pattern value at₀ at = length pattern + 1 - at
+
+loop-holds : tie.Need-loop-holds Inv-loop μ-loop
+unfolding matches
+loop-holds c = (omega arith, refl)
+
+alternative-matches-requires : tie.Need-alternative-matches-requires Inv-loop μ-loop
+alternative-matches-requires c κs = c .loop .inv .0
+
+returns : tie.Need-returns Inv-loop μ-loop
+returns c = sym (any-here (c .before .before .before .before .before .args .pattern .now) (c .before .before .loop .at) (c .before .before .before .before .before .args .value .now) (sym (c .before .alternative-matches .ensures) ∙ c .if1 .taken)) ∙ c .before .before .loop .inv .1
+
+byte-end-requires : tie.Need-byte-end-requires Inv-loop μ-loop
+byte-end-requires c κs = search needs
+
+returns-2 : tie.Need-returns-2 Inv-loop μ-loop
+returns-2 c = sym (any-none (c .before .before .before .before .before .before .before .args .pattern .now) (c .before .before .before .before .loop .at) (c .before .before .before .before .before .before .before .args .value .now) (c .before .byte-end .result) (c .before .byte-end .ensures) (sym (c .before .before .before .alternative-matches .ensures) ∙ c .before .before .if1 .left) (c .if2 .taken)) ∙ c .before .before .before .before .loop .inv .1
+
+add-at : tie.Need-add-at Inv-loop μ-loop
+add-at c = omega arith
+
+loop-less : tie.Need-loop-less Inv-loop μ-loop
+loop-less c = omega (arith, c .before .byte-end .ensures .from)
+
+loop-again : tie.Need-loop-again Inv-loop μ-loop
+loop-again c = (omega arith, sym (any-behind (c .before .before .before .before .before .before .before .args .pattern .now) (c .before .before .before .before .loop .at) (c .before .before .before .before .before .before .before .args .value .now) (c .before .byte-end .result) (c .before .byte-end .ensures) (sym (c .before .before .before .alternative-matches .ensures) ∙ c .before .before .if1 .left) (c .if2 .left)) ∙ c .before .before .before .before .loop .inv .1)
+
+pub matches-spec : {M : Type 1} → statement M
+matches-spec =
+    tie.close
+    (tie.spec
+    Inv-loop
+    μ-loop
+    loop-holds
+    alternative-matches-requires
+    returns
+    byte-end-requires
+    returns-2
+    add-at
+    loop-less
+    loop-again)

@@ -1,0 +1,53 @@
+-- `glob::set_at` meets its contract.
+-- Assumes nothing.
+use mathlib.Core.Path.{sym, _∙_}
+use native.Mathlib.Omega.{arith}
+use borrow.Author.Needs.{needs}
+use Rattle.glob.proofs.Members.{set-opposite-short, set-opposite, set-short, set-plain}
+use Rattle.glob.proofs.set_at.Statement.{statement}
+use Rattle.glob.proofs.set_at.Tie as tie
+
+byte-or-bar-requires : tie.Need-byte-or-bar-requires
+byte-or-bar-requires c κs = search needs
+
+add-byte-or-bar : tie.Need-add-byte-or-bar
+add-byte-or-bar c = omega arith
+
+byte-or-bar-requires-2 : tie.Need-byte-or-bar-requires-2
+byte-or-bar-requires-2 c κs = search needs
+
+add-set-from : tie.Need-add-set-from
+add-set-from c = omega arith
+
+set-from-requires : tie.Need-set-from-requires
+set-from-requires c κs = λ e. c .if1 .left (c .before .byte-or-bar2 .ensures ∙ e)
+
+set-from-requires-2 : tie.Need-set-from-requires-2
+set-from-requires-2 c κs = λ e. c .match .rest .1 (c .before .byte-or-bar .ensures ∙ e)
+
+returns : tie.Need-returns
+returns c = sym (set-opposite-short (c .before .before .before .before .before .args .pattern .now) (c .before .before .before .before .before .args .p) (c .before .before .before .before .before .args .x) (sym (c .before .before .before .byte-or-bar .ensures) ∙ c .before .before .match .keys1) (sym (c .before .byte-or-bar2 .ensures) ∙ c .if1 .taken))
+
+returns-2 : tie.Need-returns-2
+returns-2 c = c .set-from .ensures ∙ sym (set-opposite (c .before .before .before .before .before .before .args .pattern .now) (c .before .before .before .before .before .before .args .p) (c .before .before .before .before .before .before .args .x) (sym (c .before .before .before .before .byte-or-bar .ensures) ∙ c .before .before .before .match .keys1) (λ e. c .before .if1 .left (c .before .before .byte-or-bar2 .ensures ∙ e)))
+
+returns-3 : tie.Need-returns-3
+returns-3 c = sym (set-short (c .before .before .before .args .pattern .now) (c .before .before .before .args .p) (c .before .before .before .args .x) (sym (c .before .byte-or-bar .ensures) ∙ c .match .keys2))
+
+returns-4 : tie.Need-returns-4
+returns-4 c = c .set-from2 .ensures ∙ sym (set-plain (c .before .before .before .before .args .pattern .now) (c .before .before .before .before .args .p) (c .before .before .before .before .args .x) (λ e. c .before .match .rest .1 (c .before .before .byte-or-bar .ensures ∙ e)) (λ e. c .before .match .rest .0 .1 (c .before .before .byte-or-bar .ensures ∙ e)))
+
+pub set-at-spec : {M : Type 1} → statement M
+set-at-spec =
+    tie.close
+    (tie.spec
+    byte-or-bar-requires
+    add-byte-or-bar
+    byte-or-bar-requires-2
+    add-set-from
+    set-from-requires
+    set-from-requires-2
+    returns
+    returns-2
+    returns-3
+    returns-4)

@@ -1,0 +1,95 @@
+-- `glob::set_from` meets its contract.
+-- Assumes nothing.
+use Prim.Native.Nat.{_+_, _-_}
+use mathlib.Core.Bool.{Bool, false}
+use mathlib.Core.Path.{_≡_, refl, sym, ap, _∙_}
+use native.Mathlib.Omega.{arith}
+use borrow.Author.Needs.{needs}
+use lib.ListN.{length}
+use Rattle.glob.proofs.Members.{read-closes, read-ends, read-on}
+use Rattle.glob.specs.declared.Member.the-variants.{Falling}
+use Rattle.glob.specs.Sets.{answered, memberStart, ReadOn, MemberIs}
+use Rattle.glob.specs.Place.{alternativeAt, NotBar}
+use Rattle.glob.proofs.set_from.Statement.{statement}
+use Rattle.glob.proofs.set_from.Tie as tie
+
+abbrev Inv-loop : tie.InvT-loop
+Inv-loop pattern first opposite x i₀ found₀ i found = NotBar pattern i × (memberStart opposite found x i (alternativeAt pattern i) ≡ memberStart opposite false x first (alternativeAt pattern first))
+
+abbrev μ-loop : tie.MeasureT-loop
+μ-loop pattern first opposite x i₀ found₀ i found = length pattern - i
+
+loop-holds : tie.Need-loop-holds Inv-loop μ-loop
+loop-holds c = (c .before .pre, refl)
+
+member-at-requires : tie.Need-member-at-requires Inv-loop μ-loop
+member-at-requires c κs = c .loop .inv .0
+
+enum-known-low : tie.Need-enum-known-low Inv-loop μ-loop
+enum-known-low c = search needs
+
+found-in-requires : tie.Need-found-in-requires Inv-loop μ-loop
+found-in-requires c κs = search needs
+
+byte-or-bar-requires : tie.Need-byte-or-bar-requires Inv-loop μ-loop
+byte-or-bar-requires c κs = search needs
+
+add-answer : tie.Need-add-answer Inv-loop μ-loop
+add-answer c =
+    let l = c .before .before .before .before .low .given .0 in
+    let r : ReadOn (c .before .before .before .before .before .before .before .before .before .args .pattern .now) (c .before .before .before .before .before .before .before .loop .i) (l .0) (l .1 .0) (l .1 .1 .0) = rw (c .before .before .before .before .low .given .1) at (c .before .before .before .before .before .before .member-at .ensures) in
+    omega (arith, r .inside)
+
+answer-requires : tie.Need-answer-requires Inv-loop μ-loop
+answer-requires c κs = search needs
+
+returns : tie.Need-returns Inv-loop μ-loop
+returns c =
+    let l = c .before .before .before .before .before .low .given .0 in
+    let r : ReadOn (c .before .before .before .before .before .before .before .before .before .before .args .pattern .now) (c .before .before .before .before .before .before .before .before .loop .i) (l .0) (l .1 .0) (l .1 .1 .0) = rw (c .before .before .before .before .before .low .given .1) at (c .before .before .before .before .before .before .before .member-at .ensures) in
+    c .answer .ensures ∙ ap (λ (t : Bool). answered (c .before .before .before .before .before .before .before .before .before .before .args .opposite) t (l .1 .1 .0 + 1)) (c .before .before .before .found-in .ensures) ∙ sym (read-closes (c .before .before .before .before .before .before .before .before .before .before .args .pattern .now) (c .before .before .before .before .before .before .before .before .loop .i) (l .0) (l .1 .0) (l .1 .1 .0) r (c .before .before .before .before .before .before .before .before .before .before .args .opposite) (c .before .before .before .before .before .before .before .before .loop .found) (c .before .before .before .before .before .before .before .before .before .before .args .x) (sym (c .before .before .byte-or-bar .ensures) ∙ c .before .match2 .keys1)) ∙ c .before .before .before .before .before .before .before .before .loop .inv .1
+
+returns-2 : tie.Need-returns-2 Inv-loop μ-loop
+returns-2 c =
+    let l = c .before .before .before .before .low .given .0 in
+    let r : ReadOn (c .before .before .before .before .before .before .before .before .before .args .pattern .now) (c .before .before .before .before .before .before .before .loop .i) (l .0) (l .1 .0) (l .1 .1 .0) = rw (c .before .before .before .before .low .given .1) at (c .before .before .before .before .before .before .member-at .ensures) in
+    sym (read-ends (c .before .before .before .before .before .before .before .before .before .args .pattern .now) (c .before .before .before .before .before .before .before .loop .i) (l .0) (l .1 .0) (l .1 .1 .0) r (c .before .before .before .before .before .before .before .before .before .args .opposite) (c .before .before .before .before .before .before .before .loop .found) (c .before .before .before .before .before .before .before .before .before .args .x) (sym (c .before .byte-or-bar .ensures) ∙ c .match2 .keys2)) ∙ c .before .before .before .before .before .before .before .loop .inv .1
+
+loop-less : tie.Need-loop-less Inv-loop μ-loop
+loop-less c =
+    let l = c .before .before .before .before .low .given .0 in
+    let r : ReadOn (c .before .before .before .before .before .before .before .before .before .args .pattern .now) (c .before .before .before .before .before .before .before .loop .i) (l .0) (l .1 .0) (l .1 .1 .0) = rw (c .before .before .before .before .low .given .1) at (c .before .before .before .before .before .before .member-at .ensures) in
+    omega (arith, r .forward, r .inside)
+
+loop-again : tie.Need-loop-again Inv-loop μ-loop
+loop-again c =
+    let l = c .before .before .before .before .low .given .0 in
+    let r : ReadOn (c .before .before .before .before .before .before .before .before .before .args .pattern .now) (c .before .before .before .before .before .before .before .loop .i) (l .0) (l .1 .0) (l .1 .1 .0) = rw (c .before .before .before .before .low .given .1) at (c .before .before .before .before .before .before .member-at .ensures) in
+    let n : NotBar (c .before .before .before .before .before .before .before .before .before .args .pattern .now) (l .1 .1 .0) = λ e. c .match2 .rest .1 (c .before .byte-or-bar .ensures ∙ e) in
+    (n, rw (c .before .before .found-in .ensures) (sym (read-on (c .before .before .before .before .before .before .before .before .before .args .pattern .now) (c .before .before .before .before .before .before .before .loop .i) (l .0) (l .1 .0) (l .1 .1 .0) r (c .before .before .before .before .before .before .before .before .before .args .opposite) (c .before .before .before .before .before .before .before .loop .found) (c .before .before .before .before .before .before .before .before .before .args .x) n (λ e. c .match2 .rest .0 .1 (c .before .byte-or-bar .ensures ∙ e))) ∙ c .before .before .before .before .before .before .before .loop .inv .1))
+
+enum-told : tie.Need-enum-told Inv-loop μ-loop
+enum-told c = search needs
+
+returns-3 : tie.Need-returns-3 Inv-loop μ-loop
+returns-3 c = let w : MemberIs Falling (c .before .before .before .before .before .args .pattern .now) (c .before .before .before .loop .i) = rw (c .enum-told .given .1) at (c .before .before .member-at .ensures) in sym (w (c .before .before .before .before .before .args .opposite) (c .before .before .before .loop .found) (c .before .before .before .before .before .args .x)) ∙ c .before .before .before .loop .inv .1
+
+pub set-from-spec : {M : Type 1} → statement M
+set-from-spec =
+    tie.close
+    (tie.spec
+    Inv-loop
+    μ-loop
+    loop-holds
+    member-at-requires
+    enum-known-low
+    found-in-requires
+    byte-or-bar-requires
+    add-answer
+    answer-requires
+    returns
+    returns-2
+    loop-less
+    loop-again
+    enum-told
+    returns-3)
