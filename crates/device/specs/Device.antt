@@ -40,7 +40,7 @@ chain d = d .event ∷ d .parents
 abbrev pub nameOf : Member → List ℕ
 nameOf m = lastOf (splitAt 47 (m .path))
 
--- an attribute of a device, and a property of the record: none is absent
+-- an attribute of a device; none where it is absent
 abbrev pub attrOf : List ℕ → Member → Option (List ℕ)
 attrOf k m = lookup k (m .attributes)
 

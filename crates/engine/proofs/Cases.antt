@@ -79,6 +79,27 @@ unfoldable pub usb : Device
 unfolding deviceOf member
 usb = deviceOf [] (member "/devices/1-1/ttyUSB0" "tty" "" []) (member "/devices/1-1" "usb" "ftdi" (("serial", "RC-0417") ∷ []) ∷ [])
 
+-- a chain of 16 devices, /a/b/../p to /a
+unfoldable pub chain16 : Device
+unfolding deviceOf member
+chain16 = deviceOf [] (member "/a/b/c/d/e/f/g/h/i/j/k/l/m/n/o/p" "s" "" [])
+    (member "/a/b/c/d/e/f/g/h/i/j/k/l/m/n/o" "s" "" []
+    ∷ member "/a/b/c/d/e/f/g/h/i/j/k/l/m/n" "s" "" []
+    ∷ member "/a/b/c/d/e/f/g/h/i/j/k/l/m" "s" "" []
+    ∷ member "/a/b/c/d/e/f/g/h/i/j/k/l" "s" "" []
+    ∷ member "/a/b/c/d/e/f/g/h/i/j/k" "s" "" []
+    ∷ member "/a/b/c/d/e/f/g/h/i/j" "s" "" []
+    ∷ member "/a/b/c/d/e/f/g/h/i" "s" "" []
+    ∷ member "/a/b/c/d/e/f/g/h" "s" "" []
+    ∷ member "/a/b/c/d/e/f/g" "s" "" []
+    ∷ member "/a/b/c/d/e/f" "s" "" []
+    ∷ member "/a/b/c/d/e" "s" "" []
+    ∷ member "/a/b/c/d" "s" "" []
+    ∷ member "/a/b/c" "s" "" []
+    ∷ member "/a/b" "s" "" []
+    ∷ member "/a" "s" "d" (("f", "top") ∷ [])
+    ∷ [])
+
 -- ---- cases
 
 pub data Case : Type 0 where

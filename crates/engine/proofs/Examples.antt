@@ -7,11 +7,12 @@ use mathlib.Core.Path.{_≡_, refl}
 use mathlib.Core.List.{List, [], _∷_, _++_}
 use lib.ListN.{take, drop, replicate}
 use Rattle.lists.specs.Quoted.{bytes}
+use Rattle.device.specs.Device as device
 use Rattle.engine.specs.Operations as operations
-use Rattle.engine.proofs.Cases.{Case, lists, answers, leaves, wrong, properties, member, deviceOf, alone, tty, usb, changed, bare, empty, refused3, refused4, sound4, record-of}
+use Rattle.engine.proofs.Cases.{Case, lists, answers, leaves, wrong, properties, member, deviceOf, alone, tty, usb, chain16, changed, bare, empty, refused3, refused4, sound4, record-of}
 
 pub examples : List Case
-unfolding properties member deviceOf alone tty usb changed bare empty refused3 refused4 sound4 record-of
+unfolding properties member deviceOf alone tty usb chain16 changed bare empty refused3 refused4 sound4 record-of
 examples =
     lists "all digits" (alone [] "/b/0123" []) "SYMLINK+=\"x%n\"" "visited 1\npriority 0\nlink x0123\n"
     -- a 17th link; one that is held already; a place that was freed
@@ -130,6 +131,47 @@ examples =
     ∷ refused4 "4 unused bit" (record-of 0 0 1 (4 ∷ 3 ∷ 97 ∷ []))
     ∷ refused4 "4 template" (record-of 0 0 1 (4 ∷ 2 ∷ 36 ∷ []))
     ∷ sound4 "closed and unset" (changed 0 31 (changed 1 192 empty))
+    -- settings of string_escape, closed keys, templates, matching, jumps and records in combination
+    ∷ lists "escape in turn" (alone (("P", "a b") ∷ []) "/a" []) "SYMLINK+=\"1$env{P}\", OPTIONS=\"string_escape=none\", SYMLINK+=\"2$env{P}\", OPTIONS+=\"string_escape=replace\", SYMLINK+=\"3$env{P}\"" "visited 1\npriority 0\nlink 1a_b\nlink 2a\nlink b\nlink 3a_b\nenv P=a b\n"
+    ∷ lists "escape ends with the rule" (alone (("P", "a b") ∷ []) "/a" []) "OPTIONS=\"string_escape=none\"\nSYMLINK+=\"$env{P}\"" "visited 2\npriority 0\nlink a_b\nenv P=a b\n"
+    ∷ lists "escape of ENV in turn" tty "OPTIONS=\"string_escape=replace\", ENV{a}=\"(x)\", OPTIONS=\"string_escape=none\", ENV{b}=\"(x)\"" "visited 1\npriority 0\nenv a=_x_\nenv b=(x)\n"
+    ∷ lists "priority keeps the escape" tty "OPTIONS=\"string_escape=none\", OPTIONS=\"link_priority=5\", SYMLINK+=\"(a)\"" "visited 1\npriority 5\nlink (a)\n"
+    ∷ lists "replace cleans links too" (alone (("P", "a b") ∷ []) "/a" []) "OPTIONS=\"string_escape=replace\", SYMLINK+=\"(a) $env{P}\"" "visited 1\npriority 0\nlink _a_\nlink a_b\nenv P=a b\n"
+    ∷ lists "written tab, none" tty "OPTIONS=\"string_escape=none\", SYMLINK+=\"a\tb  c \"" "visited 1\npriority 0\nlink a\\x09b\nlink c\n"
+    ∷ lists "inserted spaces alone" (alone (("P", "  ") ∷ []) "/a" []) "SYMLINK+=\"$env{P}\", OPTIONS=\"string_escape=none\", SYMLINK+=\"$env{P}\"" "visited 1\npriority 0\nlink __\nenv P=  \n"
+    ∷ lists "removal cleans" tty "SYMLINK+=\"a_ b\"\nOPTIONS=\"string_escape=none\", SYMLINK-=\"a(\"\nSYMLINK-=\"x a(\"" "visited 3\npriority 0\nlink b\n"
+    ∷ lists "every link byte" tty "SYMLINK+=\"AZaz09#+-.:=@_/!b\"" "visited 1\npriority 0\nlink AZaz09#+-.:=@_/_b\n"
+    ∷ lists "no rule for owners" (alone (("P", "a b") ∷ []) "/a" []) "OPTIONS=\"string_escape=replace\", OWNER=\"$env{P}\"" "refused 33 line 1\n"
+    ∷ lists "closed, then removed" tty "SYMLINK:=\"a b\", SYMLINK-=\"a\"" "visited 1\npriority 0\nlink a\nlink b\n"
+    ∷ lists "closed within a rule" tty "TAG:=\"t\", TAG+=\"u\", TAG-=\"t\", TAG=\"v\", OWNER:=\"o\", OWNER=\"b\", MODE:=\"1\", MODE:=\"9\"" "visited 1\npriority 0\nmode 0001\nowner o\ntag t\n"
+    ∷ lists "closed, no 30" (alone (("v", "xxxxxxxxxxxxxxxxxxxxxxxxxxxxxxxxxxxxxxxxxxxxxxxxxxxxxxxxxxxxxxxx") ∷ []) "/a" []) "OWNER:=\"o\"\nOWNER=\"$env{v}$env{v}$env{v}$env{v}$env{v}$env{v}$env{v}$env{v}+\"" "visited 2\npriority 0\nowner o\nenv v=xxxxxxxxxxxxxxxxxxxxxxxxxxxxxxxxxxxxxxxxxxxxxxxxxxxxxxxxxxxxxxxx\n"
+    ∷ leaves "closed in the record" (operations.run (bytes "SYMLINK+=\"/\", SYMLINK-=\"..\", TAG=\"t\"") bare (changed 0 24 empty) 17611) (changed 0 24 (record-of 0 0 32 (1 ∷ 116 ∷ [])))
+    ∷ lists "owner apart from group" tty "OWNER:=\"o\"\nGROUP=\"g\", GROUP=\"h\", OWNER=\"p\"" "visited 2\npriority 0\nowner o\ngroup h\n"
+    ∷ lists "present but empty" (deviceOf [] (member "/p/e1" "tty" "" (("s", "") ∷ [])) (member "/p" "usb" "d" (("s", "P") ∷ []) ∷ [])) "SUBSYSTEMS==\"usb\", SYMLINK+=\"x$attr{s} y%s{t}\"" "visited 1\npriority 0\nlink x\nlink y\n"
+    ∷ lists "attribute trimmed at its end" (deviceOf [] (member "/p/e1" "tty" "" (("s", " a\tb \n") ∷ [])) (member "/p" "usb" "d" [] ∷ [])) "SYMLINK+=\"x$attr{s}\", RUN+=\"$attr{s}.\"" "visited 1\npriority 0\nlink x_a_b\nprogram  a\\x09b.\n"
+    ∷ lists "property not trimmed" (alone (("P", "a ") ∷ []) "/a" []) "SYMLINK+=\"x%E{P}\"" "visited 1\npriority 0\nlink xa_\nenv P=a \n"
+    ∷ lists "missing is empty" tty "ATTRS{serial}!=\"\", SYMLINK+=\"$id\"\nATTRS{serial}==\"\", SYMLINK+=\"x$id\"" "visited 2\npriority 0\nlink 1-1\nlink xttyUSB0\n"
+    ∷ lists "no driver" tty "DRIVERS==\"\", SYMLINK+=\"x$id$driver\"\nDRIVERS==\"?*\", SYMLINK+=\"y$driver\"\nDRIVER==\"\", TAG+=\"t\"\nDRIVER!=\"*\", TAG+=\"u\"" "visited 4\npriority 0\nlink xttyUSB0\nlink yftdi\ntag t\n"
+    ∷ lists "parent key and event key" tty "KERNEL==\"ttyUSB0\", KERNELS==\"usb1\", ATTR{serial}==\"\", ATTRS{serial}==\"hub\", SYMLINK+=\"$id/$attr{serial}\"" "visited 1\npriority 0\nlink usb1/hub\n"
+    ∷ leaves "place 16" (operations.run (bytes "KERNELS==\"a\", RUN+=\"%b\"\nKERNELS==\"p\", RUN{builtin}+=\"x\"") (device.encode chain16) empty 17611) (record-of 0 0 2 (64 ∷ 4 ∷ 37 ∷ 98 ∷ 132 ∷ 2 ∷ 120 ∷ []))
+    ∷ lists "from label to label" tty "GOTO=\"a\"\nTAG+=\"x\"\nLABEL=\"a\", GOTO=\"a\"\nTAG+=\"y\"\nLABEL=\"a\", TAG+=\"z\"" "visited 3\npriority 0\ntag z\n"
+    ∷ lists "label on a rule that fails" tty "GOTO=\"a\"\nTAG+=\"x\"\nLABEL=\"a\", KERNEL==\"no\", TAG+=\"y\", GOTO=\"a\"\nTAG+=\"z\"\nLABEL=\"a\"" "visited 4\npriority 0\ntag z\n"
+    ∷ lists "jump over a jump" tty "GOTO=\"b\"\nGOTO=\"c\"\nLABEL=\"b\", TAG+=\"b\"\nTAG+=\"x\"\nLABEL=\"c\"" "visited 4\npriority 0\ntag b\ntag x\n"
+    ∷ lists "17th run though held" tty "RUN+=\"a\", RUN+=\"a\", RUN+=\"a\", RUN+=\"a\", RUN+=\"a\", RUN+=\"a\", RUN+=\"a\", RUN+=\"a\", RUN+=\"a\", RUN+=\"a\", RUN+=\"a\", RUN+=\"a\", RUN+=\"a\", RUN+=\"a\", RUN+=\"a\", RUN+=\"a\"\nRUN{builtin}+=\"\"\nRUN+=\"a\"" "refused 32 line 3\n"
+    ∷ lists "17th held once cleaned" tty "SYMLINK+=\"a b c d e f g h i j k l m n o p_\"\nSYMLINK+=\"p( a p)\"" "visited 2\npriority 0\nlink a\nlink b\nlink c\nlink d\nlink e\nlink f\nlink g\nlink h\nlink i\nlink j\nlink k\nlink l\nlink m\nlink n\nlink o\nlink p_\n"
+    ∷ lists "30 before 31" (alone (("v", "xxxxxxxxxxxxxxxxxxxxxxxxxxxxxxxxxxxxxxxxxxxxxxxxxxxxxxxxxxxxxxxx") ∷ []) "/a" []) "SYMLINK+=\"/$env{v}$env{v}$env{v}$env{v}$env{v}$env{v}$env{v}$env{v}\"" "refused 30 line 1\n"
+    ∷ leaves "close to nothing" (operations.close bare (record-of 0 0 2 (0 ∷ 14 ∷ 36 ∷ 101 ∷ 110 ∷ 118 ∷ 123 ∷ 120 ∷ 125 ∷ 128 ∷ 4 ∷ 37 ∷ 98 ∷ [])) 8225) (16 ∷ 0 ∷ 0 ∷ 128 ∷ 0 ∷ [])
+    ∷ leaves "close of 512" (operations.close bare (record-of 0 4 1 ((3 ∷ 0 ∷ 107 ∷ replicate 256 121) ++ (128 ∷ 28 ∷ (bytes "$env{k}$env{k}")))) 8225) (8 ∷ 192 ∷ 0 ∷ replicate 512 121)
+    ∷ leaves "every section" (operations.run (bytes "OWNER=\"o\", GROUP=\"gh\", SYMLINK=\"l/m n\", ENV{k}=\"v\", ENV{w}=\"xy\", TAG=\"t\", RUN=\"a\", RUN{builtin}+=\"b\", MODE=\"4\", OPTIONS=\"link_priority=258\"") bare empty 17611) (16 ∷ 1 ∷ 10 ∷ 0 ∷ 128 ∷ 0 ∷ 0 ∷ 32 ∷ 66 ∷ 8 ∷ 34 ∷ 111 ∷ 103 ∷ 104 ∷ 3 ∷ 108 ∷ 47 ∷ 109 ∷ 1 ∷ 110 ∷ 2 ∷ 1 ∷ 107 ∷ 118 ∷ 2 ∷ 2 ∷ 119 ∷ 120 ∷ 121 ∷ 1 ∷ 116 ∷ 0 ∷ 2 ∷ 97 ∷ 128 ∷ 2 ∷ 98 ∷ [])
+    ∷ leaves "16 of each, packed" (operations.run (bytes "SYMLINK=\"a b c d e f g h i j k l m n o p\"\nTAG+=\"a\", TAG+=\"b\", TAG+=\"c\", TAG+=\"d\", TAG+=\"e\", TAG+=\"f\", TAG+=\"g\", TAG+=\"h\", TAG+=\"i\", TAG+=\"j\", TAG+=\"k\", TAG+=\"l\", TAG+=\"m\", TAG+=\"n\", TAG+=\"o\", TAG+=\"p\"\nRUN+=\"a\", RUN+=\"a\", RUN+=\"a\", RUN+=\"a\", RUN+=\"a\", RUN+=\"a\", RUN+=\"a\", RUN+=\"a\", RUN+=\"a\", RUN+=\"a\", RUN+=\"a\", RUN+=\"a\", RUN+=\"a\", RUN+=\"a\", RUN+=\"a\", RUN+=\"a\"") bare empty 17611) (16 ∷ 0 ∷ 0 ∷ 0 ∷ 0 ∷ 0 ∷ 0 ∷ 0 ∷ 16 ∷ 2 ∷ 16 ∷ 1 ∷ 97 ∷ 1 ∷ 98 ∷ 1 ∷ 99 ∷ 1 ∷ 100 ∷ 1 ∷ 101 ∷ 1 ∷ 102 ∷ 1 ∷ 103 ∷ 1 ∷ 104 ∷ 1 ∷ 105 ∷ 1 ∷ 106 ∷ 1 ∷ 107 ∷ 1 ∷ 108 ∷ 1 ∷ 109 ∷ 1 ∷ 110 ∷ 1 ∷ 111 ∷ 1 ∷ 112 ∷ 1 ∷ 97 ∷ 1 ∷ 98 ∷ 1 ∷ 99 ∷ 1 ∷ 100 ∷ 1 ∷ 101 ∷ 1 ∷ 102 ∷ 1 ∷ 103 ∷ 1 ∷ 104 ∷ 1 ∷ 105 ∷ 1 ∷ 106 ∷ 1 ∷ 107 ∷ 1 ∷ 108 ∷ 1 ∷ 109 ∷ 1 ∷ 110 ∷ 1 ∷ 111 ∷ 1 ∷ 112 ∷ 0 ∷ 2 ∷ 97 ∷ 0 ∷ 2 ∷ 97 ∷ 0 ∷ 2 ∷ 97 ∷ 0 ∷ 2 ∷ 97 ∷ 0 ∷ 2 ∷ 97 ∷ 0 ∷ 2 ∷ 97 ∷ 0 ∷ 2 ∷ 97 ∷ 0 ∷ 2 ∷ 97 ∷ 0 ∷ 2 ∷ 97 ∷ 0 ∷ 2 ∷ 97 ∷ 0 ∷ 2 ∷ 97 ∷ 0 ∷ 2 ∷ 97 ∷ 0 ∷ 2 ∷ 97 ∷ 0 ∷ 2 ∷ 97 ∷ 0 ∷ 2 ∷ 97 ∷ 0 ∷ 2 ∷ 97 ∷ [])
+    ∷ leaves "a link that cleaning would not give" (operations.run (bytes "SYMLINK-=\"$$\"\nOPTIONS=\"string_escape=none\", SYMLINK-=\"$$\"\nMODE=\"0\", OPTIONS=\"link_priority=-2147483648\"") bare (16 ∷ 128 ∷ 3 ∷ 255 ∷ 224 ∷ 0 ∷ 0 ∷ 0 ∷ 33 ∷ 4 ∷ 33 ∷ 1 ∷ 36 ∷ 2 ∷ 2 ∷ 125 ∷ 10 ∷ 255 ∷ 2 ∷ 32 ∷ 47 ∷ 0 ∷ 4 ∷ 37 ∷ 37 ∷ []) 17611) (16 ∷ 128 ∷ 2 ∷ 0 ∷ 16 ∷ 0 ∷ 0 ∷ 0 ∷ 0 ∷ 4 ∷ 33 ∷ 2 ∷ 2 ∷ 125 ∷ 10 ∷ 255 ∷ 2 ∷ 32 ∷ 47 ∷ 0 ∷ 4 ∷ 37 ∷ 37 ∷ [])
+    ∷ lists "ATTR and whitespace" (alone [] "/a" (("s", " \t") ∷ ("t", "x\t \u{b}") ∷ ("e", "") ∷ [])) "ATTR{s}==\"\", ATTR{t}==\"x\", ATTR{e}==\"\", ATTR{no}==\"\", TAG+=\"1\"\nATTR{s}==\" \", TAG+=\"2\"\nATTR{s}==\" \t\", TAG+=\"3\"\nATTR{t}==\"x\t\", TAG+=\"4\"\nATTR{e}==\" \", TAG+=\"5\"\nATTR{no}!=\" \", TAG+=\"6\"\nATTR{t}!=\"x\", TAG+=\"7\"\nATTR{t}!=\"x \", TAG+=\"8\"" "visited 8\npriority 0\ntag 1\ntag 3\ntag 6\ntag 8\n"
+    ∷ lists "ENV keeps its whitespace" (alone (("e", "x ") ∷ []) "/a" []) "ENV{e}==\"x\", TAG+=\"1\"\nENV{e}==\"x \", TAG+=\"2\"\nENV{e}!=\"x\", TAG+=\"3\"" "visited 3\npriority 0\nenv e=x \ntag 2\ntag 3\n"
+    ∷ lists "DEVPATH and KERNEL" tty "DEVPATH==\"*/usb1/*\", DEVPATH!=\"/devices\", KERNEL==\"ttyUSB?\", SUBSYSTEM==\"tty|usb\", TAG+=\"1\"\nDEVPATH==\"ttyUSB0\", TAG+=\"2\"\nKERNEL==\"*/ttyUSB0\", TAG+=\"3\"" "visited 3\npriority 0\ntag 1\n"
+    ∷ leaves "unbind" (operations.run (bytes "ACTION==\"unbind\", TAG=\"a\"\nACTION==\"bind\", TAG=\"b\"") (changed 1 224 bare) empty 17611) (record-of 0 0 32 (1 ∷ 97 ∷ []))
+    ∷ lists "lists judged whole" tty "SYMLINK+=\"a/b c\", TAG+=\"x\"\nSYMLINK==\"a*b\", SYMLINK==\"c\", SYMLINK!=\"a\", TAG==\"x\", TAG!=\"c\", TAG+=\"1\"\nSYMLINK==\"?|*/b\", SYMLINK!=\"a*|d\", TAG+=\"2\"\nSYMLINK!=\"*\", TAG+=\"3\"" "visited 4\npriority 0\nlink a/b\nlink c\ntag x\ntag 1\n"
+    ∷ lists "numbers of a node" tty "RUN+=\"%M:%m $major/$minor %% $$ %p $devpath %k %n\"" "visited 1\npriority 0\nprogram 188:3 188/3 % $ /devices/usb1/1-1/ttyUSB0 /devices/usb1/1-1/ttyUSB0 ttyUSB0 0\n"
+    ∷ lists "signs in turn" tty "RUN+=\"$$kernel %%k $$$kernel %%%k\"" "visited 1\npriority 0\nprogram $kernel %k $ttyUSB0 %ttyUSB0\n"
     ∷ []
 
 pub shown : wrong examples ≡ []

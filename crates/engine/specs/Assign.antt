@@ -99,7 +99,7 @@ changeEntry o most x xs = elim (isRemove o) [ true ↦ ok (removeEntry x xs) | f
 
 -- ---- SYMLINK
 
--- the names in a substituted text: split at runs of spaces, each cleaned
+-- the names in a substituted text: split at runs of spaces, each cleaned as the setting asks
 unfoldable pub namesIn : Escape → List ℕ → List (List ℕ)
 namesIn e t = map (cleanName e) (reject (λ x. isEmpty x) (splitAt 32 t))
 

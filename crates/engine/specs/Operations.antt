@@ -1,4 +1,4 @@
--- Document 01, Numbers given back: the public operations as full answers: a check of a text, a fresh record, a run, a close.
+-- Document 01, Numbers given back: the public operations as full answers: a fresh record, a run, a close.
 -- Assumes nothing.
 use Prim.Native.Nat.{ℕ}
 use mathlib.Core.Bool.{Bool, true, false}

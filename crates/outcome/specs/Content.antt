@@ -15,7 +15,7 @@ use Rattle.lists.specs.Sizes.{mostLink, mostOwner, mostMode}
 abbrev pub okPart : List ℕ → Bool
 okPart x = not (isEmpty x) && (not (sameBytes x (46 ∷ [])) && not (sameBytes x (46 ∷ 46 ∷ [])))
 
--- check 31: to 128 bytes, and all component sound; a slash in front would make the first one empty
+-- check 31: to 128 bytes, and every component sound; a slash in front would make the first one empty
 abbrev pub okName : List ℕ → Bool
 okName x = leb (length x) mostLink && all okPart (splitAt 47 x)
 

@@ -64,7 +64,7 @@ abbrev pub setOf : Bool → ℕ → Option (List Range) → Option (Item Element
 setOf opposite more none = none
 setOf opposite more (some rs) = some (record { value = set opposite rs; more = more })
 
--- a set of n bytes, its body and its closing bracket behind the opening one
+-- a set behind its opening bracket: n bytes that mark the opposite, its body, its closing bracket
 abbrev pub setWith : Bool → ℕ → Option (List ℕ) → Option (Item Element)
 setWith opposite n none = none
 setWith opposite n (some body) = setOf opposite (n + length body + 1) (members body)

@@ -1,6 +1,6 @@
--- A text cut after newlines of given numbers: its pieces join to it, and are cut at these numbers.
+-- There are pieces for every list of cuts: a text cut behind newlines of given numbers has pieces that join to it and are cut there.
 -- Assumes nothing.
-use Prim.Native.Nat.{ℕ, zero, suc, _+_, _-_, _≤_}
+use Prim.Native.Nat.{ℕ, zero, suc, _+_, _-_, _≤_, _<_}
 use mathlib.Core.Path.{_≡_, refl, sym, _∙_, ap, subst}
 use mathlib.Core.Logic.{inl, inr, _↔_}
 use mathlib.Core.Bool.{Bool, true, false}
@@ -8,13 +8,32 @@ use mathlib.Core.List.{List, [], _∷_, _++_, append-nil}
 use native.Mathlib.Omega.{arith}
 use lib.Dec.{T, eqb, eqb→eq}
 use Rattle.text.specs.Lines.{newlines, oneMore}
-use Rattle.lists.specs.Lists.{All}
-use Rattle.lists.specs.Checked.{ok, Placed}
-use Rattle.text.specs.Engine.{Engine}
-use Rattle.text.specs.Reading.{readText}
-use Rattle.text.specs.Joined.{join, EndsLine, Joinable, Accepted, NoCrossing, cuts, jumps, lessOne, upTo, beyond, pieces, Rising}
-use Rattle.text.specs.Laws.{Laws}
-use Rattle.text.proofs.Cut.{cut-accepted}
+use Rattle.text.specs.Joined.{join, EndsLine, Joinable, cuts}
+
+abbrev pub lessOne : Bool → ℕ → ℕ
+lessOne true k = k
+lessOne false k = suc k
+
+-- a text up to and with its k-th newline, and what follows that
+unfoldable pub upTo : ℕ → List ℕ → List ℕ
+upTo k [] = []
+upTo zero (b ∷ bs) = []
+upTo (suc k) (b ∷ bs) = b ∷ upTo (lessOne (eqb b 10) k) bs
+
+unfoldable pub beyond : ℕ → List ℕ → List ℕ
+beyond k [] = []
+beyond zero (b ∷ bs) = b ∷ bs
+beyond (suc k) (b ∷ bs) = beyond (lessOne (eqb b 10) k) bs
+
+-- a text cut after its newlines of these numbers, of which n stand before it
+unfoldable pub pieces : ℕ → List ℕ → List ℕ → List (List ℕ)
+pieces n [] t = t ∷ []
+pieces n (c ∷ cs) t = upTo (c - n) t ∷ pieces c cs (beyond (c - n) t)
+
+-- the numbers rise from n to at most m
+abbrev pub Rising : ℕ → ℕ → List ℕ → Type 0
+Rising n m [] = Unit {0}
+Rising n m (c ∷ cs) = (n < c) × (c ≤ m) × Rising c m cs
 
 pub upTo-beyond : (k : ℕ) (t : List ℕ) → upTo k t ++ beyond k t ≡ t
 unfolding upTo beyond
@@ -81,10 +100,3 @@ cut-pieces (c ∷ cs) n t (l, m, h) =
       joined = rw (rest .joined) (upTo-beyond (c - n) t);
       cut-there = cuts-cons n (upTo (c - n) t) (pieces c cs (beyond (c - n) t)) (rest .joinable) ∙ rw (e, rest .cut-there);
     }
-
--- An accepted text cut after newlines: the pieces are all accepted exactly when no jump crosses a cut.
-pub cut-text : (E : Engine) → Laws E → (t : List ℕ) (rs : List (Placed (E .reader .Rule))) → readText (E .reader) t ≡ ok rs
-    → (cs : List ℕ) → Rising 0 (newlines t) cs → All (Accepted E) (pieces 0 cs t) ↔ NoCrossing cs (jumps E rs)
-cut-text E L t rs e cs h =
-    let p = cut-pieces cs 0 t (subst (λ (z : ℕ). Rising 0 z cs) (omega arith) h) in
-    rw (p .cut-there) at (cut-accepted E L t rs e (pieces 0 cs t) (p .joinable) (p .joined))

@@ -67,31 +67,6 @@ cuts n (p ∷ q ∷ ps) = (n + newlines p) ∷ cuts (n + newlines p) (q ∷ ps)
 abbrev pub NoCrossing : List ℕ → List Jump → Type 0
 NoCrossing cs js = All (λ (j : Jump). All (λ (c : ℕ). ¬ Crosses c j) cs) js
 
-abbrev pub lessOne : Bool → ℕ → ℕ
-lessOne true k = k
-lessOne false k = suc k
-
--- a text up to and with its k-th newline, and what follows that
-unfoldable pub upTo : ℕ → List ℕ → List ℕ
-upTo k [] = []
-upTo zero (b ∷ bs) = []
-upTo (suc k) (b ∷ bs) = b ∷ upTo (lessOne (eqb b 10) k) bs
-
-unfoldable pub beyond : ℕ → List ℕ → List ℕ
-beyond k [] = []
-beyond zero (b ∷ bs) = b ∷ bs
-beyond (suc k) (b ∷ bs) = beyond (lessOne (eqb b 10) k) bs
-
--- a text cut after its newlines of these numbers, of which n stand before it
-unfoldable pub pieces : ℕ → List ℕ → List ℕ → List (List ℕ)
-pieces n [] t = t ∷ []
-pieces n (c ∷ cs) t = upTo (c - n) t ∷ pieces c cs (beyond (c - n) t)
-
--- the numbers rise from n to at most m
-abbrev pub Rising : ℕ → ℕ → List ℕ → Type 0
-Rising n m [] = Unit {0}
-Rising n m (c ∷ cs) = (n < c) × (c ≤ m) × Rising c m cs
-
 module _ (E : Engine) where
   open Reader (E .reader) using (Rule, goto)
 

@@ -1,4 +1,4 @@
--- Document 01, Reading a line: the lines of a text with their numbers. Nobody else counts lines.
+-- Document 01, Reading a line: the lines of a text with their numbers. Lines get their numbers nowhere else.
 -- Assumes nothing.
 use Prim.Native.Nat.{ℕ, suc}
 use mathlib.Core.List.{List, [], _∷_}

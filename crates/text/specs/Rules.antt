@@ -37,7 +37,7 @@ module _ (E : Engine) where
   lineBegins false d m s v n r = standing m s v
   lineBegins true d m s v n r = stepped (step d r s) n (goto r) v
 
-  -- one line: passed over, or its rule begins; v rules were visited before
+  -- one line of an accepted text: passed over, or its rule begins; v rules were visited before
   unfoldable pub runLine : Device → Mode → State → ℕ → Placed (LineRead Rule) → Ran State
   runLine d m s v (line n skip) = standing m s v
   runLine d m s v (line n (fault f)) = standing m s v

@@ -35,7 +35,7 @@ pub record Halt (State : Type 0) : Type 0 where
 abbrev pub Ran : Type 0 → Type 0
 Ran State = Checked (Placed Refusal) (Halt State)
 
--- v rules more were visited: every count of a run is summed here
+-- v rules more were visited
 abbrev pub more : {State : Type 0} → ℕ → Ran State → Ran State
 more v (refused f) = refused f
 more v (ok h) = ok (record { mode = h .mode; state = h .state; visited = v + h .visited })
