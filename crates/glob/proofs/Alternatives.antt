@@ -12,10 +12,10 @@ use lib.Dec.{eqb}
 use lib.ListN.{length, getD, drop, drop-of-length-le}
 use Rattle.lists.specs.Lists.{pick, isSome, all, any}
 use Rattle.lists.specs.Runs.{span, splitAt}
-use Rattle.lists.specs.Items.{Item, before, items}
+use Rattle.lists.specs.Items.{Item, items}
 use Rattle.lists.proofs.Rest.{rest-at, getD-any}
 use Rattle.lists.proofs.Runs.{rest-of}
-use Rattle.lists.proofs.Scan.{partsBehind, split-first}
+use Rattle.lists.proofs.Scan.{partsBehind, split-first, some-before}
 use Rattle.scan.specs.Ends.{RunEnd, isNot}
 use Rattle.pattern.specs.Pattern.{Element, star, one, byte, elementAt, setAt, elements, takes, alternativeMatches}
 use Rattle.pattern.proofs.Elements.{elements-at, elements-bad}
@@ -52,10 +52,6 @@ module _ (s : List ℕ) (a : ℕ) (v : List ℕ) where
 -- every alternative from a place on is well formed
 abbrev pub soundFrom : List ℕ → ℕ → Bool
 soundFrom s p = all (λ l. isSome (elements l)) (splitAt 124 (drop p s))
-
-some-before : {A : Type 0} (a : A) (o : Option (List A)) → isSome (before a o) ≡ isSome o
-some-before a none = refl
-some-before a (some others) = refl
 
 module _ (s : List ℕ) (p : ℕ) where
   pub sound-end : length s ≤ p → soundFrom s p ≡ true

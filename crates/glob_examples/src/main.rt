@@ -1,6 +1,4 @@
 // Runs the matcher on a table: each line of the input is a pattern, a tab and a value. Each is written out with what was found.
-ghost use Prim.Native.Nat.{_≤_};
-ghost use lib.ListN.{length};
 use libc::STDIN_FILENO;
 use libc::STDOUT_FILENO;
 

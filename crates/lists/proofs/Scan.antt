@@ -4,15 +4,17 @@ use Prim.Native.Nat.{ℕ, zero, suc, _+_, _-_, _≤_, _<_}
 use mathlib.Core.Path.{_≡_, refl, sym, ap, _∙_}
 use mathlib.Core.Bool.{Bool, true, false, not}
 use mathlib.Core.List.{List, [], _∷_}
+use mathlib.Core.Option.{Option, none, some}
 use native.Mathlib.Omega.{arith}
 use native.Mathlib.Numerals.{sub-one}
 use native.Mathlib.Nat.{le-of-suc-le-suc, not-suc-le-zero}
 use borrow.Author.Tests.{eq-eqb, not-true}
 use lib.Dec.{eqb}
 use lib.ListN.{length, getD, take, drop, length-append}
-use Rattle.lists.specs.Lists.{all}
+use Rattle.lists.specs.Lists.{isSome, all}
 use Rattle.lists.specs.Bytes.{isSpace, isDigit}
 use Rattle.lists.specs.Runs.{span, spanStep, onto, splitStep, splitAt, lastOf, trimStep, trim, endsInSpace, endDigits}
+use Rattle.lists.specs.Items.{before}
 use Rattle.lists.proofs.Tests.{and-both, both-and, and-false}
 use Rattle.lists.proofs.Rest.{rest-at}
 use Rattle.lists.proofs.Runs.{span-whole}
@@ -154,3 +156,9 @@ part-behind c (b ∷ s) (suc n) h e k =
 pub part-at : (c : ℕ) (s : List ℕ) (n : ℕ) → 0 < n → n ≤ length s → getD s (n - 1) 0 ≡ c → all (λ x. not (eqb x c)) (drop n s) ≡ true → drop n s ≡ lastOf (splitAt c s)
 part-at c s zero z h e k = absurd (omega arith)
 part-at c s (suc n) z h e k = part-behind c s n h (rw sub-one at e) k
+
+-- ---- items
+
+pub some-before : {A : Type 0} (a : A) (o : Option (List A)) → isSome (before a o) ≡ isSome o
+some-before a none = refl
+some-before a (some others) = refl

@@ -3,3 +3,4 @@ pub mod Sound
 pub mod Examples
 pub mod Pairs
 pub mod Escapes
+pub mod Shorter

@@ -65,18 +65,18 @@ SoundRule (p ∷ ps) = SoundPair p × SoundRule ps
 
 -- ---- what holds of a value, if there is one
 
-abbrev Some : {A : Type 0} → (A → Type 0) → Option A → Type 0
+abbrev pub Some : {A : Type 0} → (A → Type 0) → Option A → Type 0
 Some P none = Unit {0}
 Some P (some a) = P a
 
-pick-some : {A : Type 0} (P : A → Type 0) (t : Bool) (a b : Option A) → Some P a → Some P b → Some P (pick t a b)
+pub pick-some : {A : Type 0} (P : A → Type 0) (t : Bool) (a b : Option A) → Some P a → Some P b → Some P (pick t a b)
 pick-some P t a b h k = pick-both (Some P) t a b h k
 
-found-some : {A : Type 0} (P : A → Type 0) (o : Option A) (f : Refusal) → Some P o → Holds P (found o f)
+pub found-some : {A : Type 0} (P : A → Type 0) (o : Option A) (f : Refusal) → Some P o → Holds P (found o f)
 found-some P none f h = tt
 found-some P (some a) f h = h
 
-require-then : {B : Type 0} (Q : B → Type 0) (t : Bool) (f : Refusal) (c : Checked Refusal B) → (t ≡ true → Holds Q c) → Holds Q (require t f >> c)
+pub require-then : {B : Type 0} (Q : B → Type 0) (t : Bool) (f : Refusal) (c : Checked Refusal B) → (t ≡ true → Holds Q c) → Holds Q (require t f >> c)
 require-then Q true f c g = g refl
 require-then Q false f c g = tt
 

@@ -8,7 +8,7 @@ use native.Mathlib.Omega.{arith}
 use borrow.Author.Tests.{eq-eqb, ne-eqb}
 use lib.ListN.{length, getD, drop, drop-of-length-le}
 use lib.Dec.{eqb}
-use Rattle.lists.specs.Bytes.{sameBytes}
+use Rattle.lists.specs.Bytes.{sameBytes, starts}
 use Rattle.lists.proofs.Rest.{rest-at}
 use Rattle.lists.proofs.Tests.{and-false}
 
@@ -31,3 +31,24 @@ module _ (a b : List ℕ) (i : ℕ) where
   pub same-out : length a ≤ i → length b ≤ i → sameBytes (drop i a) (drop i b) ≡ true
   unfolding sameBytes
   same-out h k = rw (drop-of-length-le a h, drop-of-length-le b k)
+
+-- ---- a name that begins a list
+
+pub starts-short : (name bs : List ℕ) → length bs < length name → starts name bs ≡ false
+unfolding starts
+starts-short [] bs h = absurd (omega arith)
+starts-short (x ∷ name) [] h = refl
+starts-short (x ∷ name) (y ∷ bs) h = rw (starts-short name bs (omega arith)) (and-false (eqb x y))
+
+module _ (name s : List ℕ) (k i : ℕ) where
+  pub starts-on : k < length name → i < length s → getD name k 0 ≡ getD s i 0 → starts (drop k name) (drop i s) ≡ starts (drop (k + 1) name) (drop (i + 1) s)
+  unfolding starts
+  starts-on h l e = rw (rest-at name k h, rest-at s i l, eq-eqb (getD name k 0) (getD s i 0) e)
+
+  pub starts-differs : k < length name → i < length s → (getD name k 0 ≡ getD s i 0 → ⊥) → starts (drop k name) (drop i s) ≡ false
+  unfolding starts
+  starts-differs h l n = rw (rest-at name k h, rest-at s i l, ne-eqb (getD name k 0) (getD s i 0) n)
+
+  pub starts-whole : length name ≤ k → starts (drop k name) (drop i s) ≡ true
+  unfolding starts
+  starts-whole h = rw (drop-of-length-le name {i = k} h)

@@ -2,7 +2,7 @@
 ghost use mathlib.Core.Path.{_≡_};
 ghost use Prim.Native.Nat.{_≤_};
 ghost use lib.ListN.{length, getD, take, drop};
-ghost use Rattle.lists.specs.Bytes.{isUpper, isDigit, isBlank, isSpace, sameBytes};
+ghost use Rattle.lists.specs.Bytes.{isUpper, isDigit, isBlank, isSpace, sameBytes, starts};
 ghost use Rattle.lists.specs.Runs.{splitAt, lastOf, trim, endsInSpace, endDigits};
 ghost use Rattle.scan.specs.Ends.{RunEnd, isNot};
 
@@ -73,6 +73,24 @@ pub fn same(a: &[u8], b: &[u8]) -> bool
             return false;
         }
         i += 1;
+    }
+    true
+}
+
+// Whether a name begins at a place.
+pub fn starts_at(s: &[u8], at: usize, name: &[u8]) -> bool
+    requires { ⌜ at ≤ length (now s) ⌝ }
+    ensures { λ r. ⌜ r ≡ starts (now (name .entry)) (drop at (now (s .entry))) ⌝ }
+{
+    if s.len() - at < name.len() {
+        return false;
+    }
+    let mut k: usize = 0;
+    while k < name.len() {
+        if name[k] != s[at + k] {
+            return false;
+        }
+        k += 1;
     }
     true
 }

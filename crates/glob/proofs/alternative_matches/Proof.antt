@@ -16,21 +16,30 @@ enum-known-k c = search needs
 
 add-matches-from : tie.Need-add-matches-from
 add-matches-from c =
-    let w : Common (c .before .before .before .before .before .before .args .pattern .now) (c .before .before .before .before .before .before .args .at) (c .before .before .before .before .before .before .args .value .now) (c .before .k .given .0 .0) = rw (c .before .k .given .1) at (c .before .before .before .plain-prefix .ensures) in omega (arith, w .pattern-in)
+    let args = c .before .before .before .before .before .before .args in
+    let w : Common (args .pattern .now) (args .at) (args .value .now) (c .before .k .given .0 .0) = rw (c .before .k .given .1) at (c .before .before .before .plain-prefix .ensures) in
+    omega (arith, w .pattern-in)
 
 matches-from-requires : tie.Need-matches-from-requires
 matches-from-requires c κs =
-    let w : Common (c .before .before .before .before .before .before .args .pattern .now) (c .before .before .before .before .before .before .args .at) (c .before .before .before .before .before .before .args .value .now) (c .before .k .given .0 .0) = rw (c .before .k .given .1) at (c .before .before .before .plain-prefix .ensures) in (w .pattern-in, w .value-in)
+    let args = c .before .before .before .before .before .before .args in
+    let w : Common (args .pattern .now) (args .at) (args .value .now) (c .before .k .given .0 .0) = rw (c .before .k .given .1) at (c .before .before .before .plain-prefix .ensures) in
+    (w .pattern-in, w .value-in)
 
 enum-told : tie.Need-enum-told
 enum-told c = search needs
 
 returns : tie.Need-returns
 returns c =
-    let w : Common (c .before .before .before .before .before .before .before .args .pattern .now) (c .before .before .before .before .before .before .before .args .at) (c .before .before .before .before .before .before .before .args .value .now) (c .before .before .k .given .0 .0) = rw (c .before .before .k .given .1) at (c .before .before .before .before .plain-prefix .ensures) in c .matches-from .ensures ∙ w .same
+    let args = c .before .before .before .before .before .before .before .args in
+    let w : Common (args .pattern .now) (args .at) (args .value .now) (c .before .before .k .given .0 .0) = rw (c .before .before .k .given .1) at (c .before .before .before .before .plain-prefix .ensures) in
+    c .matches-from .ensures ∙ w .same
 
 returns-2 : tie.Need-returns-2
-returns-2 c = let w : PrefixIs Miss (c .before .before .before .before .before .args .pattern .now) (c .before .before .before .before .before .args .at) (c .before .before .before .before .before .args .value .now) = rw (c .enum-told .given .1) at (c .before .before .plain-prefix .ensures) in sym w
+returns-2 c =
+    let args = c .before .before .before .before .before .args in
+    let w : PrefixIs Miss (args .pattern .now) (args .at) (args .value .now) = rw (c .enum-told .given .1) at (c .before .before .plain-prefix .ensures) in
+    sym w
 
 pub alternative-matches-spec : {M : Type 1} → statement M
 alternative-matches-spec =

@@ -11,7 +11,9 @@ shared-slice-read-result : tie.Need-shared-slice-read-result
 shared-slice-read-result c = search needs
 
 returns : tie.Need-returns
-returns c = getD-any (c .before .before .args .pattern .now) (c .before .before .args .i) 0 124 (c .before .if1 .taken)
+returns c =
+    let args = c .before .before .args in
+    getD-any (args .pattern .now) (args .i) 0 124 (c .before .if1 .taken)
 
 returns-2 : tie.Need-returns-2
 returns-2 c = sym (List·getD-eq-default (c .before .args .pattern .now) 124 (c .if1 .left))

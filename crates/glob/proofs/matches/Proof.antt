@@ -24,13 +24,19 @@ alternative-matches-requires : tie.Need-alternative-matches-requires Inv-loop μ
 alternative-matches-requires c κs = c .loop .inv .0
 
 returns : tie.Need-returns Inv-loop μ-loop
-returns c = sym (any-here (c .before .before .before .before .before .args .pattern .now) (c .before .before .loop .at) (c .before .before .before .before .before .args .value .now) (sym (c .before .alternative-matches .ensures) ∙ c .if1 .taken)) ∙ c .before .before .loop .inv .1
+returns c =
+    let args = c .before .before .before .before .before .args in
+    let loop = c .before .before .loop in
+    sym (any-here (args .pattern .now) (loop .at) (args .value .now) (sym (c .before .alternative-matches .ensures) ∙ c .if1 .taken)) ∙ loop .inv .1
 
 byte-end-requires : tie.Need-byte-end-requires Inv-loop μ-loop
 byte-end-requires c κs = search needs
 
 returns-2 : tie.Need-returns-2 Inv-loop μ-loop
-returns-2 c = sym (any-none (c .before .before .before .before .before .before .before .args .pattern .now) (c .before .before .before .before .loop .at) (c .before .before .before .before .before .before .before .args .value .now) (c .before .byte-end .result) (c .before .byte-end .ensures) (sym (c .before .before .before .alternative-matches .ensures) ∙ c .before .before .if1 .left) (c .if2 .taken)) ∙ c .before .before .before .before .loop .inv .1
+returns-2 c =
+    let args = c .before .before .before .before .before .before .before .args in
+    let loop = c .before .before .before .before .loop in
+    sym (any-none (args .pattern .now) (loop .at) (args .value .now) (c .before .byte-end .result) (c .before .byte-end .ensures) (sym (c .before .before .before .alternative-matches .ensures) ∙ c .before .before .if1 .left) (c .if2 .taken)) ∙ loop .inv .1
 
 add-at : tie.Need-add-at Inv-loop μ-loop
 add-at c = omega arith
@@ -39,7 +45,10 @@ loop-less : tie.Need-loop-less Inv-loop μ-loop
 loop-less c = omega (arith, c .before .byte-end .ensures .from)
 
 loop-again : tie.Need-loop-again Inv-loop μ-loop
-loop-again c = (omega arith, sym (any-behind (c .before .before .before .before .before .before .before .args .pattern .now) (c .before .before .before .before .loop .at) (c .before .before .before .before .before .before .before .args .value .now) (c .before .byte-end .result) (c .before .byte-end .ensures) (sym (c .before .before .before .alternative-matches .ensures) ∙ c .before .before .if1 .left) (c .if2 .left)) ∙ c .before .before .before .before .loop .inv .1)
+loop-again c =
+    let args = c .before .before .before .before .before .before .before .args in
+    let loop = c .before .before .before .before .loop in
+    (omega arith, sym (any-behind (args .pattern .now) (loop .at) (args .value .now) (c .before .byte-end .result) (c .before .byte-end .ensures) (sym (c .before .before .before .alternative-matches .ensures) ∙ c .before .before .if1 .left) (c .if2 .left)) ∙ loop .inv .1)
 
 pub matches-spec : {M : Type 1} → statement M
 matches-spec =

@@ -18,7 +18,9 @@ abbrev μ-loop : tie.MeasureT-loop
 μ-loop pattern at value from p₀ t₀ p t = length pattern - p
 
 loop-holds : tie.Need-loop-holds Inv-loop μ-loop
-loop-holds c = (c .before .before .pre .0, c .before .before .pre .1, refl)
+loop-holds c =
+    let pre = c .before .before .pre in
+    (pre .0, pre .1, refl)
 
 step-at-requires : tie.Need-step-at-requires Inv-loop μ-loop
 step-at-requires c κs = c .loop .inv .0
@@ -28,51 +30,78 @@ enum-told c = search needs
 
 returns : tie.Need-returns Inv-loop μ-loop
 returns c =
-    let w : StepIs Done (c .before .before .before .before .before .before .args .pattern .now) (c .before .before .before .loop .p) (c .before .before .before .before .before .before .args .value .now) (c .before .before .before .loop .t) = rw (c .enum-told .given .1) at (c .before .before .step-at .ensures) in sym w ∙ c .before .before .before .loop .inv .2
+    let args = c .before .before .before .before .before .before .args in
+    let loop = c .before .before .before .loop in
+    let w : StepIs Done (args .pattern .now) (loop .p) (args .value .now) (loop .t) = rw (c .enum-told .given .1) at (c .before .before .step-at .ensures) in
+    sym w ∙ loop .inv .2
 
 enum-told-2 : tie.Need-enum-told-2 Inv-loop μ-loop
 enum-told-2 c = search needs
 
 add-after-star : tie.Need-add-after-star Inv-loop μ-loop
 add-after-star c =
-    let w : StepIs Star (c .before .before .before .before .before .before .args .pattern .now) (c .before .before .before .loop .p) (c .before .before .before .before .before .before .args .value .now) (c .before .before .before .loop .t) = rw (c .enum-told2 .given .1) at (c .before .before .step-at .ensures) in omega (arith, w .0)
+    let args = c .before .before .before .before .before .before .args in
+    let loop = c .before .before .before .loop in
+    let w : StepIs Star (args .pattern .now) (loop .p) (args .value .now) (loop .t) = rw (c .enum-told2 .given .1) at (c .before .before .step-at .ensures) in
+    omega (arith, w .0)
 
 after-star-requires : tie.Need-after-star-requires Inv-loop μ-loop
 after-star-requires c κs =
-    let w : StepIs Star (c .before .before .before .before .before .before .args .pattern .now) (c .before .before .before .loop .p) (c .before .before .before .before .before .before .args .value .now) (c .before .before .before .loop .t) = rw (c .enum-told2 .given .1) at (c .before .before .step-at .ensures) in (omega (arith, w .0), c .before .before .before .loop .inv .1)
+    let args = c .before .before .before .before .before .before .args in
+    let loop = c .before .before .before .loop in
+    let w : StepIs Star (args .pattern .now) (loop .p) (args .value .now) (loop .t) = rw (c .enum-told2 .given .1) at (c .before .before .step-at .ensures) in
+    (omega (arith, w .0), loop .inv .1)
 
 returns-2 : tie.Need-returns-2 Inv-loop μ-loop
 returns-2 c =
-    let w : StepIs Star (c .before .before .before .before .before .before .before .args .pattern .now) (c .before .before .before .before .loop .p) (c .before .before .before .before .before .before .before .args .value .now) (c .before .before .before .before .loop .t) = rw (c .before .enum-told2 .given .1) at (c .before .before .before .step-at .ensures) in c .after-star .ensures ∙ sym (w .1 (drop (c .before .before .before .before .loop .t) (c .before .before .before .before .before .before .before .args .value .now))) ∙ c .before .before .before .before .loop .inv .2
+    let args = c .before .before .before .before .before .before .before .args in
+    let loop = c .before .before .before .before .loop in
+    let w : StepIs Star (args .pattern .now) (loop .p) (args .value .now) (loop .t) = rw (c .before .enum-told2 .given .1) at (c .before .before .before .step-at .ensures) in
+    c .after-star .ensures ∙ sym (w .1 (drop (loop .t) (args .value .now))) ∙ loop .inv .2
 
 enum-known-next : tie.Need-enum-known-next Inv-loop μ-loop
 enum-known-next c = search needs
 
 add-t : tie.Need-add-t Inv-loop μ-loop
 add-t c =
-    let w : Eaten (c .before .before .before .before .before .before .before .args .pattern .now) (c .before .before .before .before .loop .p) (c .before .before .before .before .before .before .before .args .value .now) (c .before .before .before .before .loop .t) (c .before .next .given .0 .0) = rw (c .before .next .given .1) at (c .before .before .before .step-at .ensures) in omega (arith, w .byte)
+    let args = c .before .before .before .before .before .before .before .args in
+    let loop = c .before .before .before .before .loop in
+    let w : Eaten (args .pattern .now) (loop .p) (args .value .now) (loop .t) (c .before .next .given .0 .0) = rw (c .before .next .given .1) at (c .before .before .before .step-at .ensures) in
+    omega (arith, w .byte)
 
 loop-less : tie.Need-loop-less Inv-loop μ-loop
 loop-less c =
-    let w : Eaten (c .before .before .before .before .before .before .before .args .pattern .now) (c .before .before .before .before .loop .p) (c .before .before .before .before .before .before .before .args .value .now) (c .before .before .before .before .loop .t) (c .before .next .given .0 .0) = rw (c .before .next .given .1) at (c .before .before .before .step-at .ensures) in omega (arith, w .forward, w .inside)
+    let args = c .before .before .before .before .before .before .before .args in
+    let loop = c .before .before .before .before .loop in
+    let w : Eaten (args .pattern .now) (loop .p) (args .value .now) (loop .t) (c .before .next .given .0 .0) = rw (c .before .next .given .1) at (c .before .before .before .step-at .ensures) in
+    omega (arith, w .forward, w .inside)
 
 loop-again : tie.Need-loop-again Inv-loop μ-loop
 loop-again c =
-    let w : Eaten (c .before .before .before .before .before .before .before .args .pattern .now) (c .before .before .before .before .loop .p) (c .before .before .before .before .before .before .before .args .value .now) (c .before .before .before .before .loop .t) (c .before .next .given .0 .0) = rw (c .before .next .given .1) at (c .before .before .before .step-at .ensures) in (w .inside, omega (arith, w .byte), sym (w .here) ∙ c .before .before .before .before .loop .inv .2)
+    let args = c .before .before .before .before .before .before .before .args in
+    let loop = c .before .before .before .before .loop in
+    let w : Eaten (args .pattern .now) (loop .p) (args .value .now) (loop .t) (c .before .next .given .0 .0) = rw (c .before .next .given .1) at (c .before .before .before .step-at .ensures) in
+    (w .inside, omega (arith, w .byte), sym (w .here) ∙ loop .inv .2)
 
 enum-told-3 : tie.Need-enum-told-3 Inv-loop μ-loop
 enum-told-3 c = search needs
 
 returns-3 : tie.Need-returns-3 Inv-loop μ-loop
 returns-3 c =
-    let w : StepIs Miss (c .before .before .before .before .before .before .args .pattern .now) (c .before .before .before .loop .p) (c .before .before .before .before .before .before .args .value .now) (c .before .before .before .loop .t) = rw (c .enum-told3 .given .1) at (c .before .before .step-at .ensures) in sym (w .1) ∙ c .before .before .before .loop .inv .2
+    let args = c .before .before .before .before .before .before .args in
+    let loop = c .before .before .before .loop in
+    let w : StepIs Miss (args .pattern .now) (loop .p) (args .value .now) (loop .t) = rw (c .enum-told3 .given .1) at (c .before .before .step-at .ensures) in
+    sym (w .1) ∙ loop .inv .2
 
 enum-told-4 : tie.Need-enum-told-4 Inv-loop μ-loop
 enum-told-4 c = search needs
 
 returns-4 : tie.Need-returns-4 Inv-loop μ-loop
 returns-4 c =
-    let w : StepIs Stop (c .before .before .before .before .before .before .args .pattern .now) (c .before .before .before .loop .p) (c .before .before .before .before .before .before .args .value .now) (c .before .before .before .loop .t) = rw (c .enum-told4 .given .1) at (c .before .before .step-at .ensures) in sym (w (drop (c .before .before .before .loop .t) (c .before .before .before .before .before .before .args .value .now)) (omega (arith, length-drop (c .before .before .before .loop .t) (c .before .before .before .before .before .before .args .value .now)))) ∙ c .before .before .before .loop .inv .2
+    let args = c .before .before .before .before .before .before .args in
+    let loop = c .before .before .before .loop in
+    let w : StepIs Stop (args .pattern .now) (loop .p) (args .value .now) (loop .t) = rw (c .enum-told4 .given .1) at (c .before .before .step-at .ensures) in
+    sym (w (drop (loop .t) (args .value .now)) (omega (arith, length-drop (loop .t) (args .value .now)))) ∙ loop .inv .2
 
 pub matches-from-spec : {M : Type 1} → statement M
 matches-from-spec =

@@ -9,31 +9,49 @@ use Rattle.glob.proofs.member_at.Statement.{statement}
 use Rattle.glob.proofs.member_at.Tie as tie
 
 shared-slice-read-low : tie.Need-shared-slice-read-low
-shared-slice-read-low c = not-bar-in (c .before .before .args .pattern .now) (c .before .before .args .i) (c .before .before .pre)
+shared-slice-read-low c =
+    let args = c .before .before .args in
+    not-bar-in (args .pattern .now) (args .i) (c .before .before .pre)
 
 is-range-requires : tie.Need-is-range-requires
-is-range-requires c κs = not-bar-in (c .before .before .args .pattern .now) (c .before .before .args .i) (c .before .before .pre)
+is-range-requires c κs =
+    let args = c .before .before .args in
+    not-bar-in (args .pattern .now) (args .i) (c .before .before .pre)
 
 add-t9 : tie.Need-add-t9
-add-t9 c = omega (arith, not-bar-in (c .before .before .before .before .args .pattern .now) (c .before .before .before .before .args .i) (c .before .before .before .before .pre))
+add-t9 c =
+    let args = c .before .before .before .before .args in
+    omega (arith, not-bar-in (args .pattern .now) (args .i) (c .before .before .before .before .pre))
 
 returns : tie.Need-returns
-returns c = member-alone (c .before .before .before .before .args .pattern .now) (c .before .before .before .before .args .i) (c .before .before .before .before .pre) (sym (c .before .is-range .ensures) ∙ not-true _ (c .if1 .taken))
+returns c =
+    let args = c .before .before .before .before .args in
+    member-alone (args .pattern .now) (args .i) (c .before .before .before .before .pre) (sym (c .before .is-range .ensures) ∙ not-true _ (c .if1 .taken))
 
 add-high : tie.Need-add-high
-add-high c = omega (arith, not-bar-in (c .before .before .before .before .args .pattern .now) (c .before .before .before .before .args .i) (c .before .before .before .before .pre))
+add-high c =
+    let args = c .before .before .before .before .args in
+    omega (arith, not-bar-in (args .pattern .now) (args .i) (c .before .before .before .before .pre))
 
 shared-slice-read-high : tie.Need-shared-slice-read-high
-shared-slice-read-high c = range-in (c .before .before .before .before .before .args .pattern .now) (c .before .before .before .before .before .args .i) (sym (c .before .before .is-range .ensures) ∙ not-false _ (c .before .if1 .left))
+shared-slice-read-high c =
+    let args = c .before .before .before .before .before .args in
+    range-in (args .pattern .now) (args .i) (sym (c .before .before .is-range .ensures) ∙ not-false _ (c .before .if1 .left))
 
 returns-2 : tie.Need-returns-2
-returns-2 c = member-falling (c .before .before .before .before .before .before .args .pattern .now) (c .before .before .before .before .before .before .args .i) (c .before .before .before .before .before .before .pre) (sym (c .before .before .before .is-range .ensures) ∙ not-false _ (c .before .before .if1 .left)) (c .if2 .taken)
+returns-2 c =
+    let args = c .before .before .before .before .before .before .args in
+    member-falling (args .pattern .now) (args .i) (c .before .before .before .before .before .before .pre) (sym (c .before .before .before .is-range .ensures) ∙ not-false _ (c .before .before .if1 .left)) (c .if2 .taken)
 
 add-t10 : tie.Need-add-t10
-add-t10 c = omega (arith, range-in (c .before .before .before .before .before .before .args .pattern .now) (c .before .before .before .before .before .before .args .i) (sym (c .before .before .before .is-range .ensures) ∙ not-false _ (c .before .before .if1 .left)))
+add-t10 c =
+    let args = c .before .before .before .before .before .before .args in
+    omega (arith, range-in (args .pattern .now) (args .i) (sym (c .before .before .before .is-range .ensures) ∙ not-false _ (c .before .before .if1 .left)))
 
 returns-3 : tie.Need-returns-3
-returns-3 c = member-rising (c .before .before .before .before .before .before .args .pattern .now) (c .before .before .before .before .before .before .args .i) (c .before .before .before .before .before .before .pre) (sym (c .before .before .before .is-range .ensures) ∙ not-false _ (c .before .before .if1 .left)) (c .if2 .left)
+returns-3 c =
+    let args = c .before .before .before .before .before .before .args in
+    member-rising (args .pattern .now) (args .i) (c .before .before .before .before .before .before .pre) (sym (c .before .before .before .is-range .ensures) ∙ not-false _ (c .before .before .if1 .left)) (c .if2 .left)
 
 pub member-at-spec : {M : Type 1} → statement M
 member-at-spec =

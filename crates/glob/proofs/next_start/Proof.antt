@@ -19,11 +19,16 @@ byte-end-requires : tie.Need-byte-end-requires
 byte-end-requires c κs = search needs
 
 returns : tie.Need-returns
-returns c = let k : isSpecial (c .before .before .before .byte-or-bar .result) ≡ false = not-true (isSpecial (c .before .before .before .byte-or-bar .result)) (sym (c .before .before .is-plain .ensures) ∙ c .before .if1 .taken) in
-    start-at (c .before .before .before .before .before .before .args .pattern .now) (c .before .before .before .before .before .before .args .star) (c .before .before .before .before .before .before .args .value .now) (c .before .before .before .before .before .before .args .from) (c .byte-end .result) (c .before .before .before .before .before .before .pre) (rw (c .before .before .before .byte-or-bar .ensures) at (c .byte-end .ensures)) (rw (c .before .before .before .byte-or-bar .ensures) at k)
+returns c =
+    let args = c .before .before .before .before .before .before .args in
+    let byte-or-bar = c .before .before .before .byte-or-bar in
+    let k : isSpecial (byte-or-bar .result) ≡ false = not-true (isSpecial (byte-or-bar .result)) (sym (c .before .before .is-plain .ensures) ∙ c .before .if1 .taken) in
+    start-at (args .pattern .now) (args .star) (args .value .now) (args .from) (c .byte-end .result) (c .before .before .before .before .before .before .pre) (rw (byte-or-bar .ensures) at (c .byte-end .ensures)) (rw (byte-or-bar .ensures) at k)
 
 returns-2 : tie.Need-returns-2
-returns-2 c = start-here (c .before .before .before .before .before .args .pattern .now) (c .before .before .before .before .before .args .star) (c .before .before .before .before .before .args .value .now) (c .before .before .before .before .before .args .from) (c .before .before .before .before .before .pre)
+returns-2 c =
+    let args = c .before .before .before .before .before .args in
+    start-here (args .pattern .now) (args .star) (args .value .now) (args .from) (c .before .before .before .before .before .pre)
 
 pub next-start-spec : {M : Type 1} → statement M
 next-start-spec =

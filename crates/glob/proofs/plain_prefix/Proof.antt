@@ -24,7 +24,10 @@ least-requires : tie.Need-least-requires Inv-loop μ-loop
 least-requires c κs = search needs
 
 loop-holds : tie.Need-loop-holds Inv-loop μ-loop
-loop-holds c = (omega arith, omega (arith, c .least .ensures .0, c .before .before .before .pre), c .least .ensures .1, common-none (c .before .before .before .args .pattern .now) (c .before .before .before .args .at) (c .before .before .before .args .value .now) (c .before .before .before .pre))
+loop-holds c =
+    let args = c .before .before .before .args in
+    let pre = c .before .before .before .pre in
+    (omega arith, omega (arith, c .least .ensures .0, pre), c .least .ensures .1, common-none (args .pattern .now) (args .at) (args .value .now) (pre))
 
 add-b : tie.Need-add-b Inv-loop μ-loop
 add-b c = omega arith
@@ -42,7 +45,10 @@ shared-slice-read-if2 : tie.Need-shared-slice-read-if2 Inv-loop μ-loop
 shared-slice-read-if2 c = omega arith
 
 returns-2 : tie.Need-returns-2 Inv-loop μ-loop
-returns-2 c = common-differs (c .before .before .before .before .before .before .before .before .before .before .args .pattern .now) (c .before .before .before .before .before .before .before .before .before .before .args .at) (c .before .before .before .before .before .before .before .before .before .before .args .value .now) (c .before .before .before .before .before .before .loop .k) (c .before .before .before .before .before .before .loop .inv .3) (omega arith) (omega arith) (not-true _ (sym (c .before .before .before .is-plain .ensures) ∙ not-false _ (c .before .before .if1 .left))) (c .if2 .taken)
+returns-2 c =
+    let args = c .before .before .before .before .before .before .before .before .before .before .args in
+    let loop = c .before .before .before .before .before .before .loop in
+    common-differs (args .pattern .now) (args .at) (args .value .now) (loop .k) (loop .inv .3) (omega arith) (omega arith) (not-true _ (sym (c .before .before .before .is-plain .ensures) ∙ not-false _ (c .before .before .if1 .left))) (c .if2 .taken)
 
 add-k : tie.Need-add-k Inv-loop μ-loop
 add-k c = omega arith
@@ -51,7 +57,10 @@ loop-less : tie.Need-loop-less Inv-loop μ-loop
 loop-less c = omega arith
 
 loop-again : tie.Need-loop-again Inv-loop μ-loop
-loop-again c = (omega arith, c .before .before .before .before .before .before .loop .inv .1, c .before .before .before .before .before .before .loop .inv .2, common-more (c .before .before .before .before .before .before .before .before .before .before .args .pattern .now) (c .before .before .before .before .before .before .before .before .before .before .args .at) (c .before .before .before .before .before .before .before .before .before .before .args .value .now) (c .before .before .before .before .before .before .loop .k) (c .before .before .before .before .before .before .loop .inv .3) (omega arith) (omega arith) (not-true _ (sym (c .before .before .before .is-plain .ensures) ∙ not-false _ (c .before .before .if1 .left))) (c .if2 .left))
+loop-again c =
+    let args = c .before .before .before .before .before .before .before .before .before .before .args in
+    let loop = c .before .before .before .before .before .before .loop in
+    (omega arith, loop .inv .1, loop .inv .2, common-more (args .pattern .now) (args .at) (args .value .now) (loop .k) (loop .inv .3) (omega arith) (omega arith) (not-true _ (sym (c .before .before .before .is-plain .ensures) ∙ not-false _ (c .before .before .if1 .left))) (c .if2 .left))
 
 returns-3 : tie.Need-returns-3 Inv-loop μ-loop
 returns-3 c = c .before .loop .inv .3

@@ -26,16 +26,25 @@ set-from-requires-2 : tie.Need-set-from-requires-2
 set-from-requires-2 c κs = λ e. c .match .rest .1 (c .before .byte-or-bar .ensures ∙ e)
 
 returns : tie.Need-returns
-returns c = sym (set-opposite-short (c .before .before .before .before .before .args .pattern .now) (c .before .before .before .before .before .args .p) (c .before .before .before .before .before .args .x) (sym (c .before .before .before .byte-or-bar .ensures) ∙ c .before .before .match .keys1) (sym (c .before .byte-or-bar2 .ensures) ∙ c .if1 .taken))
+returns c =
+    let args = c .before .before .before .before .before .args in
+    sym (set-opposite-short (args .pattern .now) (args .p) (args .x) (sym (c .before .before .before .byte-or-bar .ensures) ∙ c .before .before .match .keys1) (sym (c .before .byte-or-bar2 .ensures) ∙ c .if1 .taken))
 
 returns-2 : tie.Need-returns-2
-returns-2 c = c .set-from .ensures ∙ sym (set-opposite (c .before .before .before .before .before .before .args .pattern .now) (c .before .before .before .before .before .before .args .p) (c .before .before .before .before .before .before .args .x) (sym (c .before .before .before .before .byte-or-bar .ensures) ∙ c .before .before .before .match .keys1) (λ e. c .before .if1 .left (c .before .before .byte-or-bar2 .ensures ∙ e)))
+returns-2 c =
+    let args = c .before .before .before .before .before .before .args in
+    c .set-from .ensures ∙ sym (set-opposite (args .pattern .now) (args .p) (args .x) (sym (c .before .before .before .before .byte-or-bar .ensures) ∙ c .before .before .before .match .keys1) (λ e. c .before .if1 .left (c .before .before .byte-or-bar2 .ensures ∙ e)))
 
 returns-3 : tie.Need-returns-3
-returns-3 c = sym (set-short (c .before .before .before .args .pattern .now) (c .before .before .before .args .p) (c .before .before .before .args .x) (sym (c .before .byte-or-bar .ensures) ∙ c .match .keys2))
+returns-3 c =
+    let args = c .before .before .before .args in
+    sym (set-short (args .pattern .now) (args .p) (args .x) (sym (c .before .byte-or-bar .ensures) ∙ c .match .keys2))
 
 returns-4 : tie.Need-returns-4
-returns-4 c = c .set-from2 .ensures ∙ sym (set-plain (c .before .before .before .before .args .pattern .now) (c .before .before .before .before .args .p) (c .before .before .before .before .args .x) (λ e. c .before .match .rest .1 (c .before .before .byte-or-bar .ensures ∙ e)) (λ e. c .before .match .rest .0 .1 (c .before .before .byte-or-bar .ensures ∙ e)))
+returns-4 c =
+    let args = c .before .before .before .before .args in
+    let byte-or-bar = c .before .before .byte-or-bar in
+    c .set-from2 .ensures ∙ sym (set-plain (args .pattern .now) (args .p) (args .x) (λ e. c .before .match .rest .1 (byte-or-bar .ensures ∙ e)) (λ e. c .before .match .rest .0 .1 (byte-or-bar .ensures ∙ e)))
 
 pub set-at-spec : {M : Type 1} → statement M
 set-at-spec =

@@ -36,8 +36,9 @@ byte-or-bar-requires c κs = search needs
 
 add-answer : tie.Need-add-answer Inv-loop μ-loop
 add-answer c =
-    let l = c .before .before .before .before .low .given .0 in
-    let r : ReadOn (c .before .before .before .before .before .before .before .before .before .args .pattern .now) (c .before .before .before .before .before .before .before .loop .i) (l .0) (l .1 .0) (l .1 .1 .0) = rw (c .before .before .before .before .low .given .1) at (c .before .before .before .before .before .before .member-at .ensures) in
+    let low = c .before .before .before .before .low in
+    let l = low .given .0 in
+    let r : ReadOn (c .before .before .before .before .before .before .before .before .before .args .pattern .now) (c .before .before .before .before .before .before .before .loop .i) (l .0) (l .1 .0) (l .1 .1 .0) = rw (low .given .1) at (c .before .before .before .before .before .before .member-at .ensures) in
     omega (arith, r .inside)
 
 answer-requires : tie.Need-answer-requires Inv-loop μ-loop
@@ -45,34 +46,49 @@ answer-requires c κs = search needs
 
 returns : tie.Need-returns Inv-loop μ-loop
 returns c =
-    let l = c .before .before .before .before .before .low .given .0 in
-    let r : ReadOn (c .before .before .before .before .before .before .before .before .before .before .args .pattern .now) (c .before .before .before .before .before .before .before .before .loop .i) (l .0) (l .1 .0) (l .1 .1 .0) = rw (c .before .before .before .before .before .low .given .1) at (c .before .before .before .before .before .before .before .member-at .ensures) in
-    c .answer .ensures ∙ ap (λ (t : Bool). answered (c .before .before .before .before .before .before .before .before .before .before .args .opposite) t (l .1 .1 .0 + 1)) (c .before .before .before .found-in .ensures) ∙ sym (read-closes (c .before .before .before .before .before .before .before .before .before .before .args .pattern .now) (c .before .before .before .before .before .before .before .before .loop .i) (l .0) (l .1 .0) (l .1 .1 .0) r (c .before .before .before .before .before .before .before .before .before .before .args .opposite) (c .before .before .before .before .before .before .before .before .loop .found) (c .before .before .before .before .before .before .before .before .before .before .args .x) (sym (c .before .before .byte-or-bar .ensures) ∙ c .before .match2 .keys1)) ∙ c .before .before .before .before .before .before .before .before .loop .inv .1
+    let args = c .before .before .before .before .before .before .before .before .before .before .args in
+    let loop = c .before .before .before .before .before .before .before .before .loop in
+    let low = c .before .before .before .before .before .low in
+    let l = low .given .0 in
+    let r : ReadOn (args .pattern .now) (loop .i) (l .0) (l .1 .0) (l .1 .1 .0) = rw (low .given .1) at (c .before .before .before .before .before .before .before .member-at .ensures) in
+    c .answer .ensures ∙ ap (λ (t : Bool). answered (args .opposite) t (l .1 .1 .0 + 1)) (c .before .before .before .found-in .ensures) ∙ sym (read-closes (args .pattern .now) (loop .i) (l .0) (l .1 .0) (l .1 .1 .0) r (args .opposite) (loop .found) (args .x) (sym (c .before .before .byte-or-bar .ensures) ∙ c .before .match2 .keys1)) ∙ loop .inv .1
 
 returns-2 : tie.Need-returns-2 Inv-loop μ-loop
 returns-2 c =
-    let l = c .before .before .before .before .low .given .0 in
-    let r : ReadOn (c .before .before .before .before .before .before .before .before .before .args .pattern .now) (c .before .before .before .before .before .before .before .loop .i) (l .0) (l .1 .0) (l .1 .1 .0) = rw (c .before .before .before .before .low .given .1) at (c .before .before .before .before .before .before .member-at .ensures) in
-    sym (read-ends (c .before .before .before .before .before .before .before .before .before .args .pattern .now) (c .before .before .before .before .before .before .before .loop .i) (l .0) (l .1 .0) (l .1 .1 .0) r (c .before .before .before .before .before .before .before .before .before .args .opposite) (c .before .before .before .before .before .before .before .loop .found) (c .before .before .before .before .before .before .before .before .before .args .x) (sym (c .before .byte-or-bar .ensures) ∙ c .match2 .keys2)) ∙ c .before .before .before .before .before .before .before .loop .inv .1
+    let args = c .before .before .before .before .before .before .before .before .before .args in
+    let loop = c .before .before .before .before .before .before .before .loop in
+    let low = c .before .before .before .before .low in
+    let l = low .given .0 in
+    let r : ReadOn (args .pattern .now) (loop .i) (l .0) (l .1 .0) (l .1 .1 .0) = rw (low .given .1) at (c .before .before .before .before .before .before .member-at .ensures) in
+    sym (read-ends (args .pattern .now) (loop .i) (l .0) (l .1 .0) (l .1 .1 .0) r (args .opposite) (loop .found) (args .x) (sym (c .before .byte-or-bar .ensures) ∙ c .match2 .keys2)) ∙ loop .inv .1
 
 loop-less : tie.Need-loop-less Inv-loop μ-loop
 loop-less c =
-    let l = c .before .before .before .before .low .given .0 in
-    let r : ReadOn (c .before .before .before .before .before .before .before .before .before .args .pattern .now) (c .before .before .before .before .before .before .before .loop .i) (l .0) (l .1 .0) (l .1 .1 .0) = rw (c .before .before .before .before .low .given .1) at (c .before .before .before .before .before .before .member-at .ensures) in
+    let low = c .before .before .before .before .low in
+    let l = low .given .0 in
+    let r : ReadOn (c .before .before .before .before .before .before .before .before .before .args .pattern .now) (c .before .before .before .before .before .before .before .loop .i) (l .0) (l .1 .0) (l .1 .1 .0) = rw (low .given .1) at (c .before .before .before .before .before .before .member-at .ensures) in
     omega (arith, r .forward, r .inside)
 
 loop-again : tie.Need-loop-again Inv-loop μ-loop
 loop-again c =
-    let l = c .before .before .before .before .low .given .0 in
-    let r : ReadOn (c .before .before .before .before .before .before .before .before .before .args .pattern .now) (c .before .before .before .before .before .before .before .loop .i) (l .0) (l .1 .0) (l .1 .1 .0) = rw (c .before .before .before .before .low .given .1) at (c .before .before .before .before .before .before .member-at .ensures) in
-    let n : NotBar (c .before .before .before .before .before .before .before .before .before .args .pattern .now) (l .1 .1 .0) = λ e. c .match2 .rest .1 (c .before .byte-or-bar .ensures ∙ e) in
-    (n, rw (c .before .before .found-in .ensures) (sym (read-on (c .before .before .before .before .before .before .before .before .before .args .pattern .now) (c .before .before .before .before .before .before .before .loop .i) (l .0) (l .1 .0) (l .1 .1 .0) r (c .before .before .before .before .before .before .before .before .before .args .opposite) (c .before .before .before .before .before .before .before .loop .found) (c .before .before .before .before .before .before .before .before .before .args .x) n (λ e. c .match2 .rest .0 .1 (c .before .byte-or-bar .ensures ∙ e))) ∙ c .before .before .before .before .before .before .before .loop .inv .1))
+    let args = c .before .before .before .before .before .before .before .before .before .args in
+    let loop = c .before .before .before .before .before .before .before .loop in
+    let low = c .before .before .before .before .low in
+    let byte-or-bar = c .before .byte-or-bar in
+    let l = low .given .0 in
+    let r : ReadOn (args .pattern .now) (loop .i) (l .0) (l .1 .0) (l .1 .1 .0) = rw (low .given .1) at (c .before .before .before .before .before .before .member-at .ensures) in
+    let n : NotBar (args .pattern .now) (l .1 .1 .0) = λ e. c .match2 .rest .1 (byte-or-bar .ensures ∙ e) in
+    (n, rw (c .before .before .found-in .ensures) (sym (read-on (args .pattern .now) (loop .i) (l .0) (l .1 .0) (l .1 .1 .0) r (args .opposite) (loop .found) (args .x) n (λ e. c .match2 .rest .0 .1 (byte-or-bar .ensures ∙ e))) ∙ loop .inv .1))
 
 enum-told : tie.Need-enum-told Inv-loop μ-loop
 enum-told c = search needs
 
 returns-3 : tie.Need-returns-3 Inv-loop μ-loop
-returns-3 c = let w : MemberIs Falling (c .before .before .before .before .before .args .pattern .now) (c .before .before .before .loop .i) = rw (c .enum-told .given .1) at (c .before .before .member-at .ensures) in sym (w (c .before .before .before .before .before .args .opposite) (c .before .before .before .loop .found) (c .before .before .before .before .before .args .x)) ∙ c .before .before .before .loop .inv .1
+returns-3 c =
+    let args = c .before .before .before .before .before .args in
+    let loop = c .before .before .before .loop in
+    let w : MemberIs Falling (args .pattern .now) (loop .i) = rw (c .enum-told .given .1) at (c .before .before .member-at .ensures) in
+    sym (w (args .opposite) (loop .found) (args .x)) ∙ loop .inv .1
 
 pub set-from-spec : {M : Type 1} → statement M
 set-from-spec =

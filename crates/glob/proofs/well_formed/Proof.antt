@@ -35,34 +35,54 @@ enum-known-next c = search needs
 
 loop-less : tie.Need-loop-less Inv-loop μ-loop
 loop-less c =
-    let k : SoundIs (c .before .before .before .set-at .result) (c .before .before .before .before .before .before .before .before .before .args .pattern .now) (c .before .before .before .before .before .before .before .loop .p) = rw (c .before .before .before .set-at .ensures) (sound-set (c .before .before .before .before .before .before .before .before .before .args .pattern .now) (c .before .before .before .before .before .before .before .loop .p) 0 (omega arith) (c .before .before .before .before .match .keys1)) in
-    let w : SoundOn (c .before .before .before .before .before .before .before .before .before .args .pattern .now) (c .before .before .before .before .before .before .before .loop .p) (c .before .next .given .0 .0) = rw (c .before .next .given .1) at k in omega (arith, w .forward, w .inside)
+    let args = c .before .before .before .before .before .before .before .before .before .args in
+    let loop = c .before .before .before .before .before .before .before .loop in
+    let set-at = c .before .before .before .set-at in
+    let k : SoundIs (set-at .result) (args .pattern .now) (loop .p) = rw (set-at .ensures) (sound-set (args .pattern .now) (loop .p) 0 (omega arith) (c .before .before .before .before .match .keys1)) in
+    let w : SoundOn (args .pattern .now) (loop .p) (c .before .next .given .0 .0) = rw (c .before .next .given .1) at k in
+    omega (arith, w .forward, w .inside)
 
 loop-again : tie.Need-loop-again Inv-loop μ-loop
 loop-again c =
-    let k : SoundIs (c .before .before .before .set-at .result) (c .before .before .before .before .before .before .before .before .before .args .pattern .now) (c .before .before .before .before .before .before .before .loop .p) = rw (c .before .before .before .set-at .ensures) (sound-set (c .before .before .before .before .before .before .before .before .before .args .pattern .now) (c .before .before .before .before .before .before .before .loop .p) 0 (omega arith) (c .before .before .before .before .match .keys1)) in
-    let w : SoundOn (c .before .before .before .before .before .before .before .before .before .args .pattern .now) (c .before .before .before .before .before .before .before .loop .p) (c .before .next .given .0 .0) = rw (c .before .next .given .1) at k in (w .inside, sym (w .same) ∙ c .before .before .before .before .before .before .before .loop .inv .1)
+    let args = c .before .before .before .before .before .before .before .before .before .args in
+    let loop = c .before .before .before .before .before .before .before .loop in
+    let set-at = c .before .before .before .set-at in
+    let k : SoundIs (set-at .result) (args .pattern .now) (loop .p) = rw (set-at .ensures) (sound-set (args .pattern .now) (loop .p) 0 (omega arith) (c .before .before .before .before .match .keys1)) in
+    let w : SoundOn (args .pattern .now) (loop .p) (c .before .next .given .0 .0) = rw (c .before .next .given .1) at k in
+    (w .inside, sym (w .same) ∙ loop .inv .1)
 
 enum-known-next-2 : tie.Need-enum-known-next-2 Inv-loop μ-loop
 enum-known-next-2 c = search needs
 
 loop-less-2 : tie.Need-loop-less-2 Inv-loop μ-loop
 loop-less-2 c =
-    let k : SoundIs (c .before .before .before .set-at .result) (c .before .before .before .before .before .before .before .before .before .args .pattern .now) (c .before .before .before .before .before .before .before .loop .p) = rw (c .before .before .before .set-at .ensures) (sound-set (c .before .before .before .before .before .before .before .before .before .args .pattern .now) (c .before .before .before .before .before .before .before .loop .p) 0 (omega arith) (c .before .before .before .before .match .keys1)) in
-    let w : SoundOn (c .before .before .before .before .before .before .before .before .before .args .pattern .now) (c .before .before .before .before .before .before .before .loop .p) (c .before .next2 .given .0 .0) = rw (c .before .next2 .given .1) at k in omega (arith, w .forward, w .inside)
+    let args = c .before .before .before .before .before .before .before .before .before .args in
+    let loop = c .before .before .before .before .before .before .before .loop in
+    let set-at = c .before .before .before .set-at in
+    let k : SoundIs (set-at .result) (args .pattern .now) (loop .p) = rw (set-at .ensures) (sound-set (args .pattern .now) (loop .p) 0 (omega arith) (c .before .before .before .before .match .keys1)) in
+    let w : SoundOn (args .pattern .now) (loop .p) (c .before .next2 .given .0 .0) = rw (c .before .next2 .given .1) at k in
+    omega (arith, w .forward, w .inside)
 
 loop-again-2 : tie.Need-loop-again-2 Inv-loop μ-loop
 loop-again-2 c =
-    let k : SoundIs (c .before .before .before .set-at .result) (c .before .before .before .before .before .before .before .before .before .args .pattern .now) (c .before .before .before .before .before .before .before .loop .p) = rw (c .before .before .before .set-at .ensures) (sound-set (c .before .before .before .before .before .before .before .before .before .args .pattern .now) (c .before .before .before .before .before .before .before .loop .p) 0 (omega arith) (c .before .before .before .before .match .keys1)) in
-    let w : SoundOn (c .before .before .before .before .before .before .before .before .before .args .pattern .now) (c .before .before .before .before .before .before .before .loop .p) (c .before .next2 .given .0 .0) = rw (c .before .next2 .given .1) at k in (w .inside, sym (w .same) ∙ c .before .before .before .before .before .before .before .loop .inv .1)
+    let args = c .before .before .before .before .before .before .before .before .before .args in
+    let loop = c .before .before .before .before .before .before .before .loop in
+    let set-at = c .before .before .before .set-at in
+    let k : SoundIs (set-at .result) (args .pattern .now) (loop .p) = rw (set-at .ensures) (sound-set (args .pattern .now) (loop .p) 0 (omega arith) (c .before .before .before .before .match .keys1)) in
+    let w : SoundOn (args .pattern .now) (loop .p) (c .before .next2 .given .0 .0) = rw (c .before .next2 .given .1) at k in
+    (w .inside, sym (w .same) ∙ loop .inv .1)
 
 enum-told : tie.Need-enum-told Inv-loop μ-loop
 enum-told c = search needs
 
 returns : tie.Need-returns Inv-loop μ-loop
 returns c =
-    let k : SoundIs (c .before .before .set-at .result) (c .before .before .before .before .before .before .before .before .args .pattern .now) (c .before .before .before .before .before .before .loop .p) = rw (c .before .before .set-at .ensures) (sound-set (c .before .before .before .before .before .before .before .before .args .pattern .now) (c .before .before .before .before .before .before .loop .p) 0 (omega arith) (c .before .before .before .match .keys1)) in
-    let w : SoundIs Fault (c .before .before .before .before .before .before .before .before .args .pattern .now) (c .before .before .before .before .before .before .loop .p) = rw (c .enum-told .given .1) at k in sym w ∙ c .before .before .before .before .before .before .loop .inv .1
+    let args = c .before .before .before .before .before .before .before .before .args in
+    let loop = c .before .before .before .before .before .before .loop in
+    let set-at = c .before .before .set-at in
+    let k : SoundIs (set-at .result) (args .pattern .now) (loop .p) = rw (set-at .ensures) (sound-set (args .pattern .now) (loop .p) 0 (omega arith) (c .before .before .before .match .keys1)) in
+    let w : SoundIs Fault (args .pattern .now) (loop .p) = rw (c .enum-told .given .1) at k in
+    sym w ∙ loop .inv .1
 
 add-p : tie.Need-add-p Inv-loop μ-loop
 add-p c = omega arith
@@ -71,7 +91,9 @@ loop-less-3 : tie.Need-loop-less-3 Inv-loop μ-loop
 loop-less-3 c = omega arith
 
 loop-again-3 : tie.Need-loop-again-3 Inv-loop μ-loop
-loop-again-3 c = (omega arith, sym (sound-on (c .before .before .before .before .before .args .pattern .now) (c .before .before .before .loop .p) (omega arith) (c .match .rest .1)) ∙ c .before .before .before .loop .inv .1)
+loop-again-3 c =
+    let loop = c .before .before .before .loop in
+    (omega arith, sym (sound-on (c .before .before .before .before .before .args .pattern .now) (loop .p) (omega arith) (c .match .rest .1)) ∙ loop .inv .1)
 
 returns-2 : tie.Need-returns-2 Inv-loop μ-loop
 returns-2 c = sym (sound-end (c .before .before .before .args .pattern .now) (c .before .loop .p) (omega arith)) ∙ c .before .loop .inv .1

@@ -38,7 +38,9 @@ loop-less : tie.Need-loop-less Inv-loop μ-loop
 loop-less c = omega (arith, c .before .before .byte-end .ensures .from)
 
 loop-again : tie.Need-loop-again Inv-loop μ-loop
-loop-again c = omega (arith, c .before .before .byte-end .ensures .from, c .before .before .byte-end .ensures .within)
+loop-again c =
+    let byte-end = c .before .before .byte-end in
+    omega (arith, byte-end .ensures .from, byte-end .ensures .within)
 
 returns : tie.Need-returns Inv-loop μ-loop
 returns c = search needs

@@ -29,7 +29,10 @@ shared-slice-read-if1 : tie.Need-shared-slice-read-if1 Inv-loop μ-loop
 shared-slice-read-if1 c = omega arith
 
 returns : tie.Need-returns Inv-loop μ-loop
-returns c = (c .before .before .before .loop .inv .0, part-at (c .before .before .before .before .args .b) (c .before .before .before .before .args .s .now) (c .before .before .before .loop .n) (omega arith) (omega arith) (c .if1 .taken) (c .before .before .before .loop .inv .1))
+returns c =
+    let args = c .before .before .before .before .args in
+    let loop = c .before .before .before .loop in
+    (loop .inv .0, part-at (args .b) (args .s .now) (loop .n) (omega arith) (omega arith) (c .if1 .taken) (loop .inv .1))
 
 sub-n : tie.Need-sub-n Inv-loop μ-loop
 sub-n c = omega arith
@@ -38,10 +41,16 @@ loop-less : tie.Need-loop-less Inv-loop μ-loop
 loop-less c = omega arith
 
 loop-again : tie.Need-loop-again Inv-loop μ-loop
-loop-again c = (omega arith, all-back (isNot (c .before .before .before .before .args .b)) (c .before .before .before .before .args .s .now) (c .before .before .before .loop .n) (omega arith) (omega arith) (c .before .before .before .loop .inv .1) (rw (ne-eqb _ _ (c .if1 .left))))
+loop-again c =
+    let args = c .before .before .before .before .args in
+    let loop = c .before .before .before .loop in
+    (omega arith, all-back (isNot (args .b)) (args .s .now) (loop .n) (omega arith) (omega arith) (loop .inv .1) (rw (ne-eqb _ _ (c .if1 .left))))
 
 returns-2 : tie.Need-returns-2 Inv-loop μ-loop
-returns-2 c = let e : c .before .loop .n ≡ 0 = omega arith in (c .before .loop .inv .0, rw (e, part-all (c .before .before .args .b) (c .before .before .args .s .now) (rw e at (c .before .loop .inv .1))))
+returns-2 c =
+    let args = c .before .before .args in
+    let e : c .before .loop .n ≡ 0 = omega arith in
+    (c .before .loop .inv .0, rw (e, part-all (args .b) (args .s .now) (rw e at (c .before .loop .inv .1))))
 
 pub last-part-spec : {M : Type 1} → statement M
 last-part-spec =

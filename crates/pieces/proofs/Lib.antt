@@ -1,0 +1,4 @@
+pub mod Braces
+pub mod Names
+pub mod Pieces
+pub mod Numbers

@@ -1,0 +1,172 @@
+-- Names and letters behind their signs.
+-- Assumes nothing.
+use Prim.Native.Nat.{ℕ, _+_, _≤_, _<_}
+use mathlib.Core.Path.{_≡_, refl, sym}
+use mathlib.Core.Bool.{Bool, true, false}
+use mathlib.Core.List.{List, [], _∷_}
+use mathlib.Core.Option.{none, some}
+use native.Mathlib.Omega.{arith}
+use native.Mathlib.Decide.{decLt}
+use borrow.Author.Tests.{ne-eqb}
+use lib.Dec.{eqb}
+use lib.ListN.{length, getD, drop, drop-of-length-le}
+use lib.Seq.{drop-drop}
+use Rattle.lists.specs.Lists.{pick}
+use Rattle.lists.specs.Bytes.{starts}
+use Rattle.lists.specs.Quoted.{bytes}
+use Rattle.lists.proofs.Rest.{rest-at, byte-in}
+use Rattle.lists.proofs.Tests.{and-both}
+use Rattle.template.specs.Template.{Piece, plain, braced, kernel, number, devpath, id, driver, major, minor, attr, env, names, letters, nameIn, textIn, withText, namedPiece}
+use Rattle.pieces.specs.Read.{Read, piece, fault, itemRead, ifNamed, PieceWithin, Ahead, Within}
+use Rattle.pieces.specs.declared.Piece as P
+use Rattle.pieces.specs.declared.PieceRead.{PieceRead}
+use Rattle.pieces.specs.declared.PieceRead.the-variants as Reads
+use Rattle.pieces.proofs.Braces.{open-at, braced-behind}
+
+-- a name that begins at a place ends inside
+pub name-inside : (name bs : List ℕ) → starts name bs ≡ true → length name ≤ length bs
+unfolding starts
+name-inside [] bs e = omega arith
+name-inside (x ∷ name) [] e = let z : _≡_ {A = ℕ} 0 1 = cc in absurd (omega arith)
+name-inside (x ∷ name) (y ∷ bs) e = let k = name-inside name bs (and-both (eqb x y) (starts name bs) e .1) in omega arith
+
+-- what the tables give at a place
+abbrev pub lettered : List ℕ → ℕ → Read
+lettered t i = itemRead (namedPiece (nameIn letters (drop i t)) (drop i t)) i
+
+abbrev pub dollared : List ℕ → ℕ → Read
+dollared t i = itemRead (namedPiece (nameIn names (drop i t)) (drop i t)) i
+
+-- a name of which all but a test is known
+choose : (u : Bool) (name : List ℕ) (p : Piece) (bs : List ℕ) (i : ℕ) → itemRead (namedPiece (pick u (some (record { name = name; form = plain p })) none) bs) i ≡ pick u (piece p (i + length name)) fault
+choose true name p bs i = refl
+choose false name p bs i = refl
+
+choose-braced : (u : Bool) (name : List ℕ) (f : List ℕ → Piece) (bs : List ℕ) (i : ℕ)
+    → itemRead (namedPiece (pick u (some (record { name = name; form = braced f })) none) bs) i ≡ pick u (itemRead (withText f (length name) (textIn (drop (length name) bs))) i) fault
+choose-braced true name f bs i = refl
+choose-braced false name f bs i = refl
+
+module _ (t : List ℕ) (i : ℕ) where
+  -- a name whose first byte does not stand at a place
+  not-begun : (x : ℕ) (name : List ℕ) → (getD t i 0 ≡ x → ⊥) → starts (x ∷ name) (drop i t) ≡ false
+  unfolding starts
+  not-begun x name n = go (decLt i (length t))
+    where
+      go : Dec (i < length t) → starts (x ∷ name) (drop i t) ≡ false
+      go (yes h) = rw (rest-at t i h, ne-eqb x (getD t i 0) (λ e. n (sym e)))
+      go (no h) = rw (drop-of-length-le t {i = i} (omega arith))
+
+  -- one byte, and a piece that takes no text
+  pub one-ahead : (b : ℕ) (p : P.Piece) → getD t i 0 ≡ b → 0 < b → PieceWithin p t → Ahead p (i + 1) t i
+  one-ahead b p e h w = record { forward = omega arith; inside = omega (arith, byte-in t i b e h); text = w }
+
+  -- ---- letters that take a text
+
+  pub letter-s : getD t i 0 ≡ 115 → lettered t i ≡ itemRead (withText attr 0 (textIn (drop (i + 1) t))) (i + 1)
+  unfolding letters nameIn starts
+  letter-s e = rw (open-at t i 115 e (omega arith)) (sym (braced-behind attr 1 i (textIn (drop (i + 1) t))))
+
+  pub letter-E : getD t i 0 ≡ 69 → lettered t i ≡ itemRead (withText env 0 (textIn (drop (i + 1) t))) (i + 1)
+  unfolding letters nameIn starts
+  letter-E e = rw (open-at t i 69 e (omega arith)) (sym (braced-behind env 1 i (textIn (drop (i + 1) t))))
+
+  pub letter-none :
+      (getD t i 0 ≡ 107 → ⊥)
+      → (getD t i 0 ≡ 110 → ⊥)
+      → (getD t i 0 ≡ 112 → ⊥)
+      → (getD t i 0 ≡ 98 → ⊥)
+      → (getD t i 0 ≡ 115 → ⊥)
+      → (getD t i 0 ≡ 69 → ⊥)
+      → (getD t i 0 ≡ 77 → ⊥)
+      → (getD t i 0 ≡ 109 → ⊥)
+      → (getD t i 0 ≡ 37 → ⊥)
+      → lettered t i ≡ fault
+  unfolding letters nameIn
+  letter-none k n p b s E M m c = rw (not-begun 107 [] k, not-begun 110 [] n, not-begun 112 [] p, not-begun 98 [] b, not-begun 115 [] s, not-begun 69 [] E, not-begun 77 [] M, not-begun 109 [] m, not-begun 37 [] c)
+
+  -- ---- names
+
+  pub name-k : getD t i 0 ≡ 107 → dollared t i ≡ ifNamed (bytes "kernel") kernel t i
+  unfolding names nameIn starts bytes
+  name-k e = rw (open-at t i 107 e (omega arith)) (choose (starts (bytes "ernel") (drop (i + 1) t)) (bytes "kernel") kernel (107 ∷ drop (i + 1) t) i)
+
+  pub name-n : getD t i 0 ≡ 110 → dollared t i ≡ ifNamed (bytes "number") number t i
+  unfolding names nameIn starts bytes
+  name-n e = rw (open-at t i 110 e (omega arith)) (choose (starts (bytes "umber") (drop (i + 1) t)) (bytes "number") number (110 ∷ drop (i + 1) t) i)
+
+  pub name-i : getD t i 0 ≡ 105 → dollared t i ≡ ifNamed (bytes "id") id t i
+  unfolding names nameIn starts bytes
+  name-i e = rw (open-at t i 105 e (omega arith)) (choose (starts (bytes "d") (drop (i + 1) t)) (bytes "id") id (105 ∷ drop (i + 1) t) i)
+
+-- names with a common first byte, told apart by the second
+
+module _ (t : List ℕ) (i : ℕ) where
+  pub name-de : getD t i 0 ≡ 100 → getD t (i + 1) 0 ≡ 101 → dollared t i ≡ ifNamed (bytes "devpath") devpath t i
+  unfolding names nameIn starts bytes
+  name-de e f =
+      rw (open-at t i 100 e (omega arith), open-at t (i + 1) 101 f (omega arith))
+      (choose (starts (bytes "vpath") (drop (i + 1 + 1) t)) (bytes "devpath") devpath (100 ∷ 101 ∷ drop (i + 1 + 1) t) i)
+
+  pub name-d : getD t i 0 ≡ 100 → (getD t (i + 1) 0 ≡ 101 → ⊥) → dollared t i ≡ ifNamed (bytes "driver") driver t i
+  unfolding names nameIn starts bytes
+  name-d e n =
+      rw (open-at t i 100 e (omega arith), not-begun t (i + 1) 101 (bytes "vpath") n)
+      (choose (starts (bytes "river") (drop (i + 1) t)) (bytes "driver") driver (100 ∷ drop (i + 1) t) i)
+
+  pub name-ma : getD t i 0 ≡ 109 → getD t (i + 1) 0 ≡ 97 → dollared t i ≡ ifNamed (bytes "major") major t i
+  unfolding names nameIn starts bytes
+  name-ma e f =
+      rw (open-at t i 109 e (omega arith), open-at t (i + 1) 97 f (omega arith))
+      (choose (starts (bytes "jor") (drop (i + 1 + 1) t)) (bytes "major") major (109 ∷ 97 ∷ drop (i + 1 + 1) t) i)
+
+  pub name-m : getD t i 0 ≡ 109 → (getD t (i + 1) 0 ≡ 97 → ⊥) → dollared t i ≡ ifNamed (bytes "minor") minor t i
+  unfolding names nameIn starts bytes
+  name-m e n =
+      rw (open-at t i 109 e (omega arith), not-begun t (i + 1) 97 (bytes "jor") n)
+      (choose (starts (bytes "inor") (drop (i + 1) t)) (bytes "minor") minor (109 ∷ drop (i + 1) t) i)
+
+  -- ---- names that take a text
+
+  pub name-a : getD t i 0 ≡ 97 → dollared t i ≡ pick (starts (bytes "attr") (drop i t)) (itemRead (withText attr 0 (textIn (drop (i + 4) t))) (i + 4)) fault
+  unfolding names nameIn starts bytes
+  name-a e =
+      rw (braced-behind attr 4 i (textIn (drop (i + 4) t)), ← drop-drop 4 i t, open-at t i 97 e (omega arith))
+      (choose-braced (starts (bytes "ttr") (drop (i + 1) t)) (bytes "attr") attr (97 ∷ drop (i + 1) t) i)
+
+  pub name-e : getD t i 0 ≡ 101 → dollared t i ≡ pick (starts (bytes "env") (drop i t)) (itemRead (withText env 0 (textIn (drop (i + 3) t))) (i + 3)) fault
+  unfolding names nameIn starts bytes
+  name-e e =
+      rw (braced-behind env 3 i (textIn (drop (i + 3) t)), ← drop-drop 3 i t, open-at t i 101 e (omega arith))
+      (choose-braced (starts (bytes "nv") (drop (i + 1) t)) (bytes "env") env (101 ∷ drop (i + 1) t) i)
+
+  pub name-none :
+      (getD t i 0 ≡ 107 → ⊥)
+      → (getD t i 0 ≡ 110 → ⊥)
+      → (getD t i 0 ≡ 100 → ⊥)
+      → (getD t i 0 ≡ 105 → ⊥)
+      → (getD t i 0 ≡ 97 → ⊥)
+      → (getD t i 0 ≡ 101 → ⊥)
+      → (getD t i 0 ≡ 109 → ⊥)
+      → (getD t i 0 ≡ 36 → ⊥)
+      → dollared t i ≡ fault
+  unfolding names nameIn bytes
+  name-none k n d i′ a e m s =
+      rw (
+        not-begun t i 107 (bytes "ernel") k,
+        not-begun t i 110 (bytes "umber") n,
+        not-begun t i 100 (bytes "evpath") d,
+        not-begun t i 105 (bytes "d") i′,
+        not-begun t i 100 (bytes "river") d,
+        not-begun t i 97 (bytes "ttr") a,
+        not-begun t i 101 (bytes "nv") e,
+        not-begun t i 109 (bytes "ajor") m,
+        not-begun t i 109 (bytes "inor") m,
+        not-begun t i 36 [] s,
+      )
+
+-- bounds behind n bytes are bounds before them
+pub behind : (t : List ℕ) (i n : ℕ) (r : PieceRead) → Within r t (i + n) → Within r t i
+behind t i n (Reads.Read p next) w = record { forward = omega (arith, w .forward); inside = w .inside; text = w .text }
+behind t i n Reads.End w = tt
+behind t i n Reads.Fault w = tt
