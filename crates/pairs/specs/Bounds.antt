@@ -40,8 +40,9 @@ pub record Closes (line : List ℕ) (start : ℕ) (c : Close) : Type 0 where
   pub within : c .end ≤ length line
   pub marks : c .marks + weights (part line start (c .end)) ≡ c .end - start
 
--- a value as written from s to e, of n bytes after unescaping, and its closing mark
+-- a value as written from s to e, of n bytes after unescaping, between two marks
 pub record ValueAt (line : List ℕ) (s e n : ℕ) : Type 0 where
+  pub opened : 0 < s
   pub from : s ≤ e
   pub within : e < length line
   pub closed : quoted false (drop s line) ≡ some (record { value = part line s e; rest = drop (e + 1) line })

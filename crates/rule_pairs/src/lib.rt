@@ -10,29 +10,14 @@ ghost use Rattle.rules.specs.Key.{keyNumber};
 ghost use Rattle.rule_pairs.specs.Here.{PairsFrom, Here};
 ghost use Rattle.rule_pairs.specs.Marks.{keyOfMark, Marked};
 use keys::Key;
-use keys::Operator;
 use pairs::Pair;
-use pairs::PairRead;
 
 // The pair at a place from which on the line is known to hold pairs.
 pub fn pair_at(line: &[u8], at: usize) -> Pair
     requires { ⌜ PairsFrom (now line) at ⌝ }
     ensures { λ r. ⌜ Here (now (line .entry)) at r ⌝ }
 {
-    match pairs::read_pair(line, at) {
-        PairRead::Read(p) => p,
-        // No accepted line comes here.
-        PairRead::Refused(_) => Pair {
-            key: Key::Options,
-            operator: Operator::Equal,
-            arg_start: 0,
-            arg_end: 0,
-            start: 0,
-            end: 0,
-            len: 0,
-            next: 0,
-        },
-    }
+    known::known_pair(line, at)
 }
 
 // ---- labels and jumps

@@ -11,9 +11,6 @@ use Rattle.pairs.proofs.Reading.{mark, no-mark}
 use Rattle.pairs.proofs.read_value.Statement.{statement}
 use Rattle.pairs.proofs.read_value.Tie as tie
 
--- `pairs::read_value` meets its contract.
--- Assumes nothing.
-
 byte-at-requires : tie.Need-byte-at-requires
 byte-at-requires c κs = search needs
 
@@ -39,7 +36,7 @@ returns-3 : tie.Need-returns-3
 returns-3 c = let s = c .before .before .before .before .before .before .before .args .line .now in let a = c .before .before .before .before .before .before .before .args .at in let k = c .before .before .before .close-of .result in let h = c .before .before .before .close-of .ensures in (sym ((mark s a (sym (c .before .before .before .before .before .byte-at .ensures) ∙ c .before .before .before .before .if1 .left)) ∙ rw (value-closed s (a + 1) k h (c .before .before .if2 .left), ← value-size s (a + 1) k h (c .before .before .if2 .left), lt-leb (k .end - (a + 1) - k .marks) 256 (c .if3 .taken))), tt)
 
 returns-4 : tie.Need-returns-4
-returns-4 c = let s = c .before .before .before .before .before .before .before .args .line .now in let a = c .before .before .before .before .before .before .before .args .at in let k = c .before .before .before .close-of .result in let h = c .before .before .before .close-of .ensures in (sym ((mark s a (sym (c .before .before .before .before .before .byte-at .ensures) ∙ c .before .before .before .before .if1 .left)) ∙ rw (value-closed s (a + 1) k h (c .before .before .if2 .left), ← value-size s (a + 1) k h (c .before .before .if2 .left), le-leb (k .end - (a + 1) - k .marks) 256 (c .if3 .left))), record { from = h .from; within = c .before .before .if2 .left; closed = value-closed s (a + 1) k h (c .before .before .if2 .left); size = value-size s (a + 1) k h (c .before .before .if2 .left); short = c .if3 .left })
+returns-4 c = let s = c .before .before .before .before .before .before .before .args .line .now in let a = c .before .before .before .before .before .before .before .args .at in let k = c .before .before .before .close-of .result in let h = c .before .before .before .close-of .ensures in (sym ((mark s a (sym (c .before .before .before .before .before .byte-at .ensures) ∙ c .before .before .before .before .if1 .left)) ∙ rw (value-closed s (a + 1) k h (c .before .before .if2 .left), ← value-size s (a + 1) k h (c .before .before .if2 .left), le-leb (k .end - (a + 1) - k .marks) 256 (c .if3 .left))), record { opened = omega arith; from = h .from; within = c .before .before .if2 .left; closed = value-closed s (a + 1) k h (c .before .before .if2 .left); size = value-size s (a + 1) k h (c .before .before .if2 .left); short = c .if3 .left })
 
 pub read-value-spec : {M : Type 1} → statement M
 read-value-spec =
