@@ -64,7 +64,7 @@ member-parts m o =
       apart = k;
     }
 
-member-fit : (m : Member) → Parts m → Fit (lensFields (lensFor m))
+pub member-fit : (m : Member) → Parts m → Fit (lensFields (lensFor m))
 member-fit m p =
     let a = p .short in
     let b = p .short-subsystem in

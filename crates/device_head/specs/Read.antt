@@ -1,6 +1,6 @@
 -- What reading a head gives: the head that the definitions read, with the bounds of its numbers.
 -- Assumes nothing.
-use Prim.Native.Nat.{ℕ, _<_}
+use Prim.Native.Nat.{ℕ, _+_, _<_}
 use mathlib.Core.Path.{_≡_}
 use mathlib.Core.List.{List}
 use lib.ListN.{take, drop}
@@ -38,3 +38,11 @@ pub record LensRead (l : List ℕ) (at : ℕ) (r : Lens) : Type 0 where
   pub subsystem : r .subsystem < 64
   pub driver : r .driver < 64
   pub attributes : r .attributes < 32
+
+-- ---- the path of the device that begins at a place
+
+abbrev pub pathLen : List ℕ → ℕ → ℕ
+pathLen l at = lensOf (take 4 (drop at l)) .path
+
+abbrev pub pathIn : List ℕ → ℕ → List ℕ
+pathIn l at = take (pathLen l at) (drop (at + 4) l)

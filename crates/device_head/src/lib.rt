@@ -4,7 +4,7 @@ ghost use mathlib.Core.Path.{_≡_};
 ghost use Prim.Native.Nat.{_+_, _≤_};
 ghost use lib.ListN.{length};
 ghost use Rattle.lists.specs.Sizes.{mostDevice};
-ghost use Rattle.device_head.specs.Read.{HeadRead, LensRead};
+ghost use Rattle.device_head.specs.Read.{HeadRead, LensRead, pathLen, pathIn};
 use bits::BitCursor;
 
 // Edition 4, chain length less one 4, action 3, node 1, major 12, minor 20, property count 6, unused 6.
@@ -69,4 +69,15 @@ pub fn read_lens(rec: &[u8], at: usize) -> Lens
         attributes: attributes.value,
         unused: unused.value,
     }
+}
+
+// The path of the device that begins at a place.
+pub fn path_at(rec: &[u8], at: usize) -> &[u8]
+    requires { ⌜ (at + 4 + pathLen (now rec) at ≤ length (now rec)) × (length (now rec) ≤ mostDevice) ⌝ }
+    ensures { λ r. ⌜ now r ≡ pathIn (now (rec .entry)) at ⌝ }
+{
+    let path = BitCursor { at: 8 * at }.take(rec, 9);
+    let start = at + 4;
+    let end = start + path.value;
+    &rec[start..end]
 }

@@ -6,6 +6,7 @@ pub mod Runs
 pub mod Items
 pub mod Places
 pub mod Moves
+pub mod Edits
 pub mod Scan
 pub mod Checked
 pub mod Examples

@@ -2,4 +2,5 @@ pub mod Heads
 pub mod Turns
 pub mod Readers
 pub mod Lookup
+pub mod Search
 pub mod Content

@@ -33,7 +33,7 @@ pub record Reads (A : Type 0) (kind : Kind) (one : List ℕ → Parse A) (ok : L
 -- ---- the readers
 
 -- the same test where both sides have n more
-leb-more : (n a b c d : ℕ) → c ≡ n + a → d ≡ n + b → leb a b ≡ leb c d
+pub leb-more : (n a b c d : ℕ) → c ≡ n + a → d ≡ n + b → leb a b ≡ leb c d
 leb-more n a b c d e f = go (leb a b) refl
   where
     go : (t : Bool) → leb a b ≡ t → leb a b ≡ leb c d
@@ -41,7 +41,7 @@ leb-more n a b c d e f = go (leb a b) refl
     go false h = h ∙ sym (lt-leb c d (omega (arith, leb-false a b h)))
 
 -- nothing is read where the head is cut off
-short : {A : Type 0} (n m : ℕ) (b : Bool) (a : A) (r : List ℕ) → m < n → bad ≡ keep (leb n m && b) a r
+pub short : {A : Type 0} (n m : ℕ) (b : Bool) (a : A) (r : List ℕ) → m < n → bad ≡ keep (leb n m && b) a r
 short n m b a r h = rw (lt-leb n m h)
 
 abbrev pub textHere : List ℕ → List ℕ

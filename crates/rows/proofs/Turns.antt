@@ -107,18 +107,18 @@ module _ (kind : Kind) (l : List ℕ) (p left : ℕ) (e : Entry) (w : Placed kin
 
 -- ---- the search and the names
 
-pub found-among : (kind : Kind) (x : List ℕ) (at p v k n : ℕ) (bs : List ℕ) → findIn kind x at n bs ≡ At p v k → among x (names kind n bs) ≡ true
-found-among kind x at p v k zero bs e = let z : _≡_ {A = ℕ} 0 1 = cc in absurd (omega arith)
-found-among kind x at p v k (suc n) bs e = go (sameBytes (name kind bs) x) refl (λ h. found-among kind x (at + size kind bs) p v k n (drop (size kind bs) bs) (rw h at e))
+pub found-named : (kind : Kind) (x : List ℕ) (at p v k n : ℕ) (bs : List ℕ) → findIn kind x at n bs ≡ At p v k → among x (names kind n bs) ≡ true
+found-named kind x at p v k zero bs e = let z : _≡_ {A = ℕ} 0 1 = cc in absurd (omega arith)
+found-named kind x at p v k (suc n) bs e = go (sameBytes (name kind bs) x) refl (λ h. found-named kind x (at + size kind bs) p v k n (drop (size kind bs) bs) (rw h at e))
   where
     go : (t : Bool) → sameBytes (name kind bs) x ≡ t → (sameBytes (name kind bs) x ≡ false → among x (names kind n (drop (size kind bs) bs)) ≡ true)
         → (sameBytes (name kind bs) x || among x (names kind n (drop (size kind bs) bs))) ≡ true
     go true h f = rw h
     go false h f = rw h (f h)
 
-pub missing-among : (kind : Kind) (x : List ℕ) (at p n : ℕ) (bs : List ℕ) → findIn kind x at n bs ≡ Missing p → among x (names kind n bs) ≡ false
-missing-among kind x at p zero bs e = refl
-missing-among kind x at p (suc n) bs e = go (sameBytes (name kind bs) x) refl e (λ h. missing-among kind x (at + size kind bs) p n (drop (size kind bs) bs) (rw h at e))
+pub missing-named : (kind : Kind) (x : List ℕ) (at p n : ℕ) (bs : List ℕ) → findIn kind x at n bs ≡ Missing p → among x (names kind n bs) ≡ false
+missing-named kind x at p zero bs e = refl
+missing-named kind x at p (suc n) bs e = go (sameBytes (name kind bs) x) refl e (λ h. missing-named kind x (at + size kind bs) p n (drop (size kind bs) bs) (rw h at e))
   where
     go : (t : Bool) → sameBytes (name kind bs) x ≡ t → findIn kind x at (suc n) bs ≡ Missing p
         → (sameBytes (name kind bs) x ≡ false → among x (names kind n (drop (size kind bs) bs)) ≡ false)

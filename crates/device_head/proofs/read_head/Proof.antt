@@ -8,39 +8,30 @@ use Rattle.device_head.proofs.Fields.{head-field}
 use Rattle.device_head.proofs.read_head.Statement.{statement}
 use Rattle.device_head.proofs.read_head.Tie as tie
 
--- src/lib.rt:38:9
 take-requires : tie.Need-take-requires
 take-requires c κs = search needs
 
--- src/lib.rt:39:9
 take-requires-2 : tie.Need-take-requires-2
 take-requires-2 c κs = search needs
 
--- src/lib.rt:40:9
 take-requires-3 : tie.Need-take-requires-3
 take-requires-3 c κs = search needs
 
--- src/lib.rt:41:9
 take-requires-4 : tie.Need-take-requires-4
 take-requires-4 c κs = search needs
 
--- src/lib.rt:42:9
 take-requires-5 : tie.Need-take-requires-5
 take-requires-5 c κs = search needs
 
--- src/lib.rt:43:9
 take-requires-6 : tie.Need-take-requires-6
 take-requires-6 c κs = search needs
 
--- src/lib.rt:44:9
 take-requires-7 : tie.Need-take-requires-7
 take-requires-7 c κs = search needs
 
--- src/lib.rt:45:9
 take-requires-8 : tie.Need-take-requires-8
 take-requires-8 c κs = search needs
 
--- src/lib.rt:34:1
 returns : tie.Need-returns
 returns c =
     let l = c .before .before .before .before .before .before .before .before .before .args .rec .now in

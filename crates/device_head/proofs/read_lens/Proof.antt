@@ -8,31 +8,24 @@ use Rattle.device_head.proofs.Fields.{lens-field}
 use Rattle.device_head.proofs.read_lens.Statement.{statement}
 use Rattle.device_head.proofs.read_lens.Tie as tie
 
--- src/lib.rt:63:32
 mul-t8 : tie.Need-mul-t8
 mul-t8 c = search needs
 
--- src/lib.rt:63:9
 take-requires : tie.Need-take-requires
 take-requires c κs = search needs
 
--- src/lib.rt:64:9
 take-requires-2 : tie.Need-take-requires-2
 take-requires-2 c κs = search needs
 
--- src/lib.rt:65:9
 take-requires-3 : tie.Need-take-requires-3
 take-requires-3 c κs = search needs
 
--- src/lib.rt:66:9
 take-requires-4 : tie.Need-take-requires-4
 take-requires-4 c κs = search needs
 
--- src/lib.rt:67:9
 take-requires-5 : tie.Need-take-requires-5
 take-requires-5 c κs = search needs
 
--- src/lib.rt:59:1
 returns : tie.Need-returns
 returns c =
     let l = c .before .before .before .before .before .before .args .rec .now in

@@ -2,7 +2,7 @@
 -- Assumes nothing.
 use mathlib.Core.Path.{sym, _∙_}
 use lib.ListN.{drop}
-use Rattle.rows.proofs.Turns.{found-among, missing-among}
+use Rattle.rows.proofs.Turns.{found-named, missing-named}
 use borrow.Author.Needs.{needs}
 use Rattle.rows.proofs.has.Statement.{statement}
 use Rattle.rows.proofs.has.Tie as tie
@@ -19,12 +19,12 @@ enum-told-2 c = search needs
 returns : tie.Need-returns
 returns c =
     let a = c .before .before .before .before .before .args in
-    sym (found-among (a .kind) (a .x .now) (a .at) _ _ _ (a .n) (drop (a .at) (a .rec .now)) (sym (c .before .before .find .ensures .0) ∙ c .enum-told .given .1))
+    sym (found-named (a .kind) (a .x .now) (a .at) _ _ _ (a .n) (drop (a .at) (a .rec .now)) (sym (c .before .before .find .ensures .0) ∙ c .enum-told .given .1))
 
 returns-2 : tie.Need-returns-2
 returns-2 c =
     let a = c .before .before .before .before .before .args in
-    sym (missing-among (a .kind) (a .x .now) (a .at) _ (a .n) (drop (a .at) (a .rec .now)) (sym (c .before .before .find .ensures .0) ∙ c .enum-told2 .given .1))
+    sym (missing-named (a .kind) (a .x .now) (a .at) _ (a .n) (drop (a .at) (a .rec .now)) (sym (c .before .before .find .ensures .0) ∙ c .enum-told2 .given .1))
 
 pub has-spec : {M : Type 1} → statement M
 has-spec = tie.close (tie.spec find-requires enum-told enum-told-2 returns returns-2)

@@ -1,0 +1,4 @@
+pub mod Paths
+pub mod Ends
+pub mod Members
+pub mod Chain

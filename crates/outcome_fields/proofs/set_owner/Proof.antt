@@ -1,0 +1,50 @@
+-- `outcome_fields::set_owner` meets its contract.
+-- Assumes nothing.
+use mathlib.Core.Path.{_∙_}
+use Rattle.outcome_fields.proofs.Names.{owner-fit, owner-set}
+use borrow.Author.Needs.{needs}
+use Rattle.outcome_fields.proofs.set_owner.Statement.{statement}
+use Rattle.outcome_fields.proofs.set_owner.Tie as tie
+
+field-requires : tie.Need-field-requires
+field-requires c κs = search needs
+
+replace-requires : tie.Need-replace-requires
+replace-requires c κs =
+    let pre = c .before .before .before .before .before .pre in
+    let a = c .before .before .before .before .before .args in
+    let field = c .before .field in
+    let h = owner-fit (pre .0 .0) (a .t .now) (a .layout) (pre .0 .1) (pre .0 .2) (a .x .now) (pre .1) (field .result) (field .ensures .0) in (h .within, h .end, h .fits)
+
+put-field-requires : tie.Need-put-field-requires
+put-field-requires c κs = search needs
+
+all-moved-requires : tie.Need-all-moved-requires
+all-moved-requires c κs =
+    let pre = c .before .before .before .before .before .before .before .before .before .before .before .before .pre in
+    let a = c .before .before .before .before .before .before .before .before .before .before .before .before .args in
+    let field = c .before .before .before .before .before .before .before .before .field in
+    let h = owner-fit (pre .0 .0) (a .t .now) (a .layout) (pre .0 .1) (pre .0 .2) (a .x .now) (pre .1) (field .result) (field .ensures .0) in (h .rising, h .before, h .small)
+
+same-length : tie.Need-same-length
+same-length c = search needs
+
+returns : tie.Need-returns
+returns c =
+    let a = c .before .before .before .before .before .before .before .before .before .before .before .before .before .args in
+    let field = c .before .before .before .before .before .before .before .before .before .field in
+    let replace = c .before .before .before .before .before .before .before .replace in
+    let put-field = c .before .before .before .put-field in
+    let all-moved = c .all-moved in
+    λ n s w. owner-set n (a .t .now) (a .layout) s w (a .x .now) (c .before .before .before .before .before .before .before .before .before .before .before .before .before .pre .1) (field .result) (replace .last .0) (put-field .last .0) (all-moved .result) (field .ensures .0) (replace .ensures) (λ i. c .before .before .before .before .before .slice-known2 .given i .fits) (put-field .ensures) (put-field .kept .0 ∙ replace .kept .0) (all-moved .ensures)
+
+pub set-owner-spec : {M : Type 1} → statement M
+set-owner-spec =
+    tie.close
+    (tie.spec
+    field-requires
+    replace-requires
+    put-field-requires
+    all-moved-requires
+    same-length
+    returns)

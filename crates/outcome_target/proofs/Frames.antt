@@ -1,0 +1,186 @@
+-- The parts of a record, each between what stands before it and what stands behind it.
+-- Assumes nothing.
+use Prim.Native.Nat.{ℕ, _+_, _-_, _<_}
+use mathlib.Core.Path.{_≡_, refl}
+use mathlib.Core.List.{List, [], _∷_, _++_, append-assoc, append-nil}
+use native.Mathlib.Omega.{arith}
+use lib.ListN.{length}
+use Rattle.lists.specs.Lists.{cat}
+use Rattle.entries.specs.Entry.{encText, Property, encProp}
+use Rattle.entries.proofs.Heads.{withNumber}
+use Rattle.outcome.specs.Head.{fields, header}
+use Rattle.outcome.specs.State.{State, Run, encRun, headFor, encode}
+use Rattle.outcome.specs.Change.{withOwner, withGroup, withLinks, withProperties, withTags, withRuns}
+use Rattle.outcome_target.specs.Layout.{layoutOf, movedBy, allMoved}
+use Rattle.outcome_target.specs.declared.Layout.{Layout}
+use Rattle.outcome_target.specs.declared.Section.the-variants as section
+
+-- a part that the header's field i counts
+pub record Frame (X : Type 0) (i : ℕ) (move : Layout → ℕ → ℕ → Layout) : Type 0 where
+  pub get : State → X
+  pub put : State → X → State
+  pub bytes : X → List ℕ
+  pub count : X → ℕ
+  pub front : State → List ℕ
+  pub back : State → List ℕ
+  pub field : i < 16
+  pub same : (s : State) → put s (get s) ≡ s
+  pub laid : (s : State) (x : X) → encode (put s x) ≡ header (headFor (put s x)) ++ (front s ++ (bytes x ++ back s))
+  pub counted : (s : State) (x : X) → fields (headFor (put s x)) ≡ withNumber i (count x) (fields (headFor s))
+  pub moves : (s : State) (x : X) (old new : ℕ) → length (bytes x) + old ≡ length (bytes (get s)) + new → move (layoutOf s) old new ≡ layoutOf (put s x)
+
+-- ---- the places, in numbers
+
+pub move-owner : (o g l p t r x old new : ℕ) → x + old ≡ o + new
+    → _≡_ {A = Layout} (record { links = 11 + o + g + new - old; properties = 11 + o + g + l + new - old; tags = 11 + o + g + l + p + new - old; runs = 11 + o + g + l + p + t + new - old; end = 11 + o + g + l + p + t + r + new - old }) (record { links = 11 + x + g; properties = 11 + x + g + l; tags = 11 + x + g + l + p; runs = 11 + x + g + l + p + t; end = 11 + x + g + l + p + t + r })
+move-owner o g l p t r x old new h =
+    let links : 11 + o + g + new - old ≡ 11 + x + g = omega arith in
+    let properties : 11 + o + g + l + new - old ≡ 11 + x + g + l = omega arith in
+    let tags : 11 + o + g + l + p + new - old ≡ 11 + x + g + l + p = omega arith in
+    let runs : 11 + o + g + l + p + t + new - old ≡ 11 + x + g + l + p + t = omega arith in
+    let end : 11 + o + g + l + p + t + r + new - old ≡ 11 + x + g + l + p + t + r = omega arith in
+    λ i. record { links = links i; properties = properties i; tags = tags i; runs = runs i; end = end i }
+
+pub move-group : (o g l p t r x old new : ℕ) → x + old ≡ g + new
+    → _≡_ {A = Layout} (record { links = 11 + o + g + new - old; properties = 11 + o + g + l + new - old; tags = 11 + o + g + l + p + new - old; runs = 11 + o + g + l + p + t + new - old; end = 11 + o + g + l + p + t + r + new - old }) (record { links = 11 + o + x; properties = 11 + o + x + l; tags = 11 + o + x + l + p; runs = 11 + o + x + l + p + t; end = 11 + o + x + l + p + t + r })
+move-group o g l p t r x old new h =
+    let links : 11 + o + g + new - old ≡ 11 + o + x = omega arith in
+    let properties : 11 + o + g + l + new - old ≡ 11 + o + x + l = omega arith in
+    let tags : 11 + o + g + l + p + new - old ≡ 11 + o + x + l + p = omega arith in
+    let runs : 11 + o + g + l + p + t + new - old ≡ 11 + o + x + l + p + t = omega arith in
+    let end : 11 + o + g + l + p + t + r + new - old ≡ 11 + o + x + l + p + t + r = omega arith in
+    λ i. record { links = links i; properties = properties i; tags = tags i; runs = runs i; end = end i }
+
+pub move-links : (o g l p t r x old new : ℕ) → x + old ≡ l + new
+    → _≡_ {A = Layout} (record { links = 11 + o + g; properties = 11 + o + g + l + new - old; tags = 11 + o + g + l + p + new - old; runs = 11 + o + g + l + p + t + new - old; end = 11 + o + g + l + p + t + r + new - old }) (record { links = 11 + o + g; properties = 11 + o + g + x; tags = 11 + o + g + x + p; runs = 11 + o + g + x + p + t; end = 11 + o + g + x + p + t + r })
+move-links o g l p t r x old new h =
+    let properties : 11 + o + g + l + new - old ≡ 11 + o + g + x = omega arith in
+    let tags : 11 + o + g + l + p + new - old ≡ 11 + o + g + x + p = omega arith in
+    let runs : 11 + o + g + l + p + t + new - old ≡ 11 + o + g + x + p + t = omega arith in
+    let end : 11 + o + g + l + p + t + r + new - old ≡ 11 + o + g + x + p + t + r = omega arith in
+    λ i. record { links = 11 + o + g; properties = properties i; tags = tags i; runs = runs i; end = end i }
+
+pub move-properties : (o g l p t r x old new : ℕ) → x + old ≡ p + new
+    → _≡_ {A = Layout} (record { links = 11 + o + g; properties = 11 + o + g + l; tags = 11 + o + g + l + p + new - old; runs = 11 + o + g + l + p + t + new - old; end = 11 + o + g + l + p + t + r + new - old }) (record { links = 11 + o + g; properties = 11 + o + g + l; tags = 11 + o + g + l + x; runs = 11 + o + g + l + x + t; end = 11 + o + g + l + x + t + r })
+move-properties o g l p t r x old new h =
+    let tags : 11 + o + g + l + p + new - old ≡ 11 + o + g + l + x = omega arith in
+    let runs : 11 + o + g + l + p + t + new - old ≡ 11 + o + g + l + x + t = omega arith in
+    let end : 11 + o + g + l + p + t + r + new - old ≡ 11 + o + g + l + x + t + r = omega arith in
+    λ i. record { links = 11 + o + g; properties = 11 + o + g + l; tags = tags i; runs = runs i; end = end i }
+
+pub move-tags : (o g l p t r x old new : ℕ) → x + old ≡ t + new
+    → _≡_ {A = Layout} (record { links = 11 + o + g; properties = 11 + o + g + l; tags = 11 + o + g + l + p; runs = 11 + o + g + l + p + t + new - old; end = 11 + o + g + l + p + t + r + new - old }) (record { links = 11 + o + g; properties = 11 + o + g + l; tags = 11 + o + g + l + p; runs = 11 + o + g + l + p + x; end = 11 + o + g + l + p + x + r })
+move-tags o g l p t r x old new h =
+    let runs : 11 + o + g + l + p + t + new - old ≡ 11 + o + g + l + p + x = omega arith in
+    let end : 11 + o + g + l + p + t + r + new - old ≡ 11 + o + g + l + p + x + r = omega arith in
+    λ i. record { links = 11 + o + g; properties = 11 + o + g + l; tags = 11 + o + g + l + p; runs = runs i; end = end i }
+
+pub move-runs : (o g l p t r x old new : ℕ) → x + old ≡ r + new
+    → _≡_ {A = Layout} (record { links = 11 + o + g; properties = 11 + o + g + l; tags = 11 + o + g + l + p; runs = 11 + o + g + l + p + t; end = 11 + o + g + l + p + t + r + new - old }) (record { links = 11 + o + g; properties = 11 + o + g + l; tags = 11 + o + g + l + p; runs = 11 + o + g + l + p + t; end = 11 + o + g + l + p + t + x })
+move-runs o g l p t r x old new h =
+    let end : 11 + o + g + l + p + t + r + new - old ≡ 11 + o + g + l + p + t + x = omega arith in
+    λ i. record { links = 11 + o + g; properties = 11 + o + g + l; tags = 11 + o + g + l + p; runs = 11 + o + g + l + p + t; end = end i }
+
+-- ---- the parts
+
+unfoldable pub owner-frame : Frame (List ℕ) 7 allMoved
+unfolding encode layoutOf
+owner-frame =
+    record {
+      get = λ s. s .owner;
+      put = withOwner;
+      bytes = λ x. x;
+      count = length;
+      front = λ s. [];
+      back = λ s. s .group ++ (cat encText (s .links) ++ (cat encProp (s .properties) ++ (cat encText (s .tags) ++ cat encRun (s .runs))));
+      field = omega arith;
+      same = λ s. refl;
+      laid = λ s x. refl;
+      counted = λ s x. refl;
+      moves = λ s x old new e. move-owner (length (s .owner)) (length (s .group)) (length (cat encText (s .links))) (length (cat encProp (s .properties))) (length (cat encText (s .tags))) (length (cat encRun (s .runs))) (length (x)) old new e;
+    }
+
+unfoldable pub group-frame : Frame (List ℕ) 8 allMoved
+unfolding encode layoutOf
+group-frame =
+    record {
+      get = λ s. s .group;
+      put = withGroup;
+      bytes = λ x. x;
+      count = length;
+      front = λ s. s .owner;
+      back = λ s. cat encText (s .links) ++ (cat encProp (s .properties) ++ (cat encText (s .tags) ++ cat encRun (s .runs)));
+      field = omega arith;
+      same = λ s. refl;
+      laid = λ s x. refl;
+      counted = λ s x. refl;
+      moves = λ s x old new e. move-group (length (s .owner)) (length (s .group)) (length (cat encText (s .links))) (length (cat encProp (s .properties))) (length (cat encText (s .tags))) (length (cat encRun (s .runs))) (length (x)) old new e;
+    }
+
+unfoldable pub links-frame : Frame (List (List ℕ)) 12 (λ l old new. movedBy l section.Links old new)
+unfolding encode layoutOf
+links-frame =
+    record {
+      get = λ s. s .links;
+      put = withLinks;
+      bytes = cat encText;
+      count = length;
+      front = λ s. s .owner ++ s .group;
+      back = λ s. cat encProp (s .properties) ++ (cat encText (s .tags) ++ cat encRun (s .runs));
+      field = omega arith;
+      same = λ s. refl;
+      laid = λ s x. simp append-assoc;
+      counted = λ s x. refl;
+      moves = λ s x old new e. move-links (length (s .owner)) (length (s .group)) (length (cat encText (s .links))) (length (cat encProp (s .properties))) (length (cat encText (s .tags))) (length (cat encRun (s .runs))) (length (cat encText x)) old new e;
+    }
+
+unfoldable pub properties-frame : Frame (List Property) 13 (λ l old new. movedBy l section.Properties old new)
+unfolding encode layoutOf
+properties-frame =
+    record {
+      get = λ s. s .properties;
+      put = withProperties;
+      bytes = cat encProp;
+      count = length;
+      front = λ s. s .owner ++ (s .group ++ cat encText (s .links));
+      back = λ s. cat encText (s .tags) ++ cat encRun (s .runs);
+      field = omega arith;
+      same = λ s. refl;
+      laid = λ s x. simp append-assoc;
+      counted = λ s x. refl;
+      moves = λ s x old new e. move-properties (length (s .owner)) (length (s .group)) (length (cat encText (s .links))) (length (cat encProp (s .properties))) (length (cat encText (s .tags))) (length (cat encRun (s .runs))) (length (cat encProp x)) old new e;
+    }
+
+unfoldable pub tags-frame : Frame (List (List ℕ)) 14 (λ l old new. movedBy l section.Tags old new)
+unfolding encode layoutOf
+tags-frame =
+    record {
+      get = λ s. s .tags;
+      put = withTags;
+      bytes = cat encText;
+      count = length;
+      front = λ s. s .owner ++ (s .group ++ (cat encText (s .links) ++ cat encProp (s .properties)));
+      back = λ s. cat encRun (s .runs);
+      field = omega arith;
+      same = λ s. refl;
+      laid = λ s x. simp append-assoc;
+      counted = λ s x. refl;
+      moves = λ s x old new e. move-tags (length (s .owner)) (length (s .group)) (length (cat encText (s .links))) (length (cat encProp (s .properties))) (length (cat encText (s .tags))) (length (cat encRun (s .runs))) (length (cat encText x)) old new e;
+    }
+
+unfoldable pub runs-frame : Frame (List Run) 15 (λ l old new. movedBy l section.Runs old new)
+unfolding encode layoutOf
+runs-frame =
+    record {
+      get = λ s. s .runs;
+      put = withRuns;
+      bytes = cat encRun;
+      count = length;
+      front = λ s. s .owner ++ (s .group ++ (cat encText (s .links) ++ (cat encProp (s .properties) ++ cat encText (s .tags))));
+      back = λ s. [];
+      field = omega arith;
+      same = λ s. refl;
+      laid = λ s x. simp (append-assoc, append-nil);
+      counted = λ s x. refl;
+      moves = λ s x old new e. move-runs (length (s .owner)) (length (s .group)) (length (cat encText (s .links))) (length (cat encProp (s .properties))) (length (cat encText (s .tags))) (length (cat encRun (s .runs))) (length (cat encRun x)) old new e;
+    }

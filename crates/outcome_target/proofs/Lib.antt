@@ -1,0 +1,5 @@
+pub mod Loading
+pub mod Frames
+pub mod Edits
+pub mod Facts
+pub mod Changes
