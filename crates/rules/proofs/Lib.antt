@@ -4,3 +4,4 @@ pub mod Examples
 pub mod Pairs
 pub mod Escapes
 pub mod Shorter
+pub mod Lines
