@@ -1,12 +1,12 @@
 -- Each device of a record that was read lies where the record's devices begin.
 -- Assumes nothing.
 use Prim.Native.Nat.{ℕ, zero, suc, _+_}
-use mathlib.Core.Path.{_≡_, refl, sym, ap, ap₂, _∙_}
+use mathlib.Core.Path.{_≡_, refl, sym, ap, _∙_}
 use mathlib.Core.Bool.{true}
 use mathlib.Core.List.{List, [], _∷_, _++_, append-assoc, append-nil}
 use mathlib.Core.Option.{some}
 use native.Mathlib.Omega.{arith}
-use lib.ListN.{length, drop, getD, length-append}
+use lib.ListN.{length, drop, getD}
 use lib.Seq.{drop-at, drop-drop}
 use Rattle.lists.specs.Lists.{cat, all, nth}
 use Rattle.lists.specs.Bytes.{Bytes}
@@ -35,15 +35,16 @@ lies-from l z p (x ∷ ms) o e (suc k) m n =
     in
     lies-from l z (p + length (encMember x)) ms (and-both (okMember x) (all okMember ms) o .1) d k m n
 
--- behind the header and the properties stands the chain
-pub chain-bytes : (bs : List ℕ) (d : Device) → Bytes bs → decode bs ≡ some d → drop (7 + length (cat encProp (d .properties))) bs ≡ cat encMember (chain d)
+-- behind the header stand the properties, and behind these the chain
+pub record-bytes : (bs : List ℕ) (d : Device) → Bytes bs → decode bs ≡ some d → drop 7 bs ≡ cat encProp (d .properties) ++ cat encMember (chain d)
 unfolding encode
+record-bytes bs d b e =
+    ap (drop 7) (sym (back bs d b e)) ∙ drop-at (header (headFor d)) (cat encProp (d .properties) ++ cat encMember (chain d)) 7 (header-length (headFor d))
+
+pub chain-bytes : (bs : List ℕ) (d : Device) → Bytes bs → decode bs ≡ some d → drop (7 + length (cat encProp (d .properties))) bs ≡ cat encMember (chain d)
 chain-bytes bs d b e =
-    let h : List ℕ = header (headFor d) in
     let ps : List ℕ = cat encProp (d .properties) in
-    let l : length (h ++ ps) ≡ 7 + length ps = length-append h ps ∙ ap (λ (i : ℕ). i + length ps) (header-length (headFor d)) in
-    ap (drop (7 + length ps)) (sym (back bs d b e) ∙ sym (append-assoc h ps (cat encMember (chain d))))
-    ∙ drop-at (h ++ ps) (cat encMember (chain d)) (7 + length ps) l
+    sym (drop-drop (length ps) 7 bs) ∙ ap (drop (length ps)) (record-bytes bs d b e) ∙ drop-at ps (cat encMember (chain d)) (length ps) refl
 
 pub lies : (bs : List ℕ) (d : Device) → Bytes bs → decode bs ≡ some d → (k : ℕ) (m : Member) → nth k (chain d) ≡ some m → Lies bs (getD (starts d) k 0) m
 lies bs d b e k m n =

@@ -6,7 +6,7 @@ use mathlib.Core.Bool.{Bool, true, false, _&&_, _||_}
 use mathlib.Core.List.{List, [], _∷_, _++_, append-assoc, append-nil}
 use mathlib.Core.Option.{some, none}
 use native.Mathlib.Omega.{arith}
-use lib.ListN.{length}
+use lib.ListN.{length, take, drop}
 use lib.Dec.{leb, eqb}
 use borrow.Author.Tests.{leb-true, eqb-true}
 use Rattle.lists.specs.Lists.{cat}
@@ -17,7 +17,7 @@ use Rattle.lists.proofs.Bytes.{bytes-rest}
 use Rattle.lists.proofs.Records.{bytes-first}
 use Rattle.entries.specs.Parse.{Parse, got, bad, many}
 use Rattle.entries.specs.Entry.{exactly, Property, encProp, oneProp}
-use Rattle.entries.proofs.Rows.{through, many-back}
+use Rattle.entries.proofs.Rows.{through, many-back, many-kept}
 use Rattle.entries.proofs.Entries.{kept, exactly-back, prop-laws}
 use Rattle.device.specs.Head.{Head, header, headOf}
 use Rattle.device.specs.Device.{Member, Device, okHead, encMember, headFor, encode, oneMember, deviceOf, readHead, parts, whole, ended, decode}
@@ -104,3 +104,21 @@ decoded bs d e = at (leb (length bs) mostDevice) refl e
 
 pub back : (bs : List ℕ) (d : Device) → Bytes bs → decode bs ≡ some d → encode d ≡ bs
 back bs d b e = let (_, p, _) = decoded bs d e in sym (parts-back bs d [] b p ∙ append-nil (encode d))
+
+-- its header is the one that was read
+pub head-decoded : (bs : List ℕ) (d : Device) → decode bs ≡ some d → headOf (take 7 bs) ≡ headFor d
+head-decoded bs d e =
+    let (_, p, _) = decoded bs d e in
+    through (readHead bs) _ d [] p λ h r₀ p₀ e₀.
+    through (exactly 7 bs) _ h r₀ p₀ λ head q p₄ e₄.
+    through (many oneProp (h .properties) r₀) _ d [] e₀ λ ps r₁ p₁ e₁.
+    through (oneMember r₁) _ d [] e₁ λ m r₂ p₂ e₂.
+    through (many oneMember (h .above) r₂) _ d [] e₂ λ ms r₃ p₃ e₃.
+    let (_, w, _) = kept (leb 7 (length bs)) (take 7 bs) head (drop 7 bs) q p₄ in
+    let (o, x, _) = kept (okHead (headOf head)) (headOf head) h q r₀ e₄ in
+    let (_, l₁) = many-kept (λ _. true) oneProp (λ _ _ _ _. refl) (h .properties) r₀ ps r₁ p₁ in
+    let (_, l₃) = many-kept (λ _. true) oneMember (λ _ _ _ _. refl) (h .above) r₂ ms r₃ p₃ in
+    ap headOf w ∙ x ∙ sym (same-head h ps m ms (ap okHead (sym x) ∙ o) l₁ l₃) ∙ ap headFor (got-first (deviceOf h ps m ms) r₃ e₃)
+  where
+    got-first : (v : Device) (r : List ℕ) → got v r ≡ got d [] → v ≡ d
+    got-first v r e = cc

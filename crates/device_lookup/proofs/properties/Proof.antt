@@ -1,0 +1,32 @@
+-- `device_lookup::properties` meets its contract.
+-- Assumes nothing.
+use borrow.Author.Needs.{needs}
+use Rattle.lists.specs.Bytes.{Bytes}
+use Rattle.device_lookup.proofs.Devices.{properties-part}
+use Rattle.device_lookup.proofs.properties.Statement.{statement}
+use Rattle.device_lookup.proofs.properties.Tie as tie
+
+properties-end-requires : tie.Need-properties-end-requires
+properties-end-requires c κs = search needs
+
+sub-result : tie.Need-sub-result
+sub-result c = search needs
+
+part-result-start : tie.Need-part-result-start
+part-result-start c = search needs
+
+part-result-end : tie.Need-part-result-end
+part-result-end c = search needs
+
+returns : tie.Need-returns
+returns c =
+    let p = c .before .properties-end in
+    let k = c .before .before in
+    let l = k .before .args .rec .now in
+    let b : Bytes l = λ i. k .shared-slice-known .given i .fits in
+    λ d e. properties-part l d b e (p .result) (p .ensures .0 d e)
+
+pub properties-spec : {M : Type 1} → statement M
+properties-spec =
+    tie.close
+    (tie.spec properties-end-requires sub-result part-result-start part-result-end returns)

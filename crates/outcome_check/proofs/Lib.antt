@@ -1,0 +1,4 @@
+pub mod Runs
+pub mod Owner
+pub mod Parts
+pub mod Heads

@@ -1,0 +1,60 @@
+-- What the check of an outcome record answers.
+-- Assumes nothing.
+use Prim.Native.Nat.{ℕ, _≤_}
+use mathlib.Core.Path.{_≡_}
+use mathlib.Core.Bool.{Bool, _&&_}
+use mathlib.Core.List.{List, []}
+use mathlib.Core.Option.{Option, none, some}
+use lib.Dec.{eqb}
+use lib.ListN.{length, take, drop}
+use Rattle.lists.specs.Bytes.{distinct}
+use Rattle.bits.specs.Bits.{numberAt}
+use Rattle.entries.specs.Parse.{got}
+use Rattle.rows.specs.Row.{Row, names}
+use Rattle.rows.specs.declared.Kind.the-variants as kind
+use Rattle.outcome.specs.Head.{flagAt, headOf}
+use Rattle.outcome.specs.Content.{okLink}
+use Rattle.outcome.specs.State.{State, okTag, okRun, ownerOn, apart, ended}
+use Rattle.outcome_check.specs.declared.Texts.{Texts}
+use Rattle.outcome_check.specs.declared.Texts.the-variants.{Links, Tags}
+use Rattle.outcome_check.specs.declared.Counts.{Counts}
+use Rattle.outcome_target.specs.Layout.{layoutOf}
+use Rattle.outcome_target.specs.declared.Layout.{Layout}
+use Rattle.outcome_check.specs.declared.PartsRead.{PartsRead}
+use Rattle.outcome_check.specs.declared.PartsRead.the-variants as parts
+use Rattle.outcome_check.specs.declared.Checked.{Checked}
+use Rattle.outcome_check.specs.declared.Checked.the-variants.{Sound, Faulty}
+
+-- the test of an entry
+abbrev pub okOf : Texts → List ℕ → Bool
+okOf Links x = okLink x
+okOf Tags x = okTag x
+
+-- the test of a run, by its head and its template
+abbrev pub okRunOf : ℕ → List ℕ → List ℕ → Bool
+okRunOf n head t = eqb (numberAt head 15 1) 0 && okRun n (record { builtin = flagAt head 0; place = numberAt head 1 5; template = t })
+
+-- rows of entries stand where the layout says
+pub record Standing (l : List ℕ) (c : Counts) (lay : Layout) : Type 0 where
+  pub links-in : lay .links ≤ length l
+  pub links : Row kind.Text (c .links) (drop (lay .links) l)
+  pub properties-in : lay .properties ≤ length l
+  pub properties : Row kind.Property (c .properties) (drop (lay .properties) l)
+  pub tags-in : lay .tags ≤ length l
+  pub tags : Row kind.Text (c .tags) (drop (lay .tags) l)
+
+-- no name twice in each of them
+abbrev pub apartIn : List ℕ → Counts → Layout → Bool
+apartIn l c lay =
+    distinct (names kind.Text (c .links) (drop (lay .links) l))
+    && (distinct (names kind.Property (c .properties) (drop (lay .properties) l))
+    && distinct (names kind.Text (c .tags) (drop (lay .tags) l)))
+
+-- the parts behind the header: a state was read and nothing is left; or there is none
+abbrev pub PartsAre : ℕ → List ℕ → Counts → PartsRead → Type 0
+PartsAre n l c (parts.Read lay) = (s : State) × (ownerOn n (headOf (take 11 l)) (drop 11 l) ≡ got s []) × (lay ≡ layoutOf s) × Standing l c lay × (apartIn l c lay ≡ apart s)
+PartsAre n l c parts.Faulty = ended (ownerOn n (headOf (take 11 l)) (drop 11 l)) ≡ none
+
+abbrev pub checkedOf : Option State → Checked
+checkedOf none = Faulty
+checkedOf (some s) = Sound (layoutOf s)
