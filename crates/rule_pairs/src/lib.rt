@@ -33,7 +33,7 @@ pub enum MarkFound {
     Missing,
 }
 
-fn key_number(key: Key) -> u8
+pub fn key_number(key: Key) -> u8
     ensures { λ r. ⌜ r ≡ keyNumber (keyOf key) ⌝ }
 {
     match key {

@@ -1,0 +1,39 @@
+-- A pair whose content is judged: 15 after 11 to 14.
+-- Assumes nothing.
+use Prim.Native.Nat.{ℕ}
+use mathlib.Core.Path.{_≡_, refl, sym}
+use mathlib.Core.Bool.{true, false}
+use mathlib.Core.List.{List, [], _∷_}
+use lib.Dec.{eqb, eqb·suc-zero}
+use lib.ListN.{length, drop}
+use Rattle.lists.specs.Lists.{isEmpty}
+use Rattle.lists.specs.Checked.{refused}
+use Rattle.lists.specs.Refusal.{content-bad}
+use Rattle.rules.specs.Reading.{sound, unescape, readPair}
+use Rattle.keys.specs.Table.{keyOf, operatorOf}
+use Rattle.refusals.specs.Refusals.{refusalOf}
+use Rattle.refusals.specs.declared.Refusal as code
+use Rattle.pairs.specs.declared.Pair.{Pair}
+use Rattle.pairs.specs.declared.PairRead.{PairRead}
+use Rattle.pairs.specs.declared.PairRead.the-variants.{Read, Refused}
+use Rattle.pairs.specs.Stages.{pairWritten}
+use Rattle.pairs.specs.Answers.{part, readBy}
+use Rattle.pairs.proofs.Whole.{read-written}
+
+-- a list without an element
+pub length-empty : (v : List ℕ) → eqb (length v) 0 ≡ isEmpty v
+length-empty [] = refl
+length-empty (b ∷ v) = eqb·suc-zero (length v)
+
+module _ (line : List ℕ) (at : ℕ) (r : PairRead) (written : readBy line r ≡ pairWritten (drop at line)) where
+  module _ (p : Pair) (is : r ≡ Read p) where
+    pub pair-sound : sound (keyOf (p .key)) (operatorOf (p .operator)) (unescape (part line (p .start) (p .end))) ≡ true
+        → readBy line (Read p) ≡ readPair (drop at line)
+    pair-sound s = sym (rw (read-written (drop at line), ← written, is, s))
+
+    pub pair-unsound : sound (keyOf (p .key)) (operatorOf (p .operator)) (unescape (part line (p .start) (p .end))) ≡ false
+        → refused content-bad ≡ readPair (drop at line)
+    pair-unsound s = sym (rw (read-written (drop at line), ← written, is, s))
+
+  pub pair-refused : (f : code.Refusal) → r ≡ Refused f → refused (refusalOf f) ≡ readPair (drop at line)
+  pair-refused f is = sym (rw (read-written (drop at line), ← written, is))

@@ -1,0 +1,132 @@
+// The content of a pair, refusal 15, and with it the whole pair.
+ghost use mathlib.Core.Path.{_≡_};
+ghost use mathlib.Core.Bool.{not};
+ghost use Prim.Native.Nat.{_≤_};
+ghost use lib.ListN.{length, drop};
+ghost use Rattle.lists.specs.Lists.{isSome};
+ghost use Rattle.rules.specs.Key.{isMatch};
+ghost use Rattle.rules.specs.Setting.{settingOf};
+ghost use Rattle.rules.specs.Reading as reading;
+ghost use Rattle.keys.specs.Table.{keyOf, operatorOf};
+ghost use Rattle.pairs.specs.Answers.{part, readBy};
+ghost use Rattle.pairs.specs.Bounds.{ValueAt, ReadIn};
+use keys::Key;
+use keys::Operator;
+use pairs::PairRead;
+use refusals::Refusal;
+use signed::SettingRead;
+
+// ---- the value of an assignment
+
+fn is_setting(value: &[u8]) -> bool
+    ensures { λ r. ⌜ r ≡ isSome (settingOf (now (value .entry))) ⌝ }
+{
+    match signed::setting_of(value) {
+        SettingRead::EscapeNone => true,
+        SettingRead::EscapeReplace => true,
+        SettingRead::Priority(_) => true,
+        SettingRead::Faulty => false,
+    }
+}
+
+// Whether a value that is assigned to a key has the form that the key asks for.
+fn assigned_sound(key: Key, value: &[u8]) -> bool
+    ensures { λ r. ⌜ r ≡ reading.soundAssigned (keyOf key) (now (value .entry)) ⌝ }
+{
+    match key {
+        Key::Action => true,
+        Key::Devpath => true,
+        Key::Kernel => true,
+        Key::Kernels => true,
+        Key::Subsystem => true,
+        Key::Subsystems => true,
+        Key::Driver => true,
+        Key::Drivers => true,
+        Key::Attr => true,
+        Key::Attrs => true,
+        Key::Env => true,
+        Key::Symlink => pieces::well_formed(value),
+        Key::Tag => value.len() <= 64,
+        Key::Owner => pieces::well_formed(value),
+        Key::Group => pieces::well_formed(value),
+        Key::Mode => pieces::well_formed(value),
+        Key::Run => pieces::well_formed(value),
+        Key::Label => value.len() != 0,
+        Key::Goto => value.len() != 0,
+        Key::Options => is_setting(value),
+    }
+}
+
+// ---- the value of any pair
+
+fn is_match(operator: Operator) -> bool
+    ensures { λ r. ⌜ r ≡ isMatch (operatorOf operator) ⌝ }
+{
+    match operator {
+        Operator::Equal => true,
+        Operator::Unequal => true,
+        Operator::Assign => false,
+        Operator::Add => false,
+        Operator::Remove => false,
+        Operator::Final => false,
+    }
+}
+
+// Whether a value, unescaped, is one that its key and operator ask for.
+pub fn value_sound(key: Key, operator: Operator, value: &[u8]) -> bool
+    ensures { λ r. ⌜ r ≡ reading.sound (keyOf key) (operatorOf operator) (now (value .entry)) ⌝ }
+{
+    if is_match(operator) {
+        return glob::well_formed(value);
+    }
+    assigned_sound(key, value)
+}
+
+// The same of a value with escapes, as written from start to end.
+fn escaped_sound(key: Key, operator: Operator, line: &[u8], start: usize, end: usize) -> bool
+    requires { ⌜ (start ≤ end) × (end ≤ length (now line)) × (length (reading.unescape (part (now line) start end)) ≤ 256) ⌝ }
+    ensures { λ r. ⌜ r ≡ reading.sound (keyOf key) (operatorOf operator) (reading.unescape (part (now (line .entry)) start end)) ⌝ }
+{
+    let mut value = [0u8; 256];
+    let n = pairs::value_into(line, start, end, &mut value);
+    value_sound(key, operator, &value[..n])
+}
+
+// The same of a value as written, of which len bytes are left after unescaping; without an escape it is judged in place.
+fn written_sound(
+    key: Key,
+    operator: Operator,
+    line: &[u8],
+    start: usize,
+    end: usize,
+    len: usize,
+) -> bool
+    requires { ⌜ ValueAt (now line) start end len ⌝ }
+    ensures { λ r. ⌜ r ≡ reading.sound (keyOf key) (operatorOf operator) (reading.unescape (part (now (line .entry)) start end)) ⌝ }
+{
+    if len == end - start {
+        return value_sound(key, operator, &line[start..end]);
+    }
+    escaped_sound(key, operator, line, start, end)
+}
+
+// ---- a pair
+
+// The pair at a place, its content judged too.
+pub fn read_pair(line: &[u8], at: usize) -> PairRead
+    requires { ⌜ at ≤ length (now line) ⌝ }
+    ensures { λ r. ⌜ (readBy (now (line .entry)) r ≡ reading.readPair (drop at (now (line .entry)))) × ReadIn (now (line .entry)) r ⌝ }
+{
+    match pairs::read_pair(line, at) {
+        PairRead::Read(p) => {
+            let key = p.key;
+            let operator = p.operator;
+            if written_sound(key, operator, line, p.start, p.end, p.len) {
+                PairRead::Read(p)
+            } else {
+                PairRead::Refused(Refusal::ContentBad)
+            }
+        }
+        PairRead::Refused(f) => PairRead::Refused(f),
+    }
+}
