@@ -13,10 +13,7 @@ use Rattle.entries.specs.Parse.{got}
 use Rattle.rows.specs.Row.{Row, names}
 use Rattle.rows.specs.declared.Kind.the-variants as kind
 use Rattle.outcome.specs.Head.{flagAt, headOf}
-use Rattle.outcome.specs.Content.{okLink}
-use Rattle.outcome.specs.State.{State, okTag, okRun, ownerOn, apart, ended}
-use Rattle.outcome_check.specs.declared.Texts.{Texts}
-use Rattle.outcome_check.specs.declared.Texts.the-variants.{Links, Tags}
+use Rattle.outcome.specs.State.{State, okRun, ownerOn, apart, ended}
 use Rattle.outcome_check.specs.declared.Counts.{Counts}
 use Rattle.outcome_target.specs.Layout.{layoutOf}
 use Rattle.outcome_target.specs.declared.Layout.{Layout}
@@ -24,11 +21,6 @@ use Rattle.outcome_check.specs.declared.PartsRead.{PartsRead}
 use Rattle.outcome_check.specs.declared.PartsRead.the-variants as parts
 use Rattle.outcome_check.specs.declared.Checked.{Checked}
 use Rattle.outcome_check.specs.declared.Checked.the-variants.{Sound, Faulty}
-
--- the test of an entry
-abbrev pub okOf : Texts → List ℕ → Bool
-okOf Links x = okLink x
-okOf Tags x = okTag x
 
 -- the test of a run, by its head and its template
 abbrev pub okRunOf : ℕ → List ℕ → List ℕ → Bool

@@ -2,6 +2,7 @@
 
 use bits::BitCursor;
 use outcome_target::Layout;
+use outcome_target::Texts;
 use rows::EntryRead;
 use rows::Kind;
 use rows::RowEnd;
@@ -15,7 +16,8 @@ ghost use Rattle.entries.specs.Entry.{oneText};
 ghost use Rattle.rows.specs.Row.{endOf};
 ghost use Rattle.outcome.specs.State.{oneOwner, oneRun, decode};
 ghost use Rattle.outcome_check.specs.Counts.{Counted, okCounts};
-ghost use Rattle.outcome_check.specs.Check.{okOf, okRunOf, PartsAre, Standing, apartIn, checkedOf};
+ghost use Rattle.outcome_target.specs.Texts.{okOf};
+ghost use Rattle.outcome_check.specs.Check.{okRunOf, PartsAre, Standing, apartIn, checkedOf};
 
 // ---- the header
 
@@ -105,11 +107,6 @@ fn check_owner(rec: &[u8], at: usize, k: usize) -> RowEnd
         return RowEnd::Bad;
     }
     RowEnd::At(at + k)
-}
-
-pub enum Texts {
-    Links,
-    Tags,
 }
 
 fn ok_entry(list: Texts, x: &[u8]) -> bool

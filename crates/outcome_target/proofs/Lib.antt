@@ -3,3 +3,4 @@ pub mod Frames
 pub mod Edits
 pub mod Facts
 pub mod Changes
+pub mod Rows

@@ -6,12 +6,14 @@ use mathlib.Core.List.{List}
 use mathlib.Core.Option.{some}
 use lib.ListN.{length}
 use Rattle.lists.specs.Checked.{Checked, refused, ok}
-use Rattle.lists.specs.Refusal.{Refusal}
+use Rattle.lists.specs.Refusal.{Refusal, list-full}
 use Rattle.lists.specs.Sizes.{fullestOutcome}
 use Rattle.splice.specs.Moves.{padded}
 use Rattle.outcome.specs.State.{State, Good, encode, decode}
 use Rattle.outcome_target.specs.Layout.{layoutOf}
 use Rattle.outcome_target.specs.declared.Layout.{Layout}
+use Rattle.outcome_target.specs.declared.Edit.{Edit}
+use Rattle.outcome_target.specs.declared.Edit.the-variants.{Done, Full}
 
 -- the target l holds the record of s, which is sound beside a chain of n devices
 pub record Held (n : ℕ) (l : List ℕ) (lay : Layout) (s : State) : Type 0 where
@@ -30,3 +32,18 @@ Loaded bs l = (n : ℕ) (s : State) → decode n bs ≡ some s → fullestOutcom
 -- an edit that is never refused
 abbrev pub Changed : (State → State) → List ℕ → Layout → List ℕ → Layout → Type 0
 Changed op l lay l′ lay′ = (n : ℕ) (s : State) → Held n l lay s → Held n l′ lay′ (op s)
+
+-- an edit that may find no room: what becomes of a part, and the state with that part anew
+abbrev pub Left : {A : Type 0} → ℕ → (A → State) → Checked Refusal A → List ℕ → Edit → Type 0
+Left {A} n put c l (Done lay) = (x : A) × (c ≡ ok x) × Held n l lay (put x)
+Left n put c l Full = c ≡ refused list-full
+
+abbrev pub Edited : {A : Type 0} → (State → A → State) → (State → Checked Refusal A) → List ℕ → Layout → List ℕ → Edit → Type 0
+Edited put op l lay l′ r = (n : ℕ) (s : State) → Held n l lay s → Left n (put s) (op s) l′ r
+
+-- the same of an entry whose soundness depends on the chain's length
+abbrev pub EditedIf : {A : Type 0} → (ℕ → Type 0) → (State → A → State) → (State → Checked Refusal A) → List ℕ → Layout → List ℕ → Edit → Type 0
+EditedIf sound put op l lay l′ r = (n : ℕ) (s : State) → Held n l lay s → sound n → Left n (put s) (op s) l′ r
+
+abbrev pub HoldsIf : (ℕ → Type 0) → List ℕ → Layout → Type 0
+HoldsIf sound l lay = (n : ℕ) × (s : State) × Held n l lay s × sound n

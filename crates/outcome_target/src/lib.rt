@@ -7,6 +7,7 @@ ghost use lib.ListN.{length};
 ghost use Rattle.bits.specs.Bits.{numberAt, putAt};
 ghost use Rattle.outcome_target.specs.Layout.{startOf, endOf, movedBy, allMoved, countPlace, countWidth, Rising};
 ghost use Rattle.outcome_target.specs.Held.{Loaded};
+ghost use Rattle.outcome_target.specs.Texts.{sectionOf};
 
 // ---- where the rows are
 
@@ -24,6 +25,21 @@ pub enum Section {
     Properties,
     Tags,
     Runs,
+}
+
+// The two lists of texts.
+pub enum Texts {
+    Links,
+    Tags,
+}
+
+pub fn section_of(list: Texts) -> Section
+    ensures { λ r. ⌜ r ≡ sectionOf list ⌝ }
+{
+    match list {
+        Texts::Links => Section::Links,
+        Texts::Tags => Section::Tags,
+    }
 }
 
 pub fn start_of(layout: Layout, section: Section) -> usize
@@ -97,6 +113,14 @@ pub fn all_moved(layout: Layout, old: usize, new: usize) -> Layout
         runs: layout.runs + new - old,
         end: layout.end + new - old,
     }
+}
+
+// ---- edits
+
+// What an edit gives: where the rows of the new record are, or that there is no room for one more entry (32).
+pub enum Edit {
+    Done(Layout),
+    Full,
 }
 
 // ---- the header

@@ -1,4 +1,4 @@
--- Sizes of entries, and the ends of rows.
+-- Sizes of entries.
 -- Assumes nothing.
 use Prim.Native.Nat.{ℕ, _+_, _≤_}
 use mathlib.Core.Path.{_≡_, refl, sym, ap, _∙_}
@@ -9,17 +9,7 @@ use Rattle.bits.specs.Fields.{packed}
 use Rattle.bits.proofs.Fields.{length-packed}
 use Rattle.entries.specs.Entry.{encProp}
 use Rattle.entries.proofs.Entries.{prop-length}
-use Rattle.outcome_target.specs.Layout.{Rising, endOf}
-use Rattle.outcome_target.specs.declared.Layout.{Layout}
-use Rattle.outcome_target.specs.declared.Section.{Section}
-use Rattle.outcome_target.specs.declared.Section.the-variants.{Links, Properties, Tags, Runs}
 use Rattle.row_edits.specs.Edits.{runBits, encodedRun}
-
-pub end-within : (lay : Layout) (section : Section) → Rising lay → endOf lay section ≤ lay .end
-end-within lay Links r = omega arith
-end-within lay Properties r = omega arith
-end-within lay Tags r = omega arith
-end-within lay Runs r = omega arith
 
 pub property-size : (key value : List ℕ) → 2 + length key + length value ≡ length (encProp (record { key = key; value = value }))
 property-size key value = omega (arith, prop-length (record { key = key; value = value }))

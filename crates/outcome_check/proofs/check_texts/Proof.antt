@@ -11,7 +11,7 @@ use Rattle.entries.specs.Entry.{oneText}
 use Rattle.rows.specs.declared.Kind.the-variants.{Text}
 use Rattle.rows.proofs.Turns.{place-name}
 use Rattle.rows.proofs.Readers.{text-reads, check-outside, check-faulty, check-next, check-none}
-use Rattle.outcome_check.specs.Check.{okOf}
+use Rattle.outcome_target.specs.Texts.{okOf}
 use borrow.Author.Needs.{needs}
 use native.Mathlib.Omega.{arith}
 use Rattle.outcome_check.proofs.check_texts.Statement.{statement}

@@ -10,7 +10,7 @@ use Rattle.splice.specs.Moves.{inserted}
 use Rattle.outcome_target.specs.Layout.{countPlace, countWidth, movedBy}
 use Rattle.lists.proofs.Moves.{ap-at}
 use Rattle.entries.specs.Entry.{encText}
-use Rattle.row_edits.proofs.Rows.{end-within}
+use Rattle.outcome_target.proofs.Rows.{start-end}
 use native.Mathlib.Omega.{arith}
 use borrow.Author.Needs.{needs}
 use Rattle.row_edits.proofs.append_text.Statement.{statement}
@@ -23,7 +23,7 @@ insert-text-requires : tie.Need-insert-text-requires
 insert-text-requires c κs =
     let a = c .before .before .before .before .args in
     let pre = c .before .before .before .before .pre in
-    let h = c .before .end-of .ensures in (subst (λ (i : ℕ). i ≤ a .layout .end) (sym h) (end-within (a .layout) (a .section) (pre .0)), pre .1, pre .2)
+    let h = c .before .end-of .ensures in (subst (λ (i : ℕ). i ≤ a .layout .end) (sym h) (start-end (a .layout) (a .section) (pre .0) .1), pre .1, pre .2)
 
 add-set-count : tie.Need-add-set-count
 add-set-count c = search needs

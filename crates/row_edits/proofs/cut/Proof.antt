@@ -8,14 +8,14 @@ use Rattle.lists.specs.Bytes.{Bytes}
 use Rattle.bits.specs.Bits.{putAt}
 use Rattle.splice.specs.Moves.{inserted}
 use Rattle.outcome_target.specs.Layout.{countPlace, countWidth}
-use Rattle.row_edits.proofs.Rows.{end-within}
+use Rattle.outcome_target.proofs.Rows.{start-end}
 use native.Mathlib.Omega.{arith}
 use borrow.Author.Needs.{needs}
 use Rattle.row_edits.proofs.cut.Statement.{statement}
 use Rattle.row_edits.proofs.cut.Tie as tie
 
 remove-requires : tie.Need-remove-requires
-remove-requires c κs = let h = end-within (c .before .before .args .layout) (c .before .before .args .section) (c .before .before .pre .0) in (omega arith, c .before .before .pre .2)
+remove-requires c κs = let h = start-end (c .before .before .args .layout) (c .before .before .args .section) (c .before .before .pre .0) .1 in (omega arith, c .before .before .pre .2)
 
 set-count-requires : tie.Need-set-count-requires
 set-count-requires c κs = search needs
