@@ -1,0 +1,162 @@
+// The labels and jumps of a text, noted rule by rule while its lines are read: the first GOTO without a later LABEL.
+ghost use mathlib.Core.Path.{_≡_};
+ghost use mathlib.Core.List.{List};
+ghost use Prim.Native.Nat.{ℕ, _+_, _-_, _*_, _≤_, _<_};
+ghost use lib.ListN.{length, getD};
+ghost use Rattle.lists.specs.Lists.{isSome};
+ghost use Rattle.lists.specs.Checked.{Placed};
+ghost use Rattle.lists.specs.Sizes.{mostText, mostRules};
+ghost use Rattle.text.specs.Reading as text-reading;
+ghost use Rattle.rules.specs.Pair.{Rule};
+ghost use Rattle.rules.specs.Reading.{reader, unescape};
+ghost use Rattle.pairs.specs.Answers.{part};
+ghost use Rattle.rule_pairs.specs.Marks.{MarkIn};
+ghost use Rattle.jumps.specs.Names.{mixed, hashOf, Name, MarkPut};
+ghost use Rattle.jumps.specs.Noted.{marks, nameAt, rows, NameAt, Names, isAnswered, Noted, NotedOne, settledBy};
+use rule_pairs::MarkFound;
+
+// A rule takes seven numbers: its line; where its label's name starts and ends in the text, and that name's hash; the
+// same three of its jump. The place of a missing name is 0, where no name can start.
+const ROOM: usize = 3584;
+
+// ---- noting a rule
+
+fn mix(hash: usize, b: u8) -> usize
+    requires { ⌜ hash < 4294967296 ⌝ }
+    ensures { λ r. ⌜ (r ≡ mixed hash b) × (r < 4294967296) ⌝ }
+{
+    (hash * 16777619 + b as usize) % 4294967296
+}
+
+fn hash_of(name: &[u8]) -> usize
+    ensures { λ r. ⌜ r ≡ hashOf (now (name .entry)) ⌝ }
+{
+    let mut hash: usize = 0;
+    let mut i: usize = 0;
+    while i < name.len() {
+        hash = mix(hash, name[i]);
+        i += 1;
+    }
+    hash
+}
+
+// Puts the name of a mark of the line that starts at a place of the text.
+fn put_mark(jumps: &mut [usize; ROOM], at: usize, line: &[u8], start: usize, mark: MarkFound)
+    requires { ⌜ (length (now jumps) ≡ 7 * mostRules) × (at + 3 ≤ 7 * mostRules) × (start + length (now line) ≤ mostText) × MarkIn (now line) mark ⌝ }
+    ensures { λ _. ⌜ MarkPut (now (line .entry)) start mark at (now (jumps .entry)) (now (jumps .exit)) ⌝ }
+{
+    match mark {
+        MarkFound::At(s, e) => {
+            let hash = hash_of(&line[s..e]);
+            jumps[at] = start + s;
+            jumps[at + 1] = start + e;
+            jumps[at + 2] = hash;
+        }
+        MarkFound::Missing => {
+            jumps[at] = 0;
+        }
+    }
+}
+
+// Notes the rule of a line, behind those noted before it.
+pub fn note(
+    jumps: &mut [usize; ROOM],
+    count: usize,
+    number: usize,
+    line: &[u8],
+    start: usize,
+    label: MarkFound,
+    goto: MarkFound,
+)
+    requires { ⌜ (length (now jumps) ≡ 7 * mostRules) × (count < mostRules) × (start + length (now line) ≤ mostText) × MarkIn (now line) label × MarkIn (now line) goto ⌝ }
+    ensures { λ _. ⌜ NotedOne (now (line .entry)) start number label goto (now (jumps .entry)) count (now (jumps .exit)) ⌝ }
+{
+    let at = count * 7;
+    jumps[at] = number;
+    put_mark(jumps, at + 1, line, start, label);
+    put_mark(jumps, at + 4, line, start, goto);
+}
+
+// ---- each jump finds its label
+
+pub enum Settled {
+    All,
+    // the line of the first jump that finds none
+    Missing(usize),
+}
+
+// Whether the label noted at a place is the name that is written from start to end.
+fn is_label(
+    text: &[u8],
+    jumps: &[usize; ROOM],
+    at: usize,
+    start: usize,
+    end: usize,
+    hash: usize,
+) -> bool
+    requires { ⌜ (at + 3 ≤ 7 * mostRules) × NameAt (now text) (now jumps) at × Name (now text) start end hash ⌝ }
+    ensures { λ r. ⌜ r ≡ text-reading.hasLabel (unescape (part (now (text .entry)) start end)) (nameAt (now (text .entry)) (now (jumps .entry)) at) ⌝ }
+{
+    if jumps[at + 2] != hash {
+        return false;
+    }
+    let s = jumps[at];
+    if s == 0 {
+        return false;
+    }
+    let e = jumps[at + 1];
+    scan::same(&text[start..end], &text[s..e])
+}
+
+// Whether a rule from a place on has the label that is written from start to end.
+fn has_label(
+    text: &[u8],
+    jumps: &[usize; ROOM],
+    count: usize,
+    from: usize,
+    start: usize,
+    end: usize,
+    hash: usize,
+) -> bool
+    requires { ⌜ (count ≤ mostRules) × Names (now text) (now jumps) count × (from ≤ count) × Name (now text) start end hash ⌝ }
+    ensures { λ r. ⌜ r ≡ isSome (text-reading.goesTo marks (unescape (part (now (text .entry)) start end)) (rows (now (text .entry)) (now (jumps .entry)) from (count - from))) ⌝ }
+{
+    let mut i = from;
+    while i < count {
+        if is_label(text, jumps, i * 7 + 1, start, end, hash) {
+            return true;
+        }
+        i += 1;
+    }
+    false
+}
+
+// Whether the jump of a rule, if it has one, finds its label behind it.
+fn is_answered(text: &[u8], jumps: &[usize; ROOM], count: usize, i: usize) -> bool
+    requires { ⌜ (count ≤ mostRules) × Names (now text) (now jumps) count × (i < count) ⌝ }
+    ensures { λ r. ⌜ r ≡ isAnswered (nameAt (now (text .entry)) (now (jumps .entry)) (i * 7 + 4)) (rows (now (text .entry)) (now (jumps .entry)) (i + 1) (count - (i + 1))) ⌝ }
+{
+    let at = i * 7 + 4;
+    let start = jumps[at];
+    if start == 0 {
+        return true;
+    }
+    let end = jumps[at + 1];
+    let hash = jumps[at + 2];
+    has_label(text, jumps, count, i + 1, start, end, hash)
+}
+
+// The first GOTO without a later LABEL, when all rules are noted.
+pub fn settle(text: &[u8], jumps: &[usize; ROOM], count: usize) -> Settled
+    requires { ⌜ ((rs : List (Placed Rule)) × Noted (now text) (now jumps) count rs) ⌝ }
+    ensures { λ r. ⌜ ((rs : List (Placed Rule)) → Noted (now (text .entry)) (now (jumps .entry)) count rs → settledBy r ≡ text-reading.settle reader rs) ⌝ }
+{
+    let mut i: usize = 0;
+    while i < count {
+        if !is_answered(text, jumps, count, i) {
+            return Settled::Missing(jumps[i * 7]);
+        }
+        i += 1;
+    }
+    Settled::All
+}
