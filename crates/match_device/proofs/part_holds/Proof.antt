@@ -1,0 +1,96 @@
+-- `match_device::part_holds` meets its contract.
+-- Assumes nothing.
+use Prim.Native.Nat.{ℕ}
+use mathlib.Core.List.{List}
+use mathlib.Core.Path.{ap, _∙_}
+use borrow.Author.Needs.{needs}
+use Rattle.engine.specs.Match.{judged, seenBy}
+use Rattle.keys.specs.Table.{operatorOf}
+use Rattle.pattern.specs.Pattern.{matches}
+use Rattle.match_device.proofs.part_holds.Statement.{statement}
+use Rattle.match_device.proofs.part_holds.Tie as tie
+
+enum-told : tie.Need-enum-told
+enum-told c = search needs
+
+path-requires : tie.Need-path-requires
+path-requires c κs = search needs
+
+value-holds-requires : tie.Need-value-holds-requires
+value-holds-requires c κs = search needs
+
+enum-told-2 : tie.Need-enum-told-2
+enum-told-2 c = search needs
+
+name-requires : tie.Need-name-requires
+name-requires c κs = search needs
+
+value-holds-requires-2 : tie.Need-value-holds-requires-2
+value-holds-requires-2 c κs = search needs
+
+enum-told-3 : tie.Need-enum-told-3
+enum-told-3 c = search needs
+
+subsystem-requires : tie.Need-subsystem-requires
+subsystem-requires c κs = search needs
+
+value-holds-requires-3 : tie.Need-value-holds-requires-3
+value-holds-requires-3 c κs = search needs
+
+enum-told-4 : tie.Need-enum-told-4
+enum-told-4 c = search needs
+
+driver-requires : tie.Need-driver-requires
+driver-requires c κs = search needs
+
+value-holds-requires-4 : tie.Need-value-holds-requires-4
+value-holds-requires-4 c κs = search needs
+
+enum-told-5 : tie.Need-enum-told-5
+enum-told-5 c = search needs
+
+attribute-requires : tie.Need-attribute-requires
+attribute-requires c κs = search needs
+
+attribute-holds-requires : tie.Need-attribute-holds-requires
+attribute-holds-requires c κs = search needs
+
+returns : tie.Need-returns
+returns c = λ m h. rw (c .before .before .enum-told .given .1) (c .value-holds .ensures ∙ ap (λ (x : List ℕ). judged (operatorOf (c .before .before .before .before .before .before .before .args .operator)) (matches (c .before .before .before .before .before .before .before .args .pattern .now) x)) (c .before .path .ensures m h))
+
+returns-2 : tie.Need-returns-2
+returns-2 c = λ m h. rw (c .before .before .enum-told2 .given .1) (c .value-holds2 .ensures ∙ ap (λ (x : List ℕ). judged (operatorOf (c .before .before .before .before .before .before .before .args .operator)) (matches (c .before .before .before .before .before .before .before .args .pattern .now) x)) (c .before .name .ensures m h))
+
+returns-3 : tie.Need-returns-3
+returns-3 c = λ m h. rw (c .before .before .enum-told3 .given .1) (c .value-holds3 .ensures ∙ ap (λ (x : List ℕ). judged (operatorOf (c .before .before .before .before .before .before .before .args .operator)) (matches (c .before .before .before .before .before .before .before .args .pattern .now) x)) (c .before .subsystem .ensures m h))
+
+returns-4 : tie.Need-returns-4
+returns-4 c = λ m h. rw (c .before .before .enum-told4 .given .1) (c .value-holds4 .ensures ∙ ap (λ (x : List ℕ). judged (operatorOf (c .before .before .before .before .before .before .before .args .operator)) (matches (c .before .before .before .before .before .before .before .args .pattern .now) x)) (c .before .driver .ensures m h))
+
+returns-5 : tie.Need-returns-5
+returns-5 c = λ m h. rw (c .before .before .enum-told5 .given .1) (c .attribute-holds .ensures ∙ ap (λ (x : List ℕ). judged (operatorOf (c .before .before .before .before .before .before .before .args .operator)) (matches (c .before .before .before .before .before .before .before .args .pattern .now) (seenBy (c .before .before .before .before .before .before .before .args .pattern .now) x))) (c .before .attribute .ensures m h))
+
+pub part-holds-spec : {M : Type 1} → statement M
+part-holds-spec =
+    tie.close
+    (tie.spec
+    enum-told
+    path-requires
+    value-holds-requires
+    enum-told-2
+    name-requires
+    value-holds-requires-2
+    enum-told-3
+    subsystem-requires
+    value-holds-requires-3
+    enum-told-4
+    driver-requires
+    value-holds-requires-4
+    enum-told-5
+    attribute-requires
+    attribute-holds-requires
+    returns
+    returns-2
+    returns-3
+    returns-4
+    returns-5)

@@ -1,0 +1,61 @@
+// Whether a match key holds of what the device record says: of one device of its chain, and of its action.
+
+ghost use mathlib.Core.Path.{_≡_};
+ghost use Rattle.pattern.specs.Pattern.{matches};
+ghost use Rattle.device.specs.Device.{actionOf};
+ghost use Rattle.keys.specs.Table.{operatorOf};
+ghost use Rattle.engine.specs.Match.{judged};
+ghost use Rattle.device_lookup.specs.Lookup.{Sound, Standing, OfDevice, OfMember};
+ghost use Rattle.match_device.specs.Parts.{partHolds};
+use bits::BitCursor;
+use keys::Operator;
+
+// What a match key can ask of one device. An attribute is the one that the key's argument names.
+pub enum Part {
+    Path,
+    Name,
+    Subsystem,
+    Driver,
+    Attribute,
+}
+
+// Of the device that begins at a place.
+pub fn part_holds(
+    part: Part,
+    operator: Operator,
+    argument: &[u8],
+    pattern: &[u8],
+    dev: &[u8],
+    at: usize,
+) -> bool
+    requires { ⌜ Standing (now dev) at ⌝ }
+    ensures { λ r. ⌜ OfMember (now (dev .entry)) at (λ m. r ≡ partHolds part (operatorOf operator) (now (argument .entry)) (now (pattern .entry)) m) ⌝ }
+{
+    match part {
+        Part::Path => match_values::value_holds(operator, pattern, device_lookup::path(dev, at)),
+        Part::Name => match_values::value_holds(operator, pattern, device_lookup::name(dev, at)),
+        Part::Subsystem => match_values::value_holds(
+            operator,
+            pattern,
+            device_lookup::subsystem(dev, at),
+        ),
+        Part::Driver => match_values::value_holds(
+            operator,
+            pattern,
+            device_lookup::driver(dev, at),
+        ),
+        Part::Attribute => match_values::attribute_holds(
+            operator,
+            pattern,
+            device_lookup::attribute(dev, at, argument),
+        ),
+    }
+}
+
+pub fn action_holds(operator: Operator, pattern: &[u8], dev: &[u8]) -> bool
+    requires { ⌜ Sound (now dev) ⌝ }
+    ensures { λ r. ⌜ OfDevice (now (dev .entry)) (λ d. r ≡ judged (operatorOf operator) (matches (now (pattern .entry)) (actionOf d))) ⌝ }
+{
+    let action = BitCursor { at: 8 }.take(dev, 3);
+    match_values::action_holds(operator, pattern, action.value)
+}
