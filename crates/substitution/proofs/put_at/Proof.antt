@@ -1,0 +1,92 @@
+-- `substitution::put_at` meets its contract.
+-- Assumes nothing.
+use Prim.Native.Nat.{ℕ}
+use mathlib.Core.List.{List}
+use mathlib.Core.Path.{_≡_, sym, subst}
+use native.Mathlib.Omega.{arith}
+use borrow.Author.Needs.{needs}
+use Rattle.substitution.proofs.Texts.{plain-next, piece-next, piece-end, piece-fault, turn-text, turn-on}
+use Rattle.insertion.proofs.Laws.{appended-none}
+use Rattle.insertion.specs.Append.{Appended}
+use Rattle.pieces.specs.declared.PieceRead.the-variants.{Read, End, Fault}
+use Rattle.pieces.specs.Read.{meaning, told, readAt, Ahead}
+use Rattle.insertion.specs.declared.Put.the-variants as put
+use Rattle.substitution.proofs.put_at.Statement.{statement}
+use Rattle.substitution.proofs.put_at.Tie as tie
+
+plain-end-requires : tie.Need-plain-end-requires
+plain-end-requires c κs = search needs
+
+sub-put-text : tie.Need-sub-put-text
+sub-put-text c = search needs
+
+part-put-text-start : tie.Need-part-put-text-start
+part-put-text-start c = search needs
+
+part-put-text-end : tie.Need-part-put-text-end
+part-put-text-end c = search needs
+
+put-text-requires : tie.Need-put-text-requires
+put-text-requires c κs = search needs
+
+turned-requires : tie.Need-turned-requires
+turned-requires c κs = search needs
+
+same-length : tie.Need-same-length
+same-length c = search needs
+
+returns : tie.Need-returns
+returns c = (rw (c .turned .ensures) (turn-on (c .before .before .before .before .before .before .before .before .before .before .before .before .args .template .now) (c .before .before .before .before .before .before .before .before .before .before .before .before .args .i) (c .before .before .before .before .before .before .before .plain-end .result) _ (c .before .before .before .before .before .before .before .before .before .before .before .before .args .out .now) (c .before .before .before .before .before .before .before .before .before .before .before .before .args .used) (c .before .before .before .put-text .result) _ (c .before .before .before .before .before .before .if1 .taken) (omega (arith, c .before .before .before .before .before .before .before .plain-end .ensures .within)) ((plain-next (c .before .before .before .before .before .before .before .before .before .before .before .before .args .spaceless) (c .before .before .before .before .before .before .before .before .before .before .before .before .pre .2 .0) (c .before .before .before .before .before .before .before .before .before .before .before .before .args .template .now) (c .before .before .before .before .before .before .before .before .before .before .before .before .args .i) (c .before .before .before .before .before .before .before .plain-end .result) (c .before .before .before .before .before .before .before .plain-end .ensures) (c .before .before .before .before .before .before .before .before .before .before .before .before .pre .1)) .0) (c .before .before .before .put-text .ensures)), λ s h. rw (c .turned .ensures) (turn-text (c .before .before .before .before .before .before .before .before .before .before .before .before .args .spaceless) s (c .before .before .before .before .before .before .before .before .before .before .before .before .args .template .now) (c .before .before .before .before .before .before .before .before .before .before .before .before .args .i) (c .before .before .before .before .before .before .before .before .before .before .before .before .args .out .now) (c .before .before .before .before .before .before .before .before .before .before .before .before .args .used) _ (c .before .before .before .before .before .before .before .plain-end .result) ((plain-next (c .before .before .before .before .before .before .before .before .before .before .before .before .args .spaceless) s (c .before .before .before .before .before .before .before .before .before .before .before .before .args .template .now) (c .before .before .before .before .before .before .before .before .before .before .before .before .args .i) (c .before .before .before .before .before .before .before .plain-end .result) (c .before .before .before .before .before .before .before .plain-end .ensures) (c .before .before .before .before .before .before .before .before .before .before .before .before .pre .1)) .1) (c .before .before .before .put-text .result) _ (c .before .before .before .put-text .ensures)))
+
+piece-at-requires : tie.Need-piece-at-requires
+piece-at-requires c κs = search needs
+
+enum-known-p : tie.Need-enum-known-p
+enum-known-p c = search needs
+
+put-piece-requires : tie.Need-put-piece-requires
+put-piece-requires c κs = let a : Ahead (c .before .before .p .given .0 .0) (c .before .before .p .given .0 .1 .0) (c .before .before .before .before .before .before .before .before .before .before .before .args .template .now) (c .before .before .before .before .before .before .before .before .before .before .before .args .i) = rw (c .before .before .p .given .1) at (c .before .before .before .before .piece-at .ensures .1) in (a .text, c .before .before .before .before .before .before .before .before .before .before .before .pre .2, c .before .before .before .before .before .before .before .before .before .before .before .pre .3)
+
+turned-requires-2 : tie.Need-turned-requires-2
+turned-requires-2 c κs = search needs
+
+enum-told : tie.Need-enum-told
+enum-told c = search needs
+
+enum-told-2 : tie.Need-enum-told-2
+enum-told-2 c = search needs
+
+same-length-2 : tie.Need-same-length-2
+same-length-2 c = search needs
+
+returns-2 : tie.Need-returns-2
+returns-2 c = let e : told (Read (c .before .before .before .before .before .before .p .given .0 .0) (c .before .before .before .before .before .before .p .given .0 .1 .0)) (c .before .before .before .before .before .before .before .before .before .before .before .before .before .before .before .args .template .now) ≡ readAt (c .before .before .before .before .before .before .before .before .before .before .before .before .before .before .before .args .template .now) (c .before .before .before .before .before .before .before .before .before .before .before .before .before .before .before .args .i) = rw (c .before .before .before .before .before .before .p .given .1) at (c .before .before .before .before .before .before .before .before .piece-at .ensures .0) in let a : Ahead (c .before .before .before .before .before .before .p .given .0 .0) (c .before .before .before .before .before .before .p .given .0 .1 .0) (c .before .before .before .before .before .before .before .before .before .before .before .before .before .before .before .args .template .now) (c .before .before .before .before .before .before .before .before .before .before .before .before .before .before .before .args .i) = rw (c .before .before .before .before .before .before .p .given .1) at (c .before .before .before .before .before .before .before .before .piece-at .ensures .1) in (rw (c .turned2 .ensures) (turn-on (c .before .before .before .before .before .before .before .before .before .before .before .before .before .before .before .args .template .now) (c .before .before .before .before .before .before .before .before .before .before .before .before .before .before .before .args .i) (c .before .before .before .before .before .before .p .given .0 .1 .0) _ (c .before .before .before .before .before .before .before .before .before .before .before .before .before .before .before .args .out .now) (c .before .before .before .before .before .before .before .before .before .before .before .before .before .before .before .args .used) (c .before .before .before .put-piece .result) _ (a .forward) (a .inside) ((piece-next (c .before .before .before .before .before .before .before .before .before .before .before .before .before .before .before .args .spaceless) (c .before .before .before .before .before .before .before .before .before .before .before .before .before .before .before .pre .2 .0) (c .before .before .before .before .before .before .before .before .before .before .before .before .before .before .before .args .template .now) (c .before .before .before .before .before .before .before .before .before .before .before .before .before .before .before .args .i) (meaning (c .before .before .before .before .before .before .p .given .0 .0) (c .before .before .before .before .before .before .before .before .before .before .before .before .before .before .before .args .template .now)) (c .before .before .before .before .before .before .p .given .0 .1 .0) (sym e) (c .before .before .before .before .before .before .before .before .before .before .before .before .before .before .before .pre .1)) .0) (c .before .before .before .put-piece .ensures (c .before .before .before .before .before .before .before .before .before .before .before .before .before .before .before .pre .2 .0) (c .before .before .before .before .before .before .before .before .before .before .before .before .before .before .before .pre .2 .1))), λ s h. rw (c .turned2 .ensures) (turn-text (c .before .before .before .before .before .before .before .before .before .before .before .before .before .before .before .args .spaceless) s (c .before .before .before .before .before .before .before .before .before .before .before .before .before .before .before .args .template .now) (c .before .before .before .before .before .before .before .before .before .before .before .before .before .before .before .args .i) (c .before .before .before .before .before .before .before .before .before .before .before .before .before .before .before .args .out .now) (c .before .before .before .before .before .before .before .before .before .before .before .before .before .before .before .args .used) _ (c .before .before .before .before .before .before .p .given .0 .1 .0) ((piece-next (c .before .before .before .before .before .before .before .before .before .before .before .before .before .before .before .args .spaceless) s (c .before .before .before .before .before .before .before .before .before .before .before .before .before .before .before .args .template .now) (c .before .before .before .before .before .before .before .before .before .before .before .before .before .before .before .args .i) (meaning (c .before .before .before .before .before .before .p .given .0 .0) (c .before .before .before .before .before .before .before .before .before .before .before .before .before .before .before .args .template .now)) (c .before .before .before .before .before .before .p .given .0 .1 .0) (sym e) (c .before .before .before .before .before .before .before .before .before .before .before .before .before .before .before .pre .1)) .1) (c .before .before .before .put-piece .result) _ (c .before .before .before .put-piece .ensures s h)))
+
+returns-3 : tie.Need-returns-3
+returns-3 c = let e : told End (c .before .before .before .before .before .before .before .before .before .args .template .now) ≡ readAt (c .before .before .before .before .before .before .before .before .before .args .template .now) (c .before .before .before .before .before .before .before .before .before .args .i) = rw (c .enum-told .given .1) at (c .before .before .piece-at .ensures .0) in (tt, λ s h. subst (λ (x : List ℕ). Appended x (c .before .before .before .before .before .before .before .before .before .args .out .now) (c .before .before .before .before .before .before .before .before .before .args .used) (put.Done (c .before .before .before .before .before .before .before .before .before .args .used)) (c .before .before .before .before .before .before .before .before .before .args .out .now)) (piece-end (c .before .before .before .before .before .before .before .before .before .args .spaceless) s (c .before .before .before .before .before .before .before .before .before .args .template .now) (c .before .before .before .before .before .before .before .before .before .args .i) (sym e)) (appended-none (c .before .before .before .before .before .before .before .before .before .args .out .now) (c .before .before .before .before .before .before .before .before .before .args .used) (c .before .before .before .before .before .before .before .before .before .pre .3)))
+
+returns-4 : tie.Need-returns-4
+returns-4 c = let e : told Fault (c .before .before .before .before .before .before .before .before .before .args .template .now) ≡ readAt (c .before .before .before .before .before .before .before .before .before .args .template .now) (c .before .before .before .before .before .before .before .before .before .args .i) = rw (c .enum-told2 .given .1) at (c .before .before .piece-at .ensures .0) in (tt, λ s h. absurd (piece-fault (c .before .before .before .before .before .before .before .before .before .args .template .now) (c .before .before .before .before .before .before .before .before .before .args .i) (sym e) (c .before .before .before .before .before .before .before .before .before .pre .1)))
+
+pub put-at-spec : {M : Type 1} → statement M
+put-at-spec =
+    tie.close
+    (tie.spec
+    plain-end-requires
+    sub-put-text
+    part-put-text-start
+    part-put-text-end
+    put-text-requires
+    turned-requires
+    same-length
+    returns
+    piece-at-requires
+    enum-known-p
+    put-piece-requires
+    turned-requires-2
+    enum-told
+    enum-told-2
+    same-length-2
+    returns-2
+    returns-3
+    returns-4)

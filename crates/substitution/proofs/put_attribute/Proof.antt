@@ -1,0 +1,72 @@
+-- `substitution::put_attribute` meets its contract.
+-- Assumes nothing.
+use mathlib.Core.Path.{ap, _∙_}
+use native.Mathlib.Omega.{arith}
+use borrow.Author.Needs.{needs}
+use lib.ListN.{length}
+use Rattle.substitution.proofs.Parts.{appended-same, sized-part, attribute-here, attribute-there}
+use Rattle.engine.specs.Substitute.{firstOf, attrAt}
+use Rattle.device_lookup.specs.declared.Value.the-variants.{At, Missing}
+use Rattle.device_lookup.specs.Lookup.{Says, Within}
+use Rattle.device.specs.Device.{attrOf}
+use Rattle.entries.specs.Entry.{orEmpty}
+use Rattle.lists.specs.Runs.{trim}
+use Rattle.substitution.proofs.put_attribute.Statement.{statement}
+use Rattle.substitution.proofs.put_attribute.Tie as tie
+
+find-attribute-requires : tie.Need-find-attribute-requires
+find-attribute-requires c κs = search needs
+
+enum-known-start : tie.Need-enum-known-start
+enum-known-start c = search needs
+
+add-put-trimmed : tie.Need-add-put-trimmed
+add-put-trimmed c = let w : Within (At (c .before .start .given .0 .0) (c .before .start .given .0 .1 .0)) (length (c .before .before .before .before .before .before .before .args .dev .now)) = rw (c .before .start .given .1) at (c .before .before .before .find-attribute .ensures .1) in omega arith
+
+sub-put-trimmed : tie.Need-sub-put-trimmed
+sub-put-trimmed c = search needs
+
+part-put-trimmed-start : tie.Need-part-put-trimmed-start
+part-put-trimmed-start c = search needs
+
+part-put-trimmed-end : tie.Need-part-put-trimmed-end
+part-put-trimmed-end c = let w : Within (At (c .before .start .given .0 .0) (c .before .start .given .0 .1 .0)) (length (c .before .before .before .before .before .before .before .args .dev .now)) = rw (c .before .start .given .1) at (c .before .before .before .find-attribute .ensures .1) in omega arith
+
+put-trimmed-requires : tie.Need-put-trimmed-requires
+put-trimmed-requires c κs = search needs
+
+enum-told : tie.Need-enum-told
+enum-told c = search needs
+
+put-parent-attribute-requires : tie.Need-put-parent-attribute-requires
+put-parent-attribute-requires c κs = search needs
+
+same-length : tie.Need-same-length
+same-length c = search needs
+
+returns : tie.Need-returns
+returns c = λ m h o k. let v = c .before .before .before .before .before .before .start .given .0 .0 in let n = c .before .before .before .before .before .before .start .given .0 .1 .0 in let w : Says (c .before .before .before .before .before .before .before .before .before .before .before .before .args .dev .now) (At v n) (attrOf (c .before .before .before .before .before .before .before .before .before .before .before .before .args .key .now) m) = rw (c .before .before .before .before .before .before .start .given .1) at (c .before .before .before .before .before .before .before .before .find-attribute .ensures .0 m h) in appended-same (c .before .before .before .before .before .before .before .before .before .before .before .before .args .spaceless) _ (trim (orEmpty (firstOf (attrOf (c .before .before .before .before .before .before .before .before .before .before .before .before .args .key .now) m) (attrAt (c .before .before .before .before .before .before .before .before .before .before .before .before .args .key .now) o)))) (c .before .before .before .before .before .before .before .before .before .before .before .before .args .out .now) (c .before .before .before .before .before .before .before .before .before .before .before .before .args .used) (c .before .before .put-trimmed .result) _ (ap trim (sized-part (c .before .before .before .before .before .before .before .before .before .before .before .before .args .dev .now) v n ∙ attribute-here (c .before .before .before .before .before .before .before .before .before .before .before .before .args .dev .now) (c .before .before .before .before .before .before .before .before .before .before .before .before .args .key .now) m o v n w)) (c .before .before .put-trimmed .ensures)
+
+same-length-2 : tie.Need-same-length-2
+same-length-2 c = search needs
+
+returns-2 : tie.Need-returns-2
+returns-2 c = λ m h o k. let w : Says (c .before .before .before .before .before .before .before .before .before .before .args .dev .now) Missing (attrOf (c .before .before .before .before .before .before .before .before .before .before .args .key .now) m) = rw (c .before .before .before .before .enum-told .given .1) at (c .before .before .before .before .before .before .find-attribute .ensures .0 m h) in appended-same (c .before .before .before .before .before .before .before .before .before .before .args .spaceless) _ (trim (orEmpty (firstOf (attrOf (c .before .before .before .before .before .before .before .before .before .before .args .key .now) m) (attrAt (c .before .before .before .before .before .before .before .before .before .before .args .key .now) o)))) (c .before .before .before .before .before .before .before .before .before .before .args .out .now) (c .before .before .before .before .before .before .before .before .before .before .args .used) (c .before .before .put-parent-attribute .result) _ (ap trim (attribute-there (c .before .before .before .before .before .before .before .before .before .before .args .key .now) m o w)) (c .before .before .put-parent-attribute .ensures o k)
+
+pub put-attribute-spec : {M : Type 1} → statement M
+put-attribute-spec =
+    tie.close
+    (tie.spec
+    find-attribute-requires
+    enum-known-start
+    add-put-trimmed
+    sub-put-trimmed
+    part-put-trimmed-start
+    part-put-trimmed-end
+    put-trimmed-requires
+    enum-told
+    put-parent-attribute-requires
+    same-length
+    returns
+    same-length-2
+    returns-2)

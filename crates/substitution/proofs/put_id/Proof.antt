@@ -1,0 +1,44 @@
+-- `substitution::put_id` meets its contract.
+-- Assumes nothing.
+use mathlib.Core.Path.{_∙_}
+use borrow.Author.Needs.{needs}
+use Rattle.substitution.proofs.Parts.{appended-same, nothing-put, matched-text, unmatched-text}
+use Rattle.substitution.specs.declared.Matched.the-variants.{At, Nothing}
+use Rattle.substitution.specs.Places.{MatchedIs, MatchedStands}
+use Rattle.engine.specs.Substitute.{ofMatched}
+use Rattle.device.specs.Device.{nameOf}
+use Rattle.substitution.proofs.put_id.Statement.{statement}
+use Rattle.substitution.proofs.put_id.Tie as tie
+
+enum-known-matched : tie.Need-enum-known-matched
+enum-known-matched c = search needs
+
+name-requires : tie.Need-name-requires
+name-requires c κs = let w : MatchedStands (c .before .before .before .before .before .before .args .dev .now) (At (c .before .before .matched .given .0 .0)) = rw (c .before .before .matched .given .1) at (c .before .before .before .before .before .before .pre .0) in w
+
+put-text-requires : tie.Need-put-text-requires
+put-text-requires c κs = search needs
+
+enum-told : tie.Need-enum-told
+enum-told c = search needs
+
+same-length : tie.Need-same-length
+same-length c = search needs
+
+returns : tie.Need-returns
+returns c = λ o h. let w : MatchedIs (c .before .before .before .before .before .before .before .before .before .before .args .dev .now) (At (c .before .before .before .before .before .before .matched .given .0 .0)) o = rw (c .before .before .before .before .before .before .matched .given .1) at h in appended-same (c .before .before .before .before .before .before .before .before .before .before .args .spaceless) _ (ofMatched o nameOf) (c .before .before .before .before .before .before .before .before .before .before .args .out .now) (c .before .before .before .before .before .before .before .before .before .before .args .used) (c .before .before .put-text .result) _ (c .before .before .before .name .ensures (w .0) (w .2) ∙ matched-text nameOf o (w .0) (w .1)) (c .before .before .put-text .ensures)
+
+returns-2 : tie.Need-returns-2
+returns-2 c = λ o h. let w : MatchedIs (c .before .before .before .before .args .dev .now) Nothing o = rw (c .enum-told .given .1) at h in nothing-put (c .before .before .before .before .args .spaceless) (ofMatched o nameOf) (c .before .before .before .before .args .out .now) (c .before .before .before .before .args .used) (unmatched-text nameOf o w) (c .before .before .before .before .pre .1)
+
+pub put-id-spec : {M : Type 1} → statement M
+put-id-spec =
+    tie.close
+    (tie.spec
+    enum-known-matched
+    name-requires
+    put-text-requires
+    enum-told
+    same-length
+    returns
+    returns-2)

@@ -1,0 +1,45 @@
+-- `substitution::put_parent_attribute` meets its contract.
+-- Assumes nothing.
+use mathlib.Core.Path.{ap, _∙_}
+use borrow.Author.Needs.{needs}
+use Rattle.substitution.proofs.Parts.{appended-same, nothing-put, attribute-matched, attribute-none}
+use Rattle.substitution.specs.declared.Matched.the-variants.{At, Nothing}
+use Rattle.substitution.specs.Places.{MatchedIs, MatchedStands}
+use Rattle.engine.specs.Substitute.{attrAt}
+use Rattle.entries.specs.Entry.{orEmpty}
+use Rattle.lists.specs.Runs.{trim}
+use Rattle.substitution.proofs.put_parent_attribute.Statement.{statement}
+use Rattle.substitution.proofs.put_parent_attribute.Tie as tie
+
+enum-known-matched : tie.Need-enum-known-matched
+enum-known-matched c = search needs
+
+attribute-requires : tie.Need-attribute-requires
+attribute-requires c κs = let w : MatchedStands (c .before .before .before .before .before .before .args .dev .now) (At (c .before .matched .given .0 .0)) = rw (c .before .matched .given .1) at (c .before .before .before .before .before .before .pre .0) in w
+
+put-trimmed-requires : tie.Need-put-trimmed-requires
+put-trimmed-requires c κs = search needs
+
+enum-told : tie.Need-enum-told
+enum-told c = search needs
+
+same-length : tie.Need-same-length
+same-length c = search needs
+
+returns : tie.Need-returns
+returns c = λ o h. let w : MatchedIs (c .before .before .before .before .before .before .before .before .before .before .before .args .dev .now) (At (c .before .before .before .before .before .before .matched .given .0 .0)) o = rw (c .before .before .before .before .before .before .matched .given .1) at h in appended-same (c .before .before .before .before .before .before .before .before .before .before .before .args .spaceless) _ (trim (orEmpty (attrAt (c .before .before .before .before .before .before .before .before .before .before .before .args .key .now) o))) (c .before .before .before .before .before .before .before .before .before .before .before .args .out .now) (c .before .before .before .before .before .before .before .before .before .before .before .args .used) (c .before .before .put-trimmed .result) _ (ap trim (c .before .before .before .before .attribute .ensures (w .0) (w .2) ∙ attribute-matched (c .before .before .before .before .before .before .before .before .before .before .before .args .key .now) o (w .0) (w .1))) (c .before .before .put-trimmed .ensures)
+
+returns-2 : tie.Need-returns-2
+returns-2 c = λ o h. let w : MatchedIs (c .before .before .before .before .before .args .dev .now) Nothing o = rw (c .enum-told .given .1) at h in nothing-put (c .before .before .before .before .before .args .spaceless) (trim (orEmpty (attrAt (c .before .before .before .before .before .args .key .now) o))) (c .before .before .before .before .before .args .out .now) (c .before .before .before .before .before .args .used) (attribute-none (c .before .before .before .before .before .args .key .now) o w) (c .before .before .before .before .before .pre .1)
+
+pub put-parent-attribute-spec : {M : Type 1} → statement M
+put-parent-attribute-spec =
+    tie.close
+    (tie.spec
+    enum-known-matched
+    attribute-requires
+    put-trimmed-requires
+    enum-told
+    same-length
+    returns
+    returns-2)

@@ -1,0 +1,74 @@
+-- `substitution::substitute` meets its contract.
+-- Assumes nothing.
+use Prim.Native.Nat.{_-_, _≤_}
+use mathlib.Core.Bool.{true}
+use mathlib.Core.Path.{_≡_, refl}
+use native.Mathlib.Omega.{arith}
+use borrow.Author.Needs.{needs}
+use lib.ListN.{length, drop}
+use Rattle.substitution.proofs.Texts.{filled-text, filled-full}
+use Rattle.substitution.specs.declared.Turn.the-variants.{Next, End, Full}
+use Rattle.substitution.specs.Turns.{Onward, Leads, Turned}
+use Rattle.substitution.specs.Places.{OfSource}
+use Rattle.engine.specs.Substitute.{substituted}
+use Rattle.template.specs.Template.{wellFormed}
+use Rattle.insertion.specs.declared.Put.the-variants as put
+use Rattle.substitution.proofs.substitute.Statement.{statement}
+use Rattle.substitution.proofs.substitute.Tie as tie
+
+abbrev Inv-loop : tie.InvT-loop
+Inv-loop template dev rec from spaceless out₀ i₀ used₀ out i used = (i ≤ length template) × (wellFormed (drop i template) ≡ true) × (used ≤ length out) × (length out ≡ length out₀) × OfSource dev rec from (λ s. Leads (substituted spaceless s template) out₀ 0 (substituted spaceless s (drop i template)) out used)
+
+abbrev μ-loop : tie.MeasureT-loop
+μ-loop template dev rec from spaceless out₀ i₀ used₀ out i used = length template - i
+
+loop-holds : tie.Need-loop-holds Inv-loop μ-loop
+loop-holds c = (omega arith, c .before .before .before .before .pre .0, omega arith, refl, λ s h r m z. z)
+
+put-at-requires : tie.Need-put-at-requires Inv-loop μ-loop
+put-at-requires c κs = (c .before .loop .inv .0, c .before .loop .inv .1, c .before .before .before .before .before .before .pre .1, c .before .loop .inv .2)
+
+enum-known-next : tie.Need-enum-known-next Inv-loop μ-loop
+enum-known-next c = search needs
+
+loop-less : tie.Need-loop-less Inv-loop μ-loop
+loop-less c = let w : Onward (c .before .before .before .before .before .before .before .before .before .before .before .before .args .template .now) (c .before .before .before .before .before .before .before .loop .i) (c .before .next .given .0 .0) (c .before .next .given .0 .1 .0) (length (c .before .before .before .before .before .before .before .loop .out)) = rw (c .before .next .given .1) at (c .before .before .before .before .before .put-at .ensures .0) in omega (arith, w .forward, w .inside)
+
+loop-again : tie.Need-loop-again Inv-loop μ-loop
+loop-again c = let w : Onward (c .before .before .before .before .before .before .before .before .before .before .before .before .args .template .now) (c .before .before .before .before .before .before .before .loop .i) (c .before .next .given .0 .0) (c .before .next .given .0 .1 .0) (length (c .before .before .before .before .before .before .before .loop .out)) = rw (c .before .next .given .1) at (c .before .before .before .before .before .put-at .ensures .0) in (w .inside, w .sound, omega (arith, w .room), omega arith, λ s h r m z. let t : Turned (c .before .before .before .before .before .before .before .before .before .before .before .before .args .spaceless) s (c .before .before .before .before .before .before .before .before .before .before .before .before .args .template .now) (c .before .before .before .before .before .before .before .loop .i) (c .before .before .before .before .before .before .before .loop .out) (c .before .before .before .before .before .before .before .loop .used) (Next (c .before .next .given .0 .0) (c .before .next .given .0 .1 .0)) _ = rw (c .before .next .given .1) at (c .before .before .before .before .before .put-at .ensures .1 s h) in c .before .before .before .before .before .before .before .loop .inv .4 s h r m (t r m z))
+
+enum-told : tie.Need-enum-told Inv-loop μ-loop
+enum-told c = search needs
+
+same-length : tie.Need-same-length Inv-loop μ-loop
+same-length c = omega arith
+
+returns : tie.Need-returns Inv-loop μ-loop
+returns c = λ s h. let t : Turned (c .before .before .before .before .before .before .before .before .before .before .before .args .spaceless) s (c .before .before .before .before .before .before .before .before .before .before .before .args .template .now) (c .before .before .before .before .before .before .loop .i) (c .before .before .before .before .before .before .loop .out) (c .before .before .before .before .before .before .loop .used) End _ = rw (c .enum-told .given .1) at (c .before .before .before .before .put-at .ensures .1 s h) in filled-text (c .before .before .before .before .before .before .before .before .before .before .before .args .spaceless) s (c .before .before .before .before .before .before .before .before .before .before .before .args .template .now) (c .before .before .before .before .before .before .before .before .before .before .before .args .out .now) (c .before .before .before .before .before .before .before .before .before .before .before .pre .2) (c .before .before .before .before .before .before .loop .used) _ (c .before .before .before .before .before .before .loop .inv .4 s h (put.Done (c .before .before .before .before .before .before .loop .used)) _ t)
+
+enum-told-2 : tie.Need-enum-told-2 Inv-loop μ-loop
+enum-told-2 c = search needs
+
+same-length-2 : tie.Need-same-length-2 Inv-loop μ-loop
+same-length-2 c = omega arith
+
+returns-2 : tie.Need-returns-2 Inv-loop μ-loop
+returns-2 c = λ s h. let t : Turned (c .before .before .before .before .before .before .before .before .before .before .before .args .spaceless) s (c .before .before .before .before .before .before .before .before .before .before .before .args .template .now) (c .before .before .before .before .before .before .loop .i) (c .before .before .before .before .before .before .loop .out) (c .before .before .before .before .before .before .loop .used) Full (c .before .before .before .before .before .before .loop .out) = rw (c .enum-told2 .given .1) at (c .before .before .before .before .put-at .ensures .1 s h) in filled-full (c .before .before .before .before .before .before .before .before .before .before .before .args .spaceless) s (c .before .before .before .before .before .before .before .before .before .before .before .args .template .now) (c .before .before .before .before .before .before .before .before .before .before .before .args .out .now) (c .before .before .before .before .before .before .before .before .before .before .before .pre .2) (c .before .before .before .before .before .before .loop .out) (c .before .before .before .before .before .before .loop .inv .4 s h put.Full (c .before .before .before .before .before .before .loop .out) t)
+
+pub substitute-spec : {M : Type 1} → statement M
+substitute-spec =
+    tie.close
+    (tie.spec
+    Inv-loop
+    μ-loop
+    loop-holds
+    put-at-requires
+    enum-known-next
+    loop-less
+    loop-again
+    enum-told
+    same-length
+    returns
+    enum-told-2
+    same-length-2
+    returns-2)
