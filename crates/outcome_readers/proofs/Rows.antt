@@ -11,7 +11,7 @@ use Rattle.lists.specs.Lists.{all}
 use Rattle.lists.proofs.Moves.{ap-at}
 use Rattle.bits.specs.Bits.{numberAt}
 use Rattle.entries.specs.Parse.{Parse, got, many}
-use Rattle.entries.specs.Entry.{Property, oneText, oneProp}
+use Rattle.entries.specs.Entry.{encText, Property, oneText, oneProp}
 use Rattle.entries.proofs.Rows.{Laws, many-there}
 use Rattle.entries.proofs.Entries.{text-laws, prop-laws}
 use Rattle.rows.specs.Entry.{restLen, size, name, Placed, RunRead}
@@ -22,16 +22,18 @@ use Rattle.rows.specs.declared.Entry.{Entry}
 use Rattle.rows.specs.declared.RunHead.{RunHead}
 use Rattle.rows.proofs.Turns.{place-name, row-first}
 use Rattle.rows.proofs.Readers.{Reads, text-reads, property-reads, many-row, many-names}
-use Rattle.outcome.specs.Content.{okLink}
-use Rattle.outcome.specs.State.{State, Run, okTag, oneRun}
+use Rattle.outcome.specs.State.{State, Run, oneRun, Good}
 use Rattle.outcome.proofs.Parts.{run-laws}
 use Rattle.outcome_target.specs.Layout.{startOf, countPlace, countWidth}
 use Rattle.outcome_target.specs.Held.{Held}
+use Rattle.outcome_target.specs.Texts.{sectionOf, okOf, textsIn, withTexts}
 use Rattle.outcome_target.specs.declared.Layout.{Layout}
 use Rattle.outcome_target.specs.declared.Section.{Section}
 use Rattle.outcome_target.specs.declared.Section.the-variants as section
+use Rattle.outcome_target.specs.declared.Texts.{Texts}
+use Rattle.outcome_target.specs.declared.Texts.the-variants as texts
 use Rattle.outcome_target.proofs.Facts.{behind}
-use Rattle.outcome_target.proofs.Rows.{RowOf, links-row, properties-row, tags-row, runs-row, row-within, row-count, row-bytes}
+use Rattle.outcome_target.proofs.Rows.{RowOf, texts-row, properties-row, runs-row, row-within, row-count, row-bytes}
 use Rattle.outcome_check.proofs.Runs.{runHere, run-reads}
 use Rattle.outcome_readers.specs.Readers.{Stands, RunsFrom, RunIs}
 use Rattle.outcome_readers.specs.declared.RowPlace.{RowPlace}
@@ -70,28 +72,35 @@ module _ {A : Type 0} {part : Section} {enc : A → List ℕ} {list : State → 
         named = many-names R nm f count (drop at l) (list s) z e;
       }
 
-module _ (n : ℕ) (l : List ℕ) (lay : Layout) (s : State) (w : Held n l lay s) where
-  pub links-read : (at count : ℕ) → at ≡ startOf lay section.Links → count ≡ numberAt l 67 5 → Reading (List ℕ) kind.Text (oneText okLink) (λ x. x) l (s .links) at count
-  links-read = row-read links-row (text-laws okLink) (text-reads okLink) (λ x. x) (λ bs. refl) n l lay s w (w .good .links .each)
+-- links or tags
+texts-each : (list : Texts) (n : ℕ) (s : State) → Good n s → all (okOf list) (textsIn list s) ≡ true
+texts-each texts.Links n s g = g .links .each
+texts-each texts.Tags n s g = g .tags .each
 
+pub texts-at : (list : Texts) (part : Section) → part ≡ sectionOf list → RowOf (List ℕ) part encText (textsIn list) (withTexts list)
+texts-at list part e = subst (λ (p : Section). RowOf (List ℕ) p encText (textsIn list) (withTexts list)) (sym e) (texts-row list)
+
+pub texts-read : (list : Texts) (part : Section) → part ≡ sectionOf list → (n : ℕ) (l : List ℕ) (lay : Layout) (s : State) → Held n l lay s → (at count : ℕ)
+    → at ≡ startOf lay part → count ≡ numberAt l (countPlace part) (countWidth part) → Reading (List ℕ) kind.Text (oneText (okOf list)) (λ x. x) l (textsIn list s) at count
+texts-read list part e n l lay s w =
+    row-read (texts-at list part e) (text-laws (okOf list)) (text-reads (okOf list)) (λ x. x) (λ bs. refl) n l lay s w (texts-each list n s (w .good))
+
+module _ (n : ℕ) (l : List ℕ) (lay : Layout) (s : State) (w : Held n l lay s) where
   pub properties-read : (at count : ℕ) → at ≡ startOf lay section.Properties → count ≡ numberAt l 72 6 → Reading Property kind.Property oneProp (λ p. p .key) l (s .properties) at count
   properties-read = row-read properties-row prop-laws property-reads (λ p. p .key) (λ bs. refl) n l lay s w (w .good .properties .each)
-
-  pub tags-read : (at count : ℕ) → at ≡ startOf lay section.Tags → count ≡ numberAt l 78 5 → Reading (List ℕ) kind.Text (oneText okTag) (λ x. x) l (s .tags) at count
-  tags-read = row-read tags-row (text-laws okTag) (text-reads okTag) (λ x. x) (λ bs. refl) n l lay s w (w .good .tags .each)
 
   pub runs-read : (at count : ℕ) → at ≡ startOf lay section.Runs → count ≡ numberAt l 83 5 → Reading Run kind.Run (oneRun n) (λ r. r .template) l (s .runs) at count
   runs-read = row-read runs-row (run-laws n) (run-reads n) (λ r. r .template) (λ bs. refl) n l lay s w (w .good .runs .each)
 
   pub row-stands : (part : Section) (r : RowPlace) → r .at ≡ startOf lay part → r .count ≡ numberAt l (countPlace part) (countWidth part) → Stands part n l s r
   row-stands section.Links r a b =
-      let h = links-read (r .at) (r .count) a b in
+      let h = texts-read texts.Links section.Links refl n l lay s w (r .at) (r .count) a b in
       record { within = h .within; counted = h .counted; row = h .row; named = h .named ∙ map-id (s .links); read = (h .rest, h .read) }
   row-stands section.Properties r a b =
       let h = properties-read (r .at) (r .count) a b in
       record { within = h .within; counted = h .counted; row = h .row; named = h .named; read = (h .rest, h .read) }
   row-stands section.Tags r a b =
-      let h = tags-read (r .at) (r .count) a b in
+      let h = texts-read texts.Tags section.Tags refl n l lay s w (r .at) (r .count) a b in
       record { within = h .within; counted = h .counted; row = h .row; named = h .named ∙ map-id (s .tags); read = (h .rest, h .read) }
   row-stands section.Runs r a b =
       let h = runs-read (r .at) (r .count) a b in

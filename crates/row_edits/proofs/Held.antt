@@ -10,15 +10,57 @@ use Rattle.lists.proofs.Lists.{cat-append}
 use Rattle.bits.specs.Bits.{putAt}
 use Rattle.splice.specs.Moves.{inserted, removed}
 use Rattle.entries.proofs.Heads.{placeOf, widthOf}
-use Rattle.outcome.specs.Head.{fields}
-use Rattle.outcome.specs.State.{State, Good, headFor}
-use Rattle.outcome_target.specs.Layout.{startOf, endOf, movedBy, countPlace, countWidth}
+use Rattle.outcome.specs.Head.{fields, header}
+use Rattle.outcome.specs.State.{State, Good, headFor, encode}
+use Rattle.outcome.proofs.Head.{header-length}
+use Rattle.outcome.proofs.Fits.{fits}
+use Rattle.outcome_target.specs.Layout.{startOf, endOf, movedBy, countPlace, countWidth, Rising}
 use Rattle.outcome_target.specs.Held.{Held}
 use Rattle.outcome_target.specs.declared.Layout.{Layout}
 use Rattle.outcome_target.specs.declared.Section.{Section}
+use Rattle.outcome_target.proofs.Edits.{by-part, layout-end}
+use Rattle.outcome_target.proofs.Facts.{held-rising}
 use Rattle.outcome_target.proofs.Rows.{RowOf, row-start, row-end}
 use Rattle.outcome_target.proofs.Changes.{part-removed, part-inserted}
 use Rattle.row_edits.specs.Edits.{Grown, Cut}
+
+-- the length of a record by its parts
+laid-size : (h f m b e : List ℕ) → length h ≡ 11 → m ≡ e → length (h ++ (f ++ (m ++ b))) ≡ 11 + (length f + (length e + length b))
+laid-size h f m b e k q = rw q (simp length-append (omega arith))
+
+-- what an entry needs behind the last of a row
+pub record Room (lay : Layout) (room k : ℕ) : Type 0 where
+  pub rising : Rising lay
+  pub fits : lay .end + k ≤ room
+  pub most : lay .end + k ≤ 17611
+
+module _ {A : Type 0} {part : Section} {enc : A → List ℕ} {list : State → List A} {anew : State → List A → State} (T : RowOf A part enc list anew)
+    (n : ℕ) (l : List ℕ) (lay : Layout) (s : State) (w : Held n l lay s) where
+  -- there is room for it where the state with it may stand in a record
+  pub grown-room : (x : A) → Good n (anew s (list s ++ (x ∷ []))) → Room lay (length l) (length (enc x))
+  grown-room x good =
+      let xs : List A = list s ++ (x ∷ []) in
+      let h : ℕ = length (T .frame .front s) in
+      let b : ℕ = length (T .frame .back s) in
+      let old : lay .end ≡ 11 + (h + (length (cat enc (list s)) + b)) =
+      ap (λ (j : Layout). j .end) (w .layout)
+      ∙ layout-end s
+      ∙ ap length (by-part (T .frame) s)
+      ∙ laid-size (header (headFor s)) (T .frame .front s) (T .frame .bytes (T .frame .get s)) (T .frame .back s) (cat enc (list s)) (header-length (headFor s))
+      (T .written (T .frame .get s) ∙ ap (cat enc) (T .gets s))
+      in
+      let new : length (encode (anew s xs)) ≡ 11 + (h + (length (cat enc xs) + b)) =
+      ap (λ (j : State). length (encode j)) (sym (T .puts s xs))
+      ∙ ap length (T .frame .laid s xs)
+      ∙ laid-size (header (headFor (T .frame .put s xs))) (T .frame .front s) (T .frame .bytes xs) (T .frame .back s) (cat enc xs) (header-length (headFor (T .frame .put s xs))) (T .written xs)
+      in
+      let more : length (cat enc xs) ≡ length (cat enc (list s)) + length (enc x) =
+      ap length (cat-append enc (list s) (x ∷ []) ∙ ap (λ (y : List ℕ). cat enc (list s) ++ y) (append-nil (enc x)))
+      ∙ length-append (cat enc (list s)) (enc x)
+      in
+      let f : length (encode (anew s xs)) ≤ 17611 = fits n (anew s xs) good in
+      let r : 17611 ≤ length l = w .room in
+      record { rising = held-rising n l lay s w; fits = omega arith; most = omega arith }
 
 module _ {A : Type 0} {part : Section} {enc : A → List ℕ} {list : State → List A} {anew : State → List A → State} (T : RowOf A part enc list anew)
     (n : ℕ) (l : List ℕ) (lay : Layout) (s : State) (w : Held n l lay s) (l′ : List ℕ) (lay′ : Layout) (same : length l′ ≡ length l) where
