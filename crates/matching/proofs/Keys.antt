@@ -1,0 +1,121 @@
+-- What a pair is judged on is what the definitions judge it on.
+-- Assumes nothing.
+use Prim.Native.Nat.{ℕ}
+use mathlib.Core.Path.{_≡_, refl, sym, ap, _∙_}
+use mathlib.Core.Bool.{Bool, true, false, _||_}
+use mathlib.Core.List.{List}
+use Rattle.rules.specs.Key.{Key, ACTION, DEVPATH, KERNEL, KERNELS, SUBSYSTEM, SUBSYSTEMS, DRIVER, DRIVERS, ATTR, ATTRS, ENV, SYMLINK, TAG, OWNER, GROUP, MODE, RUN, LABEL, GOTO, OPTIONS, Op, equal, unequal, assign, add, remove, final, isMatch}
+use Rattle.rules.specs.Pair.{Pair}
+use Rattle.keys.specs.Table.{keyOf, operatorOf}
+use Rattle.pairs.specs.Answers.{pairOf}
+use Rattle.pairs.specs.declared.Pair as pairs
+use Rattle.device.specs.Device.{Member, Device}
+use Rattle.outcome.specs.State.{State}
+use Rattle.engine.specs.Match.{valueHolds, listHolds, attrHolds, keyHolds, pairHolds, isParent, parentHolds}
+use Rattle.matching.specs.Subjects.{subjectOf, isParentSubject, atEvent, atParent, pairOn}
+use Rattle.matching.specs.declared.Subject.{Subject}
+
+key-subject : (k : Key) (d : Device) (s : State) (p : Pair) → keyHolds k d s p ≡ pairOn (subjectOf k) p d (d .event) s
+unfolding keyHolds valueHolds listHolds attrHolds
+key-subject ACTION d s p = refl
+key-subject DEVPATH d s p = refl
+key-subject KERNEL d s p = refl
+key-subject KERNELS d s p = refl
+key-subject SUBSYSTEM d s p = refl
+key-subject SUBSYSTEMS d s p = refl
+key-subject DRIVER d s p = refl
+key-subject DRIVERS d s p = refl
+key-subject ATTR d s p = refl
+key-subject ATTRS d s p = refl
+key-subject ENV d s p = refl
+key-subject SYMLINK d s p = refl
+key-subject TAG d s p = refl
+key-subject OWNER d s p = refl
+key-subject GROUP d s p = refl
+key-subject MODE d s p = refl
+key-subject RUN d s p = refl
+key-subject LABEL d s p = refl
+key-subject GOTO d s p = refl
+key-subject OPTIONS d s p = refl
+
+by-operator : (o : Op) (k : Key) (d : Device) (s : State) (p : Pair)
+    → elim (isMatch o) [ true ↦ keyHolds k d s p | false ↦ true ] ≡ pairOn (atEvent (subjectOf k) o) p d (d .event) s
+by-operator equal k d s p = key-subject k d s p
+by-operator unequal k d s p = key-subject k d s p
+by-operator assign k d s p = refl
+by-operator add k d s p = refl
+by-operator remove k d s p = refl
+by-operator final k d s p = refl
+
+-- at the event device and the outcome
+pub pair-subject : (d : Device) (s : State) (p : Pair) → pairHolds d s p ≡ pairOn (atEvent (subjectOf (p .key)) (p .op)) p d (d .event) s
+unfolding pairHolds
+pair-subject d s p = by-operator (p .op) (p .key) d s p
+
+-- at a device of the chain
+pub parent-subject : (k : Key) (d : Device) (m : Member) (s : State) (p : Pair) → parentHolds k m p ≡ pairOn (atParent (subjectOf k)) p d m s
+unfolding parentHolds valueHolds attrHolds
+parent-subject ACTION d m s p = refl
+parent-subject DEVPATH d m s p = refl
+parent-subject KERNEL d m s p = refl
+parent-subject KERNELS d m s p = refl
+parent-subject SUBSYSTEM d m s p = refl
+parent-subject SUBSYSTEMS d m s p = refl
+parent-subject DRIVER d m s p = refl
+parent-subject DRIVERS d m s p = refl
+parent-subject ATTR d m s p = refl
+parent-subject ATTRS d m s p = refl
+parent-subject ENV d m s p = refl
+parent-subject SYMLINK d m s p = refl
+parent-subject TAG d m s p = refl
+parent-subject OWNER d m s p = refl
+parent-subject GROUP d m s p = refl
+parent-subject MODE d m s p = refl
+parent-subject RUN d m s p = refl
+parent-subject LABEL d m s p = refl
+parent-subject GOTO d m s p = refl
+parent-subject OPTIONS d m s p = refl
+
+pub parent-key : (k : Key) → isParent k ≡ isParentSubject (subjectOf k)
+parent-key ACTION = refl
+parent-key DEVPATH = refl
+parent-key KERNEL = refl
+parent-key KERNELS = refl
+parent-key SUBSYSTEM = refl
+parent-key SUBSYSTEMS = refl
+parent-key DRIVER = refl
+parent-key DRIVERS = refl
+parent-key ATTR = refl
+parent-key ATTRS = refl
+parent-key ENV = refl
+parent-key SYMLINK = refl
+parent-key TAG = refl
+parent-key OWNER = refl
+parent-key GROUP = refl
+parent-key MODE = refl
+parent-key RUN = refl
+parent-key LABEL = refl
+parent-key GOTO = refl
+parent-key OPTIONS = refl
+
+-- ---- as code asks
+
+module _ (line : List ℕ) (r : pairs.Pair) (u : Subject) (e : u ≡ subjectOf (keyOf (r .key))) where
+  pub event-judged : (v : Subject) → v ≡ atEvent u (operatorOf (r .operator)) → (d : Device) (m : Member) (s : State) → m ≡ d .event
+      → (b : Bool) → b ≡ pairOn v (pairOf line r) d m s → pairHolds d s (pairOf line r) ≡ b
+  event-judged v f d m s g b h =
+      let p : Pair = pairOf line r in
+      pair-subject d s p
+      ∙ sym
+      (h
+      ∙ ap (λ (w : Subject). pairOn w p d m s) (f ∙ ap (λ (w : Subject). atEvent w (operatorOf (r .operator))) e)
+      ∙ ap (λ (w : Member). pairOn (atEvent (subjectOf (p .key)) (p .op)) p d w s) g)
+
+  pub parent-judged : (v : Subject) → v ≡ atParent u → (d : Device) (m : Member) (s : State)
+      → (b : Bool) → b ≡ pairOn v (pairOf line r) d m s → parentHolds (keyOf (r .key)) m (pairOf line r) ≡ b
+  parent-judged v f d m s b h =
+      parent-subject (keyOf (r .key)) d m s (pairOf line r)
+      ∙ sym (h ∙ ap (λ (w : Subject). pairOn w (pairOf line r) d m s) (f ∙ ap atParent e))
+
+  pub parent-before : (before after : Bool) → after ≡ (before || isParentSubject u) → after ≡ (before || isParent (keyOf (r .key)))
+  parent-before before after f = f ∙ ap (λ (x : Bool). before || x) (ap isParentSubject e ∙ sym (parent-key (keyOf (r .key))))

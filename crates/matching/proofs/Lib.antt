@@ -1,0 +1,5 @@
+pub mod Keys
+pub mod Tests
+pub mod Lists
+pub mod Search
+pub mod Begin

@@ -1,0 +1,312 @@
+// Whether a rule matches: its match keys at the event device and the outcome, and the nearest device at which its parent
+// keys hold.
+
+ghost use mathlib.Core.Path.{_≡_};
+ghost use mathlib.Core.Bool.{true, _||_};
+ghost use mathlib.Core.List.{List};
+ghost use lib.ListN.{drop};
+ghost use Rattle.rules.specs.Pair as rules;
+ghost use Rattle.rules.specs.Pairs.{Pairs};
+ghost use Rattle.keys.specs.Table.{keyOf, operatorOf};
+ghost use Rattle.pairs.specs.Answers.{pairOf};
+ghost use Rattle.pairs.specs.Bounds.{PairIn};
+ghost use Rattle.rule_pairs.specs.Here.{PairsFrom};
+ghost use Rattle.matching.specs.Subjects.{subjectOf, isParentSubject, atEvent, atParent, subjectHolds, pairOn};
+ghost use Rattle.outcome_target.specs.Held.{Holds};
+ghost use Rattle.matching.specs.Judging.{Judging, Begun, ListHolds, OwnOf, NearestOf, MatchedOf};
+ghost use Rattle.matching.specs.Answers.{ownOf};
+use device_lookup::Chain;
+use keys::Key;
+use keys::Operator;
+use match_device::Part;
+use outcome_target::Layout;
+use outcome_target::Texts;
+use pairs::Pair;
+
+// ---- what a pair is judged on
+
+// The action, a part of the event device, a part of a device of the chain (parent keys), a property, links or tags;
+// nothing for keys that only assign.
+pub enum Subject {
+    Action,
+    Device(Part),
+    Parent(Part),
+    Property,
+    List(Texts),
+    Nothing,
+}
+
+fn subject_of(key: Key) -> Subject
+    ensures { λ r. ⌜ r ≡ subjectOf (keyOf key) ⌝ }
+{
+    match key {
+        Key::Action => Subject::Action,
+        Key::Devpath => Subject::Device(Part::Path),
+        Key::Kernel => Subject::Device(Part::Name),
+        Key::Kernels => Subject::Parent(Part::Name),
+        Key::Subsystem => Subject::Device(Part::Subsystem),
+        Key::Subsystems => Subject::Parent(Part::Subsystem),
+        Key::Driver => Subject::Device(Part::Driver),
+        Key::Drivers => Subject::Parent(Part::Driver),
+        Key::Attr => Subject::Device(Part::Attribute),
+        Key::Attrs => Subject::Parent(Part::Attribute),
+        Key::Env => Subject::Property,
+        Key::Symlink => Subject::List(Texts::Links),
+        Key::Tag => Subject::List(Texts::Tags),
+        Key::Owner => Subject::Nothing,
+        Key::Group => Subject::Nothing,
+        Key::Mode => Subject::Nothing,
+        Key::Run => Subject::Nothing,
+        Key::Label => Subject::Nothing,
+        Key::Goto => Subject::Nothing,
+        Key::Options => Subject::Nothing,
+    }
+}
+
+// At the event device an operator that assigns asks nothing, and a parent key neither.
+fn at_event(subject: Subject, operator: Operator) -> Subject
+    ensures { λ r. ⌜ r ≡ atEvent subject (operatorOf operator) ⌝ }
+{
+    match operator {
+        Operator::Equal => subject,
+        Operator::Unequal => subject,
+        Operator::Assign => Subject::Nothing,
+        Operator::Add => Subject::Nothing,
+        Operator::Remove => Subject::Nothing,
+        Operator::Final => Subject::Nothing,
+    }
+}
+
+// At a device of the chain only parent keys ask something.
+fn at_parent(subject: Subject) -> Subject
+    ensures { λ r. ⌜ r ≡ atParent subject ⌝ }
+{
+    match subject {
+        Subject::Action => Subject::Nothing,
+        Subject::Device(_) => Subject::Nothing,
+        Subject::Parent(part) => Subject::Device(part),
+        Subject::Property => Subject::Nothing,
+        Subject::List(_) => Subject::Nothing,
+        Subject::Nothing => Subject::Nothing,
+    }
+}
+
+// Whether there was a parent key before or this is one.
+fn or_parent(before: bool, subject: Subject) -> bool
+    ensures { λ r. ⌜ r ≡ (before || isParentSubject subject) ⌝ }
+{
+    match subject {
+        Subject::Action => before,
+        Subject::Device(_) => before,
+        Subject::Parent(_) => true,
+        Subject::Property => before,
+        Subject::List(_) => before,
+        Subject::Nothing => before,
+    }
+}
+
+// ---- one pair at one device
+
+// SYMLINK and TAG.
+fn list_holds(list: Texts, operator: Operator, pattern: &[u8], t: &[u8], layout: Layout) -> bool
+    requires { ⌜ Holds (now t) layout ⌝ }
+    ensures { λ r. ⌜ ListHolds list (operatorOf operator) (now (pattern .entry)) (now (t .entry)) layout r ⌝ }
+{
+    let row = outcome_readers::row_of(t, layout, outcome_target::section_of(list));
+    match_values::list_holds(operator, pattern, t, row.at, row.count)
+}
+
+fn subject_holds(
+    subject: Subject,
+    operator: Operator,
+    argument: &[u8],
+    pattern: &[u8],
+    dev: &[u8],
+    at: usize,
+    t: &[u8],
+    layout: Layout,
+) -> bool
+    requires { ⌜ Judging (now dev) at (now t) layout ⌝ }
+    ensures { λ r. ⌜ ((x : Judging (now (dev .entry)) at (now (t .entry)) layout) → r ≡ subjectHolds subject (operatorOf operator) (now (argument .entry)) (now (pattern .entry)) (x .device) (x .member) (x .state)) ⌝ }
+{
+    match subject {
+        Subject::Action => match_device::action_holds(operator, pattern, dev),
+        Subject::Device(part) => match_device::part_holds(
+            part,
+            operator,
+            argument,
+            pattern,
+            dev,
+            at,
+        ),
+        Subject::Parent(_) => true,
+        Subject::Property => match_values::value_holds(
+            operator,
+            pattern,
+            outcome_readers::property(t, layout, argument),
+        ),
+        Subject::List(list) => list_holds(list, operator, pattern, t, layout),
+        Subject::Nothing => true,
+    }
+}
+
+// A value without an escape is a part of the line; another is unescaped first.
+fn pair_holds(
+    line: &[u8],
+    pair: Pair,
+    subject: Subject,
+    dev: &[u8],
+    at: usize,
+    t: &[u8],
+    layout: Layout,
+) -> bool
+    requires { ⌜ PairIn (now line) pair × Judging (now dev) at (now t) layout ⌝ }
+    ensures { λ r. ⌜ ((x : Judging (now (dev .entry)) at (now (t .entry)) layout) → r ≡ pairOn subject (pairOf (now (line .entry)) pair) (x .device) (x .member) (x .state)) ⌝ }
+{
+    let operator = pair.operator;
+    let arg_start = pair.arg_start;
+    let arg_end = pair.arg_end;
+    let start = pair.start;
+    let end = pair.end;
+    if pair.len == end - start {
+        return subject_holds(
+            subject,
+            operator,
+            &line[arg_start..arg_end],
+            &line[start..end],
+            dev,
+            at,
+            t,
+            layout,
+        );
+    }
+    let mut value = [0u8; 256];
+    let n = pairs::value_into(line, start, end, &mut value);
+    subject_holds(
+        subject,
+        operator,
+        &line[arg_start..arg_end],
+        &value[..n],
+        dev,
+        at,
+        t,
+        layout,
+    )
+}
+
+// ---- all pairs at the event device
+
+// Whether the match keys hold that are judged at the event device and the outcome, and, if so, whether there are parent
+// keys besides.
+pub enum Own {
+    Fail,
+    Hold,
+    HoldWithParents,
+}
+
+fn held(parents: bool) -> Own
+    ensures { λ r. ⌜ r ≡ ownOf true parents ⌝ }
+{
+    if parents {
+        Own::HoldWithParents
+    } else {
+        Own::Hold
+    }
+}
+
+fn own_keys(line: &[u8], at: usize, dev: &[u8], event: usize, t: &[u8], layout: Layout) -> Own
+    requires { ⌜ PairsFrom (now line) at × Judging (now dev) event (now t) layout ⌝ }
+    ensures { λ r. ⌜ OwnOf (now (line .entry)) at (now (dev .entry)) event (now (t .entry)) layout r ⌝ }
+{
+    let mut parents = false;
+    let mut i = at;
+    loop {
+        let pair = rule_pairs::pair_at(line, i);
+        let key = pair.key;
+        let operator = pair.operator;
+        let next = pair.next;
+        let subject = subject_of(key);
+        if !pair_holds(
+            line,
+            pair,
+            at_event(subject, operator),
+            dev,
+            event,
+            t,
+            layout,
+        ) {
+            return Own::Fail;
+        }
+        parents = or_parent(parents, subject);
+        if line.len() <= next {
+            return held(parents);
+        }
+        i = next + 1;
+    }
+}
+
+// ---- the parent keys
+
+// The place of the matched device: 0 without parent keys, else from 1, the event device.
+pub enum Matched {
+    At(usize),
+    Missed,
+}
+
+fn nearest(line: &[u8], at: usize, dev: &[u8], chain: Chain, t: &[u8], layout: Layout) -> Matched
+    requires { ⌜ PairsFrom (now line) at × Begun (now dev) chain (now t) layout ⌝ }
+    ensures { λ r. ⌜ NearestOf (now (line .entry)) at (now (dev .entry)) chain (now (t .entry)) layout r ⌝ }
+{
+    let devices = chain.len;
+    let places = chain.at;
+    let mut k: usize = 0;
+    let place = 'search: loop {
+        if devices <= k {
+            break 'search Matched::Missed;
+        }
+        let device = places[k];
+        let mut i = at;
+        loop {
+            let pair = rule_pairs::pair_at(line, i);
+            let key = pair.key;
+            let next = pair.next;
+            if !pair_holds(
+                line,
+                pair,
+                at_parent(subject_of(key)),
+                dev,
+                device,
+                t,
+                layout,
+            ) {
+                break;
+            }
+            if line.len() <= next {
+                break 'search Matched::At(k + 1);
+            }
+            i = next + 1;
+        }
+        k += 1;
+    };
+    place
+}
+
+// Whether the rule whose pairs stand from `at` on matches, and at which device.
+pub fn match_rule(
+    line: &[u8],
+    at: usize,
+    dev: &[u8],
+    chain: Chain,
+    t: &[u8],
+    layout: Layout,
+) -> Matched
+    requires { ⌜ PairsFrom (now line) at × Begun (now dev) chain (now t) layout ⌝ }
+    ensures { λ r. ⌜ MatchedOf (now (line .entry)) at (now (dev .entry)) chain (now (t .entry)) layout r ⌝ }
+{
+    let places = chain.at;
+    match own_keys(line, at, dev, places[0], t, layout) {
+        Own::Fail => Matched::Missed,
+        Own::Hold => Matched::At(0),
+        Own::HoldWithParents => nearest(line, at, dev, chain, t, layout),
+    }
+}
