@@ -2,12 +2,12 @@
 -- Assumes nothing.
 use Prim.Native.Nat.{ℕ, suc, _+_, _-_, _≤_}
 use mathlib.Core.Path.{_≡_, refl, sym, ap, ap₂, _∙_, subst}
-use mathlib.Core.Bool.{Bool, true}
+use mathlib.Core.Bool.{Bool, true, false}
 use mathlib.Core.List.{List, [], _∷_, _++_, map, append-nil}
 use native.Mathlib.Omega.{arith}
 use lib.ListN.{length, drop, length-append}
 use Rattle.lists.specs.Lists.{all, cat, reject}
-use Rattle.lists.specs.Bytes.{sameBytes, distinct}
+use Rattle.lists.specs.Bytes.{sameBytes, among, distinct}
 use Rattle.lists.proofs.Tests.{and-both}
 use Rattle.lists.proofs.Lists.{all-split, cat-append}
 use Rattle.lists.proofs.Edits.{reject-none, reject-one}
@@ -49,8 +49,11 @@ module _ {A : Type 0} {part : Section} {enc : A → List ℕ} {list : State → 
       ∙ ap (findIn kind x at (length (list s))) (ap (λ (i : ℕ). drop i l) start ∙ row-bytes T n l lay s w)
 
   -- nothing has the name
+  pub found-missing : (p : ℕ) → findIn kind x at count (drop at l) ≡ Missing p → among x (map nm (list s)) ≡ false
+  found-missing p e = missing-among W x (list s) at p (behind n l lay s w (T .frame)) each (sym search-is ∙ e) .0
+
   pub missing-kept : (p : ℕ) → findIn kind x at count (drop at l) ≡ Missing p → list s ≡ reject (λ y. sameBytes (nm y) x) (list s)
-  missing-kept p e = sym (reject-none nm x (list s) (missing-among W x (list s) at p (behind n l lay s w (T .frame)) each (sym search-is ∙ e) .0))
+  missing-kept p e = sym (reject-none nm x (list s) (found-missing p e))
 
   module _ (p v k : ℕ) (e : findIn kind x at count (drop at l) ≡ At p v k) where
     pub entry-found : Among A kind enc nm rs x (list s) at p v k

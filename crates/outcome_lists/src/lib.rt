@@ -73,8 +73,9 @@ pub fn add_run(t: &mut [u8], layout: Layout, builtin: bool, place: usize, templa
     ensures { λ r. ⌜ EditedIf (λ n. okRun n (runOf builtin place (now (template .entry))) ≡ true) withRuns (λ s. append mostRuns (runOf builtin place (now (template .entry))) (s .runs)) (now (t .entry)) layout (now (t .exit)) r ⌝ }
 {
     let n = outcome_target::count_of(t, Section::Runs);
-    if 16 <= n {
-        return Edit::Full;
+    if n < 16 {
+        Edit::Done(row_edits::append_run(t, layout, n, bit_of(builtin), place, template))
+    } else {
+        Edit::Full
     }
-    Edit::Done(row_edits::append_run(t, layout, n, bit_of(builtin), place, template))
 }

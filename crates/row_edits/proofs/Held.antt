@@ -8,17 +8,17 @@ use lib.ListN.{length, length-append}
 use Rattle.lists.specs.Lists.{cat}
 use Rattle.lists.proofs.Lists.{cat-append}
 use Rattle.bits.specs.Bits.{putAt}
-use Rattle.splice.specs.Moves.{inserted, removed}
+use Rattle.splice.specs.Moves.{inserted, removed, padded}
 use Rattle.entries.proofs.Heads.{placeOf, widthOf}
 use Rattle.outcome.specs.Head.{fields, header}
 use Rattle.outcome.specs.State.{State, Good, headFor, encode}
 use Rattle.outcome.proofs.Head.{header-length}
 use Rattle.outcome.proofs.Fits.{fits}
-use Rattle.outcome_target.specs.Layout.{startOf, endOf, movedBy, countPlace, countWidth, Rising}
+use Rattle.outcome_target.specs.Layout.{layoutOf, startOf, endOf, movedBy, countPlace, countWidth, Rising}
 use Rattle.outcome_target.specs.Held.{Held}
 use Rattle.outcome_target.specs.declared.Layout.{Layout}
 use Rattle.outcome_target.specs.declared.Section.{Section}
-use Rattle.outcome_target.proofs.Edits.{by-part, layout-end}
+use Rattle.outcome_target.proofs.Edits.{by-part, layout-end, count-kept}
 use Rattle.outcome_target.proofs.Facts.{held-rising}
 use Rattle.outcome_target.proofs.Rows.{RowOf, row-start, row-end}
 use Rattle.outcome_target.proofs.Changes.{part-removed, part-inserted}
@@ -122,3 +122,64 @@ module _ {A : Type 0} {part : Section} {enc : A → List ℕ} {list : State → 
       same
       refl
       (ap (removed l at (lay .end)) q)))
+
+-- ---- one entry in the place of another
+
+module _ {A : Type 0} {part : Section} {enc : A → List ℕ} {list : State → List A} {anew : State → List A → State} (T : RowOf A part enc list anew) (s : State) where
+  -- what stands before the entries behind a, and behind those before b
+  abbrev pub ahead : List A → List ℕ
+  ahead a = header (headFor s) ++ (T .frame .front s ++ cat enc a)
+
+  abbrev pub after : List A → List ℕ
+  after b = cat enc b ++ T .frame .back s
+
+  module _ (n : ℕ) (l : List ℕ) (lay : Layout) (w : Held n l lay s) (a : List A) (g : A) (b : List A) (e : list s ≡ a ++ (g ∷ b)) where
+    row-is : T .frame .bytes (T .frame .get s) ≡ cat enc a ++ (enc g ++ cat enc b)
+    row-is = T .written (T .frame .get s) ∙ ap (cat enc) (T .gets s ∙ e) ∙ cat-append enc a (g ∷ b)
+
+    pub entry-around : l ≡ padded (length l) (ahead a ++ (enc g ++ after b))
+    entry-around =
+        let x : encode s ≡ ahead a ++ (enc g ++ after b) =
+        by-part (T .frame) s ∙ ap (λ (m : List ℕ). header (headFor s) ++ (T .frame .front s ++ (m ++ T .frame .back s))) row-is ∙ simp append-assoc
+        in
+        w .bytes ∙ ap (padded (length l)) x
+
+    pub entry-start : length (ahead a) ≡ startOf lay part + length (cat enc a)
+    entry-start = simp length-append (omega (arith, header-length (headFor s), row-start T n l lay s w))
+
+    pub entry-end : length (ahead a) + length (enc g) + length (after b) ≡ lay .end
+    entry-end =
+        let x : lay .end ≡ 11 + (length (T .frame .front s) + (length (cat enc a ++ (enc g ++ cat enc b)) + length (T .frame .back s))) =
+        ap (λ (j : Layout). j .end) (w .layout)
+        ∙ layout-end s
+        ∙ ap length (by-part (T .frame) s)
+        ∙ laid-size (header (headFor s)) (T .frame .front s) (T .frame .bytes (T .frame .get s)) (T .frame .back s) (cat enc a ++ (enc g ++ cat enc b)) (header-length (headFor s)) row-is
+        in
+        simp length-append
+        (omega (arith, header-length (headFor s), length-append (cat enc a) (enc g ++ cat enc b), length-append (enc g) (cat enc b)))
+
+    module _ (y : A) (good : Good n (anew s (a ++ (y ∷ b)))) where
+      -- there is room for it
+      pub exchanged-room : lay .end + length (enc y) ≤ 17611 + length (enc g)
+      exchanged-room =
+          let xs : List A = a ++ (y ∷ b) in
+          let new : length (encode (anew s xs)) ≡ 11 + (length (T .frame .front s) + (length (cat enc a ++ (enc y ++ cat enc b)) + length (T .frame .back s))) =
+          ap (λ (j : State). length (encode j)) (sym (T .puts s xs))
+          ∙ ap length (T .frame .laid s xs)
+          ∙ laid-size (header (headFor (T .frame .put s xs))) (T .frame .front s) (T .frame .bytes xs) (T .frame .back s) (cat enc a ++ (enc y ++ cat enc b)) (header-length (headFor (T .frame .put s xs)))
+          (T .written xs ∙ cat-append enc a (y ∷ b))
+          in
+          let f : length (encode (anew s xs)) ≤ 17611 = fits n (anew s xs) good in
+          omega (arith, entry-end, entry-start, row-start T n l lay s w, length-append (cat enc b) (T .frame .back s), length-append (cat enc a) (enc y ++ cat enc b), length-append (enc y) (cat enc b))
+
+      pub exchanged-held : (l′ : List ℕ) → length l′ ≡ length l → l′ ≡ padded (length l) (ahead a ++ (enc y ++ after b))
+          → Held n l′ (movedBy lay part (length (enc g)) (length (enc y))) (anew s (a ++ (y ∷ b)))
+      exchanged-held l′ same u =
+          let xs : List A = a ++ (y ∷ b) in
+          let k : T .frame .count xs ≡ T .frame .count (T .frame .get s) =
+          T .counts xs ∙ length-append a (y ∷ b) ∙ sym (length-append a (g ∷ b)) ∙ sym (ap length e) ∙ sym (ap length (T .gets s)) ∙ sym (T .counts (T .frame .get s))
+          in
+          subst (λ (j : Layout). Held n l′ (movedBy j part (length (enc g)) (length (enc y))) (anew s xs)) (sym (w .layout))
+          (subst (Held n l′ (movedBy (layoutOf s) part (length (enc g)) (length (enc y)))) (T .puts s xs)
+          (count-kept (T .frame) s (cat enc a) (enc g) (enc y) (cat enc b) xs row-is (T .written xs ∙ cat-append enc a (y ∷ b)) n (length l)
+          (subst (Good n) (sym (T .puts s xs)) good) (w .room) l′ u k same))

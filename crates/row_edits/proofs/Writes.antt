@@ -46,6 +46,12 @@ run-head s s₁ s₂ s₃ s₄ p₁ p₂ p₃ b p k l y e₁ q₁ e₂ q₂ e₃
 
 -- ---- entries
 
+-- the part that was lent for a head
+pub lent : (at : ℕ) (g y : List ℕ) → length y ≡ 2 → take at g ++ (y ++ drop (at + 2 - at) (drop at g)) ≡ stored g at y
+lent at g y e =
+    ap (λ (z : List ℕ). take at g ++ (y ++ z))
+    (drop-drop (at + 2 - at) at g ∙ ap-at (λ i. drop i g) (at + (at + 2 - at)) (at + length y) (omega arith))
+
 module _ (t : List ℕ) (at used : ℕ) (h : at ≤ used) where
   gap-length : (n : ℕ) → used + n ≤ length t → length (opened t at used n) ≡ length t
   gap-length n k = simp (length-append, length-take, length-drop) (omega arith)
@@ -66,12 +72,6 @@ module _ (t : List ℕ) (at used : ℕ) (h : at ≤ used) where
       ∙ stored-stored g at (length x ∷ []) x (omega arith)
       ∙ filled (1 + length x) (encText x) (omega arith) k
 
-  -- the part of a gap that was lent for a head
-  lent : (g y : List ℕ) → length y ≡ 2 → take at g ++ (y ++ drop (at + 2 - at) (drop at g)) ≡ stored g at y
-  lent g y e =
-      ap (λ (z : List ℕ). take at g ++ (y ++ z))
-      (drop-drop (at + 2 - at) at g ∙ ap-at (λ i. drop i g) (at + (at + 2 - at)) (at + length y) (omega arith))
-
   -- a head of two bytes, and one text behind it
   pub one-inserted : (y x t₁ t₂ : List ℕ) → length y ≡ 2 → used + (2 + length x) ≤ length t → t₁ ≡ opened t at used (2 + length x)
       → t₂ ≡ stored (take at t₁ ++ (y ++ drop (at + 2 - at) (drop at t₁))) (at + 2) x → t₂ ≡ inserted t at used (y ++ x)
@@ -80,7 +80,7 @@ module _ (t : List ℕ) (at used : ℕ) (h : at ≤ used) where
       let m : length g ≡ length t = gap-length (2 + length x) k in
       f
       ∙ ap (λ (z : List ℕ). stored (take at z ++ (y ++ drop (at + 2 - at) (drop at z))) (at + 2) x) e
-      ∙ ap₂ (λ (z : List ℕ) (i : ℕ). stored z i x) (lent g y l) (let q : at + 2 ≡ at + length y = omega arith in q)
+      ∙ ap₂ (λ (z : List ℕ) (i : ℕ). stored z i x) (lent at g y l) (let q : at + 2 ≡ at + length y = omega arith in q)
       ∙ stored-stored g at y x (omega arith)
       ∙ filled (2 + length x) (y ++ x) (omega (arith, length-append y x)) k
 
@@ -94,7 +94,7 @@ module _ (t : List ℕ) (at used : ℕ) (h : at ≤ used) where
       let w : t₂ ≡ stored g at (y ++ a) =
       f
       ∙ ap (λ (z : List ℕ). stored (take at z ++ (y ++ drop (at + 2 - at) (drop at z))) (at + 2) a) e
-      ∙ ap₂ (λ (z : List ℕ) (i : ℕ). stored z i a) (lent g y l) (let q : at + 2 ≡ at + length y = omega arith in q)
+      ∙ ap₂ (λ (z : List ℕ) (i : ℕ). stored z i a) (lent at g y l) (let q : at + 2 ≡ at + length y = omega arith in q)
       ∙ stored-stored g at y a (omega arith)
       in
       c

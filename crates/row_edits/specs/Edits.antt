@@ -7,10 +7,12 @@ use lib.ListN.{length}
 use Rattle.lists.specs.Bytes.{Bytes}
 use Rattle.bits.specs.Bits.{putAt}
 use Rattle.bits.specs.Fields.{Field, packed}
-use Rattle.splice.specs.Moves.{inserted, removed}
+use Rattle.splice.specs.Moves.{stored, inserted, removed, replaced}
+use Rattle.entries.specs.Entry.{propFields}
 use Rattle.outcome_target.specs.Layout.{endOf, movedBy, countPlace, countWidth}
 use Rattle.outcome_target.specs.declared.Layout.{Layout}
 use Rattle.outcome_target.specs.declared.Section.{Section}
+use Rattle.outcome_target.specs.declared.Section.the-variants as section
 
 -- a run by the numbers of its head
 abbrev pub runBits : ℕ → ℕ → ℕ → List Field
@@ -30,3 +32,8 @@ pub record Cut (l : List ℕ) (lay : Layout) (section : Section) (at k n : ℕ) 
   pub between : Bytes (removed l at (lay .end) k)
   pub bytes : l′ ≡ putAt (removed l at (lay .end) k) (countPlace section) (countWidth section) n
   pub layout : lay′ ≡ movedBy lay section k 0
+
+-- with another value for the property at `at`, and its length in the property's head
+pub record Revalued (l : List ℕ) (lay : Layout) (at key old : ℕ) (value l′ : List ℕ) (lay′ : Layout) : Type 0 where
+  pub bytes : l′ ≡ stored (replaced l (at + 2 + key) old (lay .end) value) at (packed (propFields key (length value)))
+  pub layout : lay′ ≡ movedBy lay section.Properties old (length value)

@@ -10,7 +10,7 @@ ghost use Rattle.bits.specs.Fields.{packed};
 ghost use Rattle.splice.specs.Moves.{inserted};
 ghost use Rattle.entries.specs.Entry.{encText, propFields, encProp};
 ghost use Rattle.outcome_target.specs.Layout.{Rising, endOf, movedBy};
-ghost use Rattle.row_edits.specs.Edits.{runBits, encodedRun, Grown, Cut};
+ghost use Rattle.row_edits.specs.Edits.{runBits, encodedRun, Grown, Cut, Revalued};
 
 // ---- heads
 
@@ -115,4 +115,22 @@ pub fn cut(t: &mut [u8], layout: Layout, section: Section, at: usize, k: usize, 
     splice::remove(t, at, layout.end, k);
     outcome_target::set_count(t, section, n);
     outcome_target::moved(layout, section, k, 0)
+}
+
+// Another value for the property at `at`, whose key has `key` bytes and whose value has `old`.
+pub fn replace_value(
+    t: &mut [u8],
+    layout: Layout,
+    at: usize,
+    key: usize,
+    old: usize,
+    value: &[u8],
+) -> Layout
+    requires { ⌜ Rising layout × (at + 2 + key + old ≤ layout .tags) × (layout .end ≤ length (now t)) × (layout .end + length (now value) ≤ length (now t) + old) × (layout .end + length (now value) < 4294967296) ⌝ }
+    ensures { λ r. ⌜ Revalued (now (t .entry)) layout at key old (now (value .entry)) (now (t .exit)) r ⌝ }
+{
+    let new = value.len();
+    splice::replace(t, at + 2 + key, old, layout.end, value);
+    write_property_head(&mut t[at..at + 2], key, new);
+    outcome_target::moved(layout, Section::Properties, old, new)
 }
