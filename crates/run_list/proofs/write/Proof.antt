@@ -1,0 +1,72 @@
+-- `run_list::write` meets its contract.
+-- Assumes nothing.
+use mathlib.Core.Path.{_≡_, refl, sym, _∙_}
+use native.Mathlib.Omega.{arith}
+use borrow.Author.Needs.{needs}
+use Rattle.run_list.proofs.Rows.{both-header, runs-row-of, runs-few, both-beside, both-runs}
+use Rattle.run_list.proofs.Entries.{commands-count, list-written}
+use Rattle.run_list.proofs.Heads.{lentPart}
+use Rattle.run_list.specs.Lists.{Listed}
+use Rattle.insertion.specs.declared.Put.the-variants.{Done}
+use Rattle.engine.specs.Operations.{commands}
+use Rattle.lists.specs.Refusal.{substitution-long}
+use Rattle.lists.specs.Checked.{refused}
+use Rattle.run_list.proofs.write.Statement.{statement}
+use Rattle.run_list.proofs.write.Tie as tie
+
+count-of-requires : tie.Need-count-of-requires
+count-of-requires c κs = both-header (c .before .before .before .args .dev .now) (c .before .before .before .args .rec .now) (c .before .before .before .args .chain) (c .before .before .before .args .layout) (c .before .before .before .pre .1 .0) (c .before .before .before .pre .1 .1) (λ i. c .shared-slice-known2 .given i .fits) (c .before .before .before .pre .1 .2)
+
+count-of-requires-2 : tie.Need-count-of-requires-2
+count-of-requires-2 c κs = both-header (c .before .before .before .before .args .dev .now) (c .before .before .before .before .args .rec .now) (c .before .before .before .before .args .chain) (c .before .before .before .before .args .layout) (c .before .before .before .before .pre .1 .0) (c .before .before .before .before .pre .1 .1) (λ i. c .before .shared-slice-known2 .given i .fits) (c .before .before .before .before .pre .1 .2)
+
+put-runs-requires : tie.Need-put-runs-requires
+put-runs-requires c κs = (omega (arith, runs-few (c .before .before .before .before .before .before .args .dev .now) (c .before .before .before .before .before .before .args .rec .now) (c .before .before .before .before .before .before .args .chain) (c .before .before .before .before .before .before .args .layout) (c .before .before .before .before .before .before .pre .1 .0) (c .before .before .before .before .before .before .pre .1 .1) (λ i. c .before .before .before .shared-slice-known2 .given i .fits) (c .before .before .before .before .before .before .pre .1 .2), runs-row-of (c .before .before .before .before .before .before .args .dev .now) (c .before .before .before .before .before .before .args .rec .now) (c .before .before .before .before .before .before .args .chain) (c .before .before .before .before .before .before .args .layout) (c .before .before .before .before .before .before .pre .1 .0) (c .before .before .before .before .before .before .pre .1 .1) (λ i. c .before .before .before .shared-slice-known2 .given i .fits) (c .before .before .before .before .before .before .pre .1 .2) (c .before .before .count-of .result) (c .before .before .count-of .ensures .0) .counted), (c .before .before .before .before .before .before .pre .1 .0, c .before .before .before .before .before .before .pre .1 .1 .properties, c .before .before .before .before .before .before .pre .1 .1 .runs, both-beside (c .before .before .before .before .before .before .args .dev .now) (c .before .before .before .before .before .before .args .rec .now) (c .before .before .before .before .before .before .args .chain) (c .before .before .before .before .before .before .args .layout) (c .before .before .before .before .before .before .pre .1 .0) (c .before .before .before .before .before .before .pre .1 .1) (λ i. c .before .before .before .shared-slice-known2 .given i .fits) (c .before .before .before .before .before .before .pre .1 .2) (c .before .count-of2 .result) (c .before .count-of2 .ensures .0), both-runs (c .before .before .before .before .before .before .args .dev .now) (c .before .before .before .before .before .before .args .rec .now) (c .before .before .before .before .before .before .args .chain) (c .before .before .before .before .before .before .args .layout) (c .before .before .before .before .before .before .pre .1 .0) (c .before .before .before .before .before .before .pre .1 .1) (λ i. c .before .before .before .shared-slice-known2 .given i .fits) (c .before .before .before .before .before .before .pre .1 .2) (c .before .before .count-of .result) (c .before .before .count-of .ensures .0)))
+
+enum-known-k : tie.Need-enum-known-k
+enum-known-k c = search needs
+
+sub-write-count : tie.Need-sub-write-count
+sub-write-count c = search needs
+
+part-write-count-start : tie.Need-part-write-count-start
+part-write-count-start c = search needs
+
+part-write-count-end : tie.Need-part-write-count-end
+part-write-count-end c = search needs
+
+write-count-requires : tie.Need-write-count-requires
+write-count-requires c κs = search needs
+
+enum-told : tie.Need-enum-told
+enum-told c = search needs
+
+same-length : tie.Need-same-length
+same-length c = search needs
+
+returns : tie.Need-returns
+returns c = λ d s w. let l : Listed (commands d (s .properties) (s .runs)) (c .before .before .before .before .before .before .before .before .before .before .before .before .before .before .before .before .args .t .now) 1 (Done (c .before .before .before .before .before .k .given .0 .0)) (c .before .before .before .before .before .before .before .before .before .put-runs .last .0) = rw (c .before .before .before .before .before .k .given .1) at (c .before .before .before .before .before .before .before .before .before .put-runs .ensures d (s .properties) (s .runs) (both-beside (c .before .before .before .before .before .before .before .before .before .before .before .before .before .before .before .before .args .dev .now) (c .before .before .before .before .before .before .before .before .before .before .before .before .before .before .before .before .args .rec .now) (c .before .before .before .before .before .before .before .before .before .before .before .before .before .before .before .before .args .chain) (c .before .before .before .before .before .before .before .before .before .before .before .before .before .before .before .before .args .layout) d s (λ i. c .before .before .before .before .before .before .before .before .before .before .before .before .before .shared-slice-known2 .given i .fits) w (c .before .before .before .before .before .before .before .before .before .before .before .count-of2 .result) (c .before .before .before .before .before .before .before .before .before .before .before .count-of2 .ensures .0)) (both-runs (c .before .before .before .before .before .before .before .before .before .before .before .before .before .before .before .before .args .dev .now) (c .before .before .before .before .before .before .before .before .before .before .before .before .before .before .before .before .args .rec .now) (c .before .before .before .before .before .before .before .before .before .before .before .before .before .before .before .before .args .chain) (c .before .before .before .before .before .before .before .before .before .before .before .before .before .before .before .before .args .layout) d s (λ i. c .before .before .before .before .before .before .before .before .before .before .before .before .before .shared-slice-known2 .given i .fits) w (c .before .before .before .before .before .before .before .before .before .before .before .before .count-of .result) (c .before .before .before .before .before .before .before .before .before .before .before .before .count-of .ensures .0))) in list-written (commands d (s .properties) (s .runs)) (c .before .before .before .before .before .before .before .before .before .before .before .before .before .before .before .before .args .t .now) (c .before .before .before .before .before .before .before .before .before .put-runs .last .0) (c .before .before .write-count .last .0) (lentPart (c .before .before .before .before .before .before .before .before .before .put-runs .last .0) 0 1 (c .before .before .write-count .last .0)) (c .before .before .before .before .before .before .before .before .before .before .before .before .count-of .result) (c .before .before .before .before .before .k .given .0 .0) (omega (arith, c .before .before .before .before .before .before .before .before .before .before .before .before .before .before .before .before .pre .0)) (λ cs e. commands-count d (s .properties) (s .runs) cs e ∙ sym (runs-row-of (c .before .before .before .before .before .before .before .before .before .before .before .before .before .before .before .before .args .dev .now) (c .before .before .before .before .before .before .before .before .before .before .before .before .before .before .before .before .args .rec .now) (c .before .before .before .before .before .before .before .before .before .before .before .before .before .before .before .before .args .chain) (c .before .before .before .before .before .before .before .before .before .before .before .before .before .before .before .before .args .layout) d s (λ i. c .before .before .before .before .before .before .before .before .before .before .before .before .before .shared-slice-known2 .given i .fits) w (c .before .before .before .before .before .before .before .before .before .before .before .before .count-of .result) (c .before .before .before .before .before .before .before .before .before .before .before .before .count-of .ensures .0) .counted)) l (omega arith) (c .before .before .write-count .ensures) refl
+
+same-length-2 : tie.Need-same-length-2
+same-length-2 c = search needs
+
+returns-2 : tie.Need-returns-2
+returns-2 c = λ d s w. let l : commands d (s .properties) (s .runs) ≡ refused substitution-long = rw (c .enum-told .given .1) at (c .before .before .before .before .put-runs .ensures d (s .properties) (s .runs) (both-beside (c .before .before .before .before .before .before .before .before .before .before .before .args .dev .now) (c .before .before .before .before .before .before .before .before .before .before .before .args .rec .now) (c .before .before .before .before .before .before .before .before .before .before .before .args .chain) (c .before .before .before .before .before .before .before .before .before .before .before .args .layout) d s (λ i. c .before .before .before .before .before .before .before .before .shared-slice-known2 .given i .fits) w (c .before .before .before .before .before .before .count-of2 .result) (c .before .before .before .before .before .before .count-of2 .ensures .0)) (both-runs (c .before .before .before .before .before .before .before .before .before .before .before .args .dev .now) (c .before .before .before .before .before .before .before .before .before .before .before .args .rec .now) (c .before .before .before .before .before .before .before .before .before .before .before .args .chain) (c .before .before .before .before .before .before .before .before .before .before .before .args .layout) d s (λ i. c .before .before .before .before .before .before .before .before .shared-slice-known2 .given i .fits) w (c .before .before .before .before .before .before .before .count-of .result) (c .before .before .before .before .before .before .before .count-of .ensures .0))) in l
+
+pub write-spec : {M : Type 1} → statement M
+write-spec =
+    tie.close
+    (tie.spec
+    count-of-requires
+    count-of-requires-2
+    put-runs-requires
+    enum-known-k
+    sub-write-count
+    part-write-count-start
+    part-write-count-end
+    write-count-requires
+    enum-told
+    same-length
+    returns
+    same-length-2
+    returns-2)
