@@ -32,22 +32,59 @@ loop-holds : tie.Need-loop-holds Inv-loop μ-loop
 loop-holds c = (c .before .before .before .pre .0, refl, λ d ps rs b r. record { others = rs; stand = r; leads = λ q m z. z })
 
 run-at-requires : tie.Need-run-at-requires Inv-loop μ-loop
-run-at-requires c κs = let x = c .before .loop .inv .2 (c .before .before .before .before .before .pre .1 .0) (c .before .before .before .before .before .pre .1 .1) (c .before .before .before .before .before .pre .1 .2) (c .before .before .before .before .before .pre .1 .3) (c .before .before .before .before .before .pre .1 .4) in runs-from (c .before .before .before .before .before .args .rec .now) (c .before .loop .p) (c .before .loop .left) (c .before .before .before .before .before .pre .1 .0) (x .others) (x .stand) (c .loop-test .taken)
+run-at-requires c κs =
+    let pre = c .before .before .before .before .before .pre in
+    let loop = c .before .loop in
+    let x = loop .inv .2 (pre .1 .0) (pre .1 .1) (pre .1 .2) (pre .1 .3) (pre .1 .4) in
+    runs-from (c .before .before .before .before .before .args .rec .now) (loop .p) (loop .left) (pre .1 .0) (x .others) (x .stand) (c .loop-test .taken)
 
 places-of-requires : tie.Need-places-of-requires Inv-loop μ-loop
-places-of-requires c κs = let x = c .before .before .loop .inv .2 (c .before .before .before .before .before .before .pre .1 .0) (c .before .before .before .before .before .before .pre .1 .1) (c .before .before .before .before .before .before .pre .1 .2) (c .before .before .before .before .before .before .pre .1 .3) (c .before .before .before .before .before .before .pre .1 .4) in let h = runs-here (c .before .before .before .before .before .before .args .rec .now) (c .before .before .loop .p) (c .before .before .loop .left) (c .before .before .before .before .before .before .pre .1 .0) (x .others) (c .run-at .result) (λ i. c .before .before .before .shared-slice-known2 .given i .fits) (x .stand) (c .before .loop-test .taken) (c .run-at .ensures) in omega (arith, h .few, h .is .device, chain-few (c .before .before .before .before .before .before .args .dev .now) (c .before .before .before .before .before .before .pre .1 .0) (c .before .before .before .before .before .before .pre .1 .3 .device))
+places-of-requires c κs =
+    let pre = c .before .before .before .before .before .before .pre in
+    let args = c .before .before .before .before .before .before .args in
+    let loop = c .before .before .loop in
+    let run-at = c .run-at in
+    let x = loop .inv .2 (pre .1 .0) (pre .1 .1) (pre .1 .2) (pre .1 .3) (pre .1 .4) in
+    let h = runs-here (args .rec .now) (loop .p) (loop .left) (pre .1 .0) (x .others) (run-at .result) (λ i. c .before .before .before .shared-slice-known2 .given i .fits) (x .stand) (c .before .loop-test .taken) (run-at .ensures) in
+    omega (arith, h .few, h .is .device, chain-few (args .dev .now) (pre .1 .0) (pre .1 .3 .device))
 
 sub-put-command : tie.Need-sub-put-command Inv-loop μ-loop
-sub-put-command c = let x = c .before .before .before .before .loop .inv .2 (c .before .before .before .before .before .before .before .before .pre .1 .0) (c .before .before .before .before .before .before .before .before .pre .1 .1) (c .before .before .before .before .before .before .before .before .pre .1 .2) (c .before .before .before .before .before .before .before .before .pre .1 .3) (c .before .before .before .before .before .before .before .before .pre .1 .4) in let h = runs-here (c .before .before .before .before .before .before .before .before .args .rec .now) (c .before .before .before .before .loop .p) (c .before .before .before .before .loop .left) (c .before .before .before .before .before .before .before .before .pre .1 .0) (x .others) (c .before .before .run-at .result) (λ i. c .before .before .before .before .before .shared-slice-known2 .given i .fits) (x .stand) (c .before .before .before .loop-test .taken) (c .before .before .run-at .ensures) in omega (arith, h .is .rising)
+sub-put-command c =
+    let pre = c .before .before .before .before .before .before .before .before .pre in
+    let loop = c .before .before .before .before .loop in
+    let run-at = c .before .before .run-at in
+    let x = loop .inv .2 (pre .1 .0) (pre .1 .1) (pre .1 .2) (pre .1 .3) (pre .1 .4) in
+    let h = runs-here (c .before .before .before .before .before .before .before .before .args .rec .now) (loop .p) (loop .left) (pre .1 .0) (x .others) (run-at .result) (λ i. c .before .before .before .before .before .shared-slice-known2 .given i .fits) (x .stand) (c .before .before .before .loop-test .taken) (run-at .ensures) in
+    omega (arith, h .is .rising)
 
 part-put-command-start : tie.Need-part-put-command-start Inv-loop μ-loop
-part-put-command-start c = let x = c .before .before .before .before .loop .inv .2 (c .before .before .before .before .before .before .before .before .pre .1 .0) (c .before .before .before .before .before .before .before .before .pre .1 .1) (c .before .before .before .before .before .before .before .before .pre .1 .2) (c .before .before .before .before .before .before .before .before .pre .1 .3) (c .before .before .before .before .before .before .before .before .pre .1 .4) in let h = runs-here (c .before .before .before .before .before .before .before .before .args .rec .now) (c .before .before .before .before .loop .p) (c .before .before .before .before .loop .left) (c .before .before .before .before .before .before .before .before .pre .1 .0) (x .others) (c .before .before .run-at .result) (λ i. c .before .before .before .before .before .shared-slice-known2 .given i .fits) (x .stand) (c .before .before .before .loop-test .taken) (c .before .before .run-at .ensures) in omega (arith, h .is .rising)
+part-put-command-start c =
+    let pre = c .before .before .before .before .before .before .before .before .pre in
+    let loop = c .before .before .before .before .loop in
+    let run-at = c .before .before .run-at in
+    let x = loop .inv .2 (pre .1 .0) (pre .1 .1) (pre .1 .2) (pre .1 .3) (pre .1 .4) in
+    let h = runs-here (c .before .before .before .before .before .before .before .before .args .rec .now) (loop .p) (loop .left) (pre .1 .0) (x .others) (run-at .result) (λ i. c .before .before .before .before .before .shared-slice-known2 .given i .fits) (x .stand) (c .before .before .before .loop-test .taken) (run-at .ensures) in
+    omega (arith, h .is .rising)
 
 part-put-command-end : tie.Need-part-put-command-end Inv-loop μ-loop
-part-put-command-end c = let x = c .before .before .before .before .loop .inv .2 (c .before .before .before .before .before .before .before .before .pre .1 .0) (c .before .before .before .before .before .before .before .before .pre .1 .1) (c .before .before .before .before .before .before .before .before .pre .1 .2) (c .before .before .before .before .before .before .before .before .pre .1 .3) (c .before .before .before .before .before .before .before .before .pre .1 .4) in let h = runs-here (c .before .before .before .before .before .before .before .before .args .rec .now) (c .before .before .before .before .loop .p) (c .before .before .before .before .loop .left) (c .before .before .before .before .before .before .before .before .pre .1 .0) (x .others) (c .before .before .run-at .result) (λ i. c .before .before .before .before .before .shared-slice-known2 .given i .fits) (x .stand) (c .before .before .before .loop-test .taken) (c .before .before .run-at .ensures) in omega (arith, h .is .inside)
+part-put-command-end c =
+    let pre = c .before .before .before .before .before .before .before .before .pre in
+    let loop = c .before .before .before .before .loop in
+    let run-at = c .before .before .run-at in
+    let x = loop .inv .2 (pre .1 .0) (pre .1 .1) (pre .1 .2) (pre .1 .3) (pre .1 .4) in
+    let h = runs-here (c .before .before .before .before .before .before .before .before .args .rec .now) (loop .p) (loop .left) (pre .1 .0) (x .others) (run-at .result) (λ i. c .before .before .before .before .before .shared-slice-known2 .given i .fits) (x .stand) (c .before .before .before .loop-test .taken) (run-at .ensures) in
+    omega (arith, h .is .inside)
 
 put-command-requires : tie.Need-put-command-requires Inv-loop μ-loop
-put-command-requires c κs = let x = c .before .before .before .before .before .loop .inv .2 (c .before .before .before .before .before .before .before .before .before .pre .1 .0) (c .before .before .before .before .before .before .before .before .before .pre .1 .1) (c .before .before .before .before .before .before .before .before .before .pre .1 .2) (c .before .before .before .before .before .before .before .before .before .pre .1 .3) (c .before .before .before .before .before .before .before .before .before .pre .1 .4) in let h = runs-here (c .before .before .before .before .before .before .before .before .before .args .rec .now) (c .before .before .before .before .before .loop .p) (c .before .before .before .before .before .loop .left) (c .before .before .before .before .before .before .before .before .before .pre .1 .0) (x .others) (c .before .before .before .run-at .result) (λ i. c .before .before .before .before .before .before .shared-slice-known2 .given i .fits) (x .stand) (c .before .before .before .before .loop-test .taken) (c .before .before .before .run-at .ensures) in (omega (arith, c .before .before .before .before .before .loop .inv .0), ap wellFormed (h .is .template) ∙ h .sound, ((sourceOf (c .before .before .before .before .before .before .before .before .before .pre .1 .0) (c .before .before .before .before .before .before .before .before .before .pre .1 .1) (h .run) (h .others)), (here-source (c .before .before .before .before .before .before .before .before .before .args .dev .now) (c .before .before .before .before .before .before .before .before .before .args .rec .now) (c .before .before .before .before .before .before .before .before .before .args .chain) (c .before .before .before .before .before .before .before .before .before .args .properties) (c .before .before .before .before .before .before .before .before .before .args .count) (c .before .before .before .before .before .loop .left) (c .before .before .before .before .before .before .before .before .before .pre .1 .0) (c .before .before .before .before .before .before .before .before .before .pre .1 .1) (x .others) (c .before .before .before .run-at .result) (λ i. c .before .before .before .before .before .before .before .shared-slice-known .given i .fits) (c .before .before .before .before .before .before .before .before .before .pre .1 .3) h (c .before .before .places-of .result) (c .before .before .places-of .ensures))))
+put-command-requires c κs =
+    let pre = c .before .before .before .before .before .before .before .before .before .pre in
+    let args = c .before .before .before .before .before .before .before .before .before .args in
+    let loop = c .before .before .before .before .before .loop in
+    let run-at = c .before .before .before .run-at in
+    let places-of = c .before .before .places-of in
+    let x = loop .inv .2 (pre .1 .0) (pre .1 .1) (pre .1 .2) (pre .1 .3) (pre .1 .4) in
+    let h = runs-here (args .rec .now) (loop .p) (loop .left) (pre .1 .0) (x .others) (run-at .result) (λ i. c .before .before .before .before .before .before .shared-slice-known2 .given i .fits) (x .stand) (c .before .before .before .before .loop-test .taken) (run-at .ensures) in
+    (omega (arith, loop .inv .0), ap wellFormed (h .is .template) ∙ h .sound, ((sourceOf (pre .1 .0) (pre .1 .1) (h .run) (h .others)), (here-source (args .dev .now) (args .rec .now) (args .chain) (args .properties) (args .count) (loop .left) (pre .1 .0) (pre .1 .1) (x .others) (run-at .result) (λ i. c .before .before .before .before .before .before .before .shared-slice-known .given i .fits) (pre .1 .3) h (places-of .result) (places-of .ensures))))
 
 enum-known-k : tie.Need-enum-known-k Inv-loop μ-loop
 enum-known-k c = search needs
@@ -59,7 +96,16 @@ same-length : tie.Need-same-length Inv-loop μ-loop
 same-length c = omega arith
 
 returns : tie.Need-returns Inv-loop μ-loop
-returns c = λ d ps rs b r. let x = c .before .before .before .before .before .before .before .before .before .before .loop .inv .2 d ps rs b r in let h = runs-here (c .before .before .before .before .before .before .before .before .before .before .before .before .before .before .args .rec .now) (c .before .before .before .before .before .before .before .before .before .before .loop .p) (c .before .before .before .before .before .before .before .before .before .before .loop .left) d (x .others) (c .before .before .before .before .before .before .before .before .run-at .result) (λ i. c .before .before .before .before .before .before .before .before .before .before .before .shared-slice-known2 .given i .fits) (x .stand) (c .before .before .before .before .before .before .before .before .before .loop-test .taken) (c .before .before .before .before .before .before .before .before .run-at .ensures) in let m : filled false (sourceOf d ps (h .run) (h .others)) (templateAt (c .before .before .before .before .before .before .before .before .before .before .before .before .before .before .args .rec .now) (c .before .before .before .before .before .before .before .before .before .before .loop .left) d ps (x .others) (c .before .before .before .before .before .before .before .before .run-at .result) h) ≡ refused substitution-long = rw (c .enum-told .given .1) at (c .before .before .before .before .put-command .ensures .1 (sourceOf d ps (h .run) (h .others)) (here-source (c .before .before .before .before .before .before .before .before .before .before .before .before .before .before .args .dev .now) (c .before .before .before .before .before .before .before .before .before .before .before .before .before .before .args .rec .now) (c .before .before .before .before .before .before .before .before .before .before .before .before .before .before .args .chain) (c .before .before .before .before .before .before .before .before .before .before .before .before .before .before .args .properties) (c .before .before .before .before .before .before .before .before .before .before .before .before .before .before .args .count) (c .before .before .before .before .before .before .before .before .before .before .loop .left) d ps (x .others) (c .before .before .before .before .before .before .before .before .run-at .result) (λ i. c .before .before .before .before .before .before .before .before .before .before .before .before .shared-slice-known .given i .fits) b h (c .before .before .before .before .before .before .before .places-of .result) (c .before .before .before .before .before .before .before .places-of .ensures))) in x .leads Full (c .before .before .before .before .before .before .before .before .before .before .loop .t) (here-full (c .before .before .before .before .before .before .before .before .before .before .before .before .before .before .args .rec .now) (c .before .before .before .before .before .before .before .before .before .before .loop .left) d ps (x .others) (c .before .before .before .before .before .before .before .before .run-at .result) h m)
+returns c =
+    let args = c .before .before .before .before .before .before .before .before .before .before .before .before .before .before .args in
+    let loop = c .before .before .before .before .before .before .before .before .before .before .loop in
+    let run-at = c .before .before .before .before .before .before .before .before .run-at in
+    let places-of = c .before .before .before .before .before .before .before .places-of in
+    λ d ps rs b r.
+    let x = loop .inv .2 d ps rs b r in
+    let h = runs-here (args .rec .now) (loop .p) (loop .left) d (x .others) (run-at .result) (λ i. c .before .before .before .before .before .before .before .before .before .before .before .shared-slice-known2 .given i .fits) (x .stand) (c .before .before .before .before .before .before .before .before .before .loop-test .taken) (run-at .ensures) in
+    let m : filled false (sourceOf d ps (h .run) (h .others)) (templateAt (args .rec .now) (loop .left) d ps (x .others) (run-at .result) h) ≡ refused substitution-long = rw (c .enum-told .given .1) at (c .before .before .before .before .put-command .ensures .1 (sourceOf d ps (h .run) (h .others)) (here-source (args .dev .now) (args .rec .now) (args .chain) (args .properties) (args .count) (loop .left) d ps (x .others) (run-at .result) (λ i. c .before .before .before .before .before .before .before .before .before .before .before .before .shared-slice-known .given i .fits) b h (places-of .result) (places-of .ensures))) in
+    x .leads Full (loop .t) (here-full (args .rec .now) (loop .left) d ps (x .others) (run-at .result) h m)
 
 sub-left : tie.Need-sub-left Inv-loop μ-loop
 sub-left c = omega arith
@@ -68,13 +114,25 @@ loop-less : tie.Need-loop-less Inv-loop μ-loop
 loop-less c = omega arith
 
 loop-again : tie.Need-loop-again Inv-loop μ-loop
-loop-again c = let few : c .before .k .given .0 .0 ≤ c .before .before .before .before .before .before .before .before .before .before .before .loop .at + 514 = rw (c .before .k .given .1) at (c .before .before .before .before .before .put-command .ensures .0) in (omega (arith, c .before .before .before .before .before .before .before .before .before .before .before .loop .inv .0), omega arith, λ d ps rs b r. let x = c .before .before .before .before .before .before .before .before .before .before .before .loop .inv .2 d ps rs b r in let h = runs-here (c .before .before .before .before .before .before .before .before .before .before .before .before .before .before .before .args .rec .now) (c .before .before .before .before .before .before .before .before .before .before .before .loop .p) (c .before .before .before .before .before .before .before .before .before .before .before .loop .left) d (x .others) (c .before .before .before .before .before .before .before .before .before .run-at .result) (λ i. c .before .before .before .before .before .before .before .before .before .before .before .before .shared-slice-known2 .given i .fits) (x .stand) (c .before .before .before .before .before .before .before .before .before .before .loop-test .taken) (c .before .before .before .before .before .before .before .before .before .run-at .ensures) in let m : Made (c .before .before .before .before .before .before .before .before .before .run-at .result .builtin) (filled false (sourceOf d ps (h .run) (h .others)) (templateAt (c .before .before .before .before .before .before .before .before .before .before .before .before .before .before .before .args .rec .now) (c .before .before .before .before .before .before .before .before .before .before .before .loop .left) d ps (x .others) (c .before .before .before .before .before .before .before .before .before .run-at .result) h)) (c .before .before .before .before .before .before .before .before .before .before .before .loop .t) (c .before .before .before .before .before .before .before .before .before .before .before .loop .at) (Done (c .before .k .given .0 .0)) (c .before .before .before .before .before .put-command .last .0) = rw (c .before .k .given .1) at (c .before .before .before .before .before .put-command .ensures .1 (sourceOf d ps (h .run) (h .others)) (here-source (c .before .before .before .before .before .before .before .before .before .before .before .before .before .before .before .args .dev .now) (c .before .before .before .before .before .before .before .before .before .before .before .before .before .before .before .args .rec .now) (c .before .before .before .before .before .before .before .before .before .before .before .before .before .before .before .args .chain) (c .before .before .before .before .before .before .before .before .before .before .before .before .before .before .before .args .properties) (c .before .before .before .before .before .before .before .before .before .before .before .before .before .before .before .args .count) (c .before .before .before .before .before .before .before .before .before .before .before .loop .left) d ps (x .others) (c .before .before .before .before .before .before .before .before .before .run-at .result) (λ i. c .before .before .before .before .before .before .before .before .before .before .before .before .before .shared-slice-known .given i .fits) b h (c .before .before .before .before .before .before .before .before .places-of .result) (c .before .before .before .before .before .before .before .before .places-of .ensures))) in record { others = h .others; stand = h .next; leads = λ q l z. x .leads q l (here-leads (c .before .before .before .before .before .before .before .before .before .before .before .before .before .before .before .args .rec .now) (c .before .before .before .before .before .before .before .before .before .before .before .loop .left) d ps (x .others) (c .before .before .before .before .before .before .before .before .before .run-at .result) h (c .before .before .before .before .before .before .before .before .before .before .before .loop .t) (c .before .before .before .before .before .put-command .last .0) (c .before .before .before .before .before .before .before .before .before .before .before .loop .at) (c .before .k .given .0 .0) m q l z) })
+loop-again c =
+    let args = c .before .before .before .before .before .before .before .before .before .before .before .before .before .before .before .args in
+    let loop = c .before .before .before .before .before .before .before .before .before .before .before .loop in
+    let run-at = c .before .before .before .before .before .before .before .before .before .run-at in
+    let places-of = c .before .before .before .before .before .before .before .before .places-of in
+    let put-command = c .before .before .before .before .before .put-command in
+    let the-k = c .before .k in
+    let few : the-k .given .0 .0 ≤ loop .at + 514 = rw (the-k .given .1) at (put-command .ensures .0) in
+    (omega (arith, loop .inv .0), omega arith, λ d ps rs b r. let x = loop .inv .2 d ps rs b r in let h = runs-here (args .rec .now) (loop .p) (loop .left) d (x .others) (run-at .result) (λ i. c .before .before .before .before .before .before .before .before .before .before .before .before .shared-slice-known2 .given i .fits) (x .stand) (c .before .before .before .before .before .before .before .before .before .before .loop-test .taken) (run-at .ensures) in let m : Made (run-at .result .builtin) (filled false (sourceOf d ps (h .run) (h .others)) (templateAt (args .rec .now) (loop .left) d ps (x .others) (run-at .result) h)) (loop .t) (loop .at) (Done (the-k .given .0 .0)) (put-command .last .0) = rw (the-k .given .1) at (put-command .ensures .1 (sourceOf d ps (h .run) (h .others)) (here-source (args .dev .now) (args .rec .now) (args .chain) (args .properties) (args .count) (loop .left) d ps (x .others) (run-at .result) (λ i. c .before .before .before .before .before .before .before .before .before .before .before .before .before .shared-slice-known .given i .fits) b h (places-of .result) (places-of .ensures))) in record { others = h .others; stand = h .next; leads = λ q l z. x .leads q l (here-leads (args .rec .now) (loop .left) d ps (x .others) (run-at .result) h (loop .t) (put-command .last .0) (loop .at) (the-k .given .0 .0) m q l z) })
 
 same-length-2 : tie.Need-same-length-2 Inv-loop μ-loop
 same-length-2 c = omega arith
 
 returns-2 : tie.Need-returns-2 Inv-loop μ-loop
-returns-2 c = λ d ps rs b r. let x = c .before .loop .inv .2 d ps rs b r in x .leads (Done (c .before .loop .at)) (c .before .loop .t) (subst (λ (y : List Run). Listed (commands d ps y) (c .before .loop .t) (c .before .loop .at) (Done (c .before .loop .at)) (c .before .loop .t)) (sym (runs-none (c .before .before .before .before .before .args .rec .now) (c .before .loop .p) (c .before .loop .left) d (x .others) (x .stand) (omega arith))) (commands-none d ps (c .before .loop .t) (c .before .loop .at) (omega (arith, c .before .loop .inv .0))))
+returns-2 c =
+    let loop = c .before .loop in
+    λ d ps rs b r.
+    let x = loop .inv .2 d ps rs b r in
+    x .leads (Done (loop .at)) (loop .t) (subst (λ (y : List Run). Listed (commands d ps y) (loop .t) (loop .at) (Done (loop .at)) (loop .t)) (sym (runs-none (c .before .before .before .before .before .args .rec .now) (loop .p) (loop .left) d (x .others) (x .stand) (omega arith))) (commands-none d ps (loop .t) (loop .at) (omega (arith, loop .inv .0))))
 
 pub put-runs-spec : {M : Type 1} → statement M
 put-runs-spec =

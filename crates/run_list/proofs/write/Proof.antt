@@ -15,13 +15,25 @@ use Rattle.run_list.proofs.write.Statement.{statement}
 use Rattle.run_list.proofs.write.Tie as tie
 
 count-of-requires : tie.Need-count-of-requires
-count-of-requires c κs = both-header (c .before .before .before .args .dev .now) (c .before .before .before .args .rec .now) (c .before .before .before .args .chain) (c .before .before .before .args .layout) (c .before .before .before .pre .1 .0) (c .before .before .before .pre .1 .1) (λ i. c .shared-slice-known2 .given i .fits) (c .before .before .before .pre .1 .2)
+count-of-requires c κs =
+    let args = c .before .before .before .args in
+    let pre = c .before .before .before .pre in
+    both-header (args .dev .now) (args .rec .now) (args .chain) (args .layout) (pre .1 .0) (pre .1 .1) (λ i. c .shared-slice-known2 .given i .fits) (pre .1 .2)
 
 count-of-requires-2 : tie.Need-count-of-requires-2
-count-of-requires-2 c κs = both-header (c .before .before .before .before .args .dev .now) (c .before .before .before .before .args .rec .now) (c .before .before .before .before .args .chain) (c .before .before .before .before .args .layout) (c .before .before .before .before .pre .1 .0) (c .before .before .before .before .pre .1 .1) (λ i. c .before .shared-slice-known2 .given i .fits) (c .before .before .before .before .pre .1 .2)
+count-of-requires-2 c κs =
+    let args = c .before .before .before .before .args in
+    let pre = c .before .before .before .before .pre in
+    both-header (args .dev .now) (args .rec .now) (args .chain) (args .layout) (pre .1 .0) (pre .1 .1) (λ i. c .before .shared-slice-known2 .given i .fits) (pre .1 .2)
 
 put-runs-requires : tie.Need-put-runs-requires
-put-runs-requires c κs = (omega (arith, runs-few (c .before .before .before .before .before .before .args .dev .now) (c .before .before .before .before .before .before .args .rec .now) (c .before .before .before .before .before .before .args .chain) (c .before .before .before .before .before .before .args .layout) (c .before .before .before .before .before .before .pre .1 .0) (c .before .before .before .before .before .before .pre .1 .1) (λ i. c .before .before .before .shared-slice-known2 .given i .fits) (c .before .before .before .before .before .before .pre .1 .2), runs-row-of (c .before .before .before .before .before .before .args .dev .now) (c .before .before .before .before .before .before .args .rec .now) (c .before .before .before .before .before .before .args .chain) (c .before .before .before .before .before .before .args .layout) (c .before .before .before .before .before .before .pre .1 .0) (c .before .before .before .before .before .before .pre .1 .1) (λ i. c .before .before .before .shared-slice-known2 .given i .fits) (c .before .before .before .before .before .before .pre .1 .2) (c .before .before .count-of .result) (c .before .before .count-of .ensures .0) .counted), (c .before .before .before .before .before .before .pre .1 .0, c .before .before .before .before .before .before .pre .1 .1 .properties, c .before .before .before .before .before .before .pre .1 .1 .runs, both-beside (c .before .before .before .before .before .before .args .dev .now) (c .before .before .before .before .before .before .args .rec .now) (c .before .before .before .before .before .before .args .chain) (c .before .before .before .before .before .before .args .layout) (c .before .before .before .before .before .before .pre .1 .0) (c .before .before .before .before .before .before .pre .1 .1) (λ i. c .before .before .before .shared-slice-known2 .given i .fits) (c .before .before .before .before .before .before .pre .1 .2) (c .before .count-of2 .result) (c .before .count-of2 .ensures .0), both-runs (c .before .before .before .before .before .before .args .dev .now) (c .before .before .before .before .before .before .args .rec .now) (c .before .before .before .before .before .before .args .chain) (c .before .before .before .before .before .before .args .layout) (c .before .before .before .before .before .before .pre .1 .0) (c .before .before .before .before .before .before .pre .1 .1) (λ i. c .before .before .before .shared-slice-known2 .given i .fits) (c .before .before .before .before .before .before .pre .1 .2) (c .before .before .count-of .result) (c .before .before .count-of .ensures .0)))
+put-runs-requires c κs =
+    let args = c .before .before .before .before .before .before .args in
+    let pre = c .before .before .before .before .before .before .pre in
+    let shared-slice-known2 = c .before .before .before .shared-slice-known2 in
+    let count-of = c .before .before .count-of in
+    let count-of2 = c .before .count-of2 in
+    (omega (arith, runs-few (args .dev .now) (args .rec .now) (args .chain) (args .layout) (pre .1 .0) (pre .1 .1) (λ i. shared-slice-known2 .given i .fits) (pre .1 .2), runs-row-of (args .dev .now) (args .rec .now) (args .chain) (args .layout) (pre .1 .0) (pre .1 .1) (λ i. shared-slice-known2 .given i .fits) (pre .1 .2) (count-of .result) (count-of .ensures .0) .counted), (pre .1 .0, pre .1 .1 .properties, pre .1 .1 .runs, both-beside (args .dev .now) (args .rec .now) (args .chain) (args .layout) (pre .1 .0) (pre .1 .1) (λ i. shared-slice-known2 .given i .fits) (pre .1 .2) (count-of2 .result) (count-of2 .ensures .0), both-runs (args .dev .now) (args .rec .now) (args .chain) (args .layout) (pre .1 .0) (pre .1 .1) (λ i. shared-slice-known2 .given i .fits) (pre .1 .2) (count-of .result) (count-of .ensures .0)))
 
 enum-known-k : tie.Need-enum-known-k
 enum-known-k c = search needs
@@ -45,13 +57,30 @@ same-length : tie.Need-same-length
 same-length c = search needs
 
 returns : tie.Need-returns
-returns c = λ d s w. let l : Listed (commands d (s .properties) (s .runs)) (c .before .before .before .before .before .before .before .before .before .before .before .before .before .before .before .before .args .t .now) 1 (Done (c .before .before .before .before .before .k .given .0 .0)) (c .before .before .before .before .before .before .before .before .before .put-runs .last .0) = rw (c .before .before .before .before .before .k .given .1) at (c .before .before .before .before .before .before .before .before .before .put-runs .ensures d (s .properties) (s .runs) (both-beside (c .before .before .before .before .before .before .before .before .before .before .before .before .before .before .before .before .args .dev .now) (c .before .before .before .before .before .before .before .before .before .before .before .before .before .before .before .before .args .rec .now) (c .before .before .before .before .before .before .before .before .before .before .before .before .before .before .before .before .args .chain) (c .before .before .before .before .before .before .before .before .before .before .before .before .before .before .before .before .args .layout) d s (λ i. c .before .before .before .before .before .before .before .before .before .before .before .before .before .shared-slice-known2 .given i .fits) w (c .before .before .before .before .before .before .before .before .before .before .before .count-of2 .result) (c .before .before .before .before .before .before .before .before .before .before .before .count-of2 .ensures .0)) (both-runs (c .before .before .before .before .before .before .before .before .before .before .before .before .before .before .before .before .args .dev .now) (c .before .before .before .before .before .before .before .before .before .before .before .before .before .before .before .before .args .rec .now) (c .before .before .before .before .before .before .before .before .before .before .before .before .before .before .before .before .args .chain) (c .before .before .before .before .before .before .before .before .before .before .before .before .before .before .before .before .args .layout) d s (λ i. c .before .before .before .before .before .before .before .before .before .before .before .before .before .shared-slice-known2 .given i .fits) w (c .before .before .before .before .before .before .before .before .before .before .before .before .count-of .result) (c .before .before .before .before .before .before .before .before .before .before .before .before .count-of .ensures .0))) in list-written (commands d (s .properties) (s .runs)) (c .before .before .before .before .before .before .before .before .before .before .before .before .before .before .before .before .args .t .now) (c .before .before .before .before .before .before .before .before .before .put-runs .last .0) (c .before .before .write-count .last .0) (lentPart (c .before .before .before .before .before .before .before .before .before .put-runs .last .0) 0 1 (c .before .before .write-count .last .0)) (c .before .before .before .before .before .before .before .before .before .before .before .before .count-of .result) (c .before .before .before .before .before .k .given .0 .0) (omega (arith, c .before .before .before .before .before .before .before .before .before .before .before .before .before .before .before .before .pre .0)) (λ cs e. commands-count d (s .properties) (s .runs) cs e ∙ sym (runs-row-of (c .before .before .before .before .before .before .before .before .before .before .before .before .before .before .before .before .args .dev .now) (c .before .before .before .before .before .before .before .before .before .before .before .before .before .before .before .before .args .rec .now) (c .before .before .before .before .before .before .before .before .before .before .before .before .before .before .before .before .args .chain) (c .before .before .before .before .before .before .before .before .before .before .before .before .before .before .before .before .args .layout) d s (λ i. c .before .before .before .before .before .before .before .before .before .before .before .before .before .shared-slice-known2 .given i .fits) w (c .before .before .before .before .before .before .before .before .before .before .before .before .count-of .result) (c .before .before .before .before .before .before .before .before .before .before .before .before .count-of .ensures .0) .counted)) l (omega arith) (c .before .before .write-count .ensures) refl
+returns c =
+    let args = c .before .before .before .before .before .before .before .before .before .before .before .before .before .before .before .before .args in
+    let shared-slice-known2 = c .before .before .before .before .before .before .before .before .before .before .before .before .before .shared-slice-known2 in
+    let count-of = c .before .before .before .before .before .before .before .before .before .before .before .before .count-of in
+    let count-of2 = c .before .before .before .before .before .before .before .before .before .before .before .count-of2 in
+    let put-runs = c .before .before .before .before .before .before .before .before .before .put-runs in
+    let the-k = c .before .before .before .before .before .k in
+    let write-count = c .before .before .write-count in
+    λ d s w.
+    let l : Listed (commands d (s .properties) (s .runs)) (args .t .now) 1 (Done (the-k .given .0 .0)) (put-runs .last .0) = rw (the-k .given .1) at (put-runs .ensures d (s .properties) (s .runs) (both-beside (args .dev .now) (args .rec .now) (args .chain) (args .layout) d s (λ i. shared-slice-known2 .given i .fits) w (count-of2 .result) (count-of2 .ensures .0)) (both-runs (args .dev .now) (args .rec .now) (args .chain) (args .layout) d s (λ i. shared-slice-known2 .given i .fits) w (count-of .result) (count-of .ensures .0))) in
+    list-written (commands d (s .properties) (s .runs)) (args .t .now) (put-runs .last .0) (write-count .last .0) (lentPart (put-runs .last .0) 0 1 (write-count .last .0)) (count-of .result) (the-k .given .0 .0) (omega (arith, c .before .before .before .before .before .before .before .before .before .before .before .before .before .before .before .before .pre .0)) (λ cs e. commands-count d (s .properties) (s .runs) cs e ∙ sym (runs-row-of (args .dev .now) (args .rec .now) (args .chain) (args .layout) d s (λ i. shared-slice-known2 .given i .fits) w (count-of .result) (count-of .ensures .0) .counted)) l (omega arith) (write-count .ensures) refl
 
 same-length-2 : tie.Need-same-length-2
 same-length-2 c = search needs
 
 returns-2 : tie.Need-returns-2
-returns-2 c = λ d s w. let l : commands d (s .properties) (s .runs) ≡ refused substitution-long = rw (c .enum-told .given .1) at (c .before .before .before .before .put-runs .ensures d (s .properties) (s .runs) (both-beside (c .before .before .before .before .before .before .before .before .before .before .before .args .dev .now) (c .before .before .before .before .before .before .before .before .before .before .before .args .rec .now) (c .before .before .before .before .before .before .before .before .before .before .before .args .chain) (c .before .before .before .before .before .before .before .before .before .before .before .args .layout) d s (λ i. c .before .before .before .before .before .before .before .before .shared-slice-known2 .given i .fits) w (c .before .before .before .before .before .before .count-of2 .result) (c .before .before .before .before .before .before .count-of2 .ensures .0)) (both-runs (c .before .before .before .before .before .before .before .before .before .before .before .args .dev .now) (c .before .before .before .before .before .before .before .before .before .before .before .args .rec .now) (c .before .before .before .before .before .before .before .before .before .before .before .args .chain) (c .before .before .before .before .before .before .before .before .before .before .before .args .layout) d s (λ i. c .before .before .before .before .before .before .before .before .shared-slice-known2 .given i .fits) w (c .before .before .before .before .before .before .before .count-of .result) (c .before .before .before .before .before .before .before .count-of .ensures .0))) in l
+returns-2 c =
+    let args = c .before .before .before .before .before .before .before .before .before .before .before .args in
+    let shared-slice-known2 = c .before .before .before .before .before .before .before .before .shared-slice-known2 in
+    let count-of = c .before .before .before .before .before .before .before .count-of in
+    let count-of2 = c .before .before .before .before .before .before .count-of2 in
+    λ d s w.
+    let l : commands d (s .properties) (s .runs) ≡ refused substitution-long = rw (c .enum-told .given .1) at (c .before .before .before .before .put-runs .ensures d (s .properties) (s .runs) (both-beside (args .dev .now) (args .rec .now) (args .chain) (args .layout) d s (λ i. shared-slice-known2 .given i .fits) w (count-of2 .result) (count-of2 .ensures .0)) (both-runs (args .dev .now) (args .rec .now) (args .chain) (args .layout) d s (λ i. shared-slice-known2 .given i .fits) w (count-of .result) (count-of .ensures .0))) in
+    l
 
 pub write-spec : {M : Type 1} → statement M
 write-spec =

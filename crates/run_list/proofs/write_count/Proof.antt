@@ -15,7 +15,11 @@ same-length : tie.Need-same-length
 same-length c = search needs
 
 returns : tie.Need-returns
-returns c = count-head (c .before .before .before .before .before .before .before .before .before .args .head .now) (c .before .before .before .before .before .before .put .last .1 .0) (c .before .before .put2 .last .1 .0) (c .before .before .before .before .before .before .put .result .at) (c .before .before .before .before .before .before .before .before .before .args .n) (c .before .before .before .before .before .before .before .before .before .pre) (λ i. c .before .before .before .before .before .before .before .before .slice-known .given i .fits) (c .before .before .before .before .before .before .put .ensures .bytes) (c .before .before .before .before .before .before .put .ensures .next) (c .before .before .put2 .ensures .bytes)
+returns c =
+    let args = c .before .before .before .before .before .before .before .before .before .args in
+    let put = c .before .before .before .before .before .before .put in
+    let put2 = c .before .before .put2 in
+    count-head (args .head .now) (put .last .1 .0) (put2 .last .1 .0) (put .result .at) (args .n) (c .before .before .before .before .before .before .before .before .before .pre) (λ i. c .before .before .before .before .before .before .before .before .slice-known .given i .fits) (put .ensures .bytes) (put .ensures .next) (put2 .ensures .bytes)
 
 pub write-count-spec : {M : Type 1} → statement M
 write-count-spec = tie.close (tie.spec put-requires put-requires-2 same-length returns)

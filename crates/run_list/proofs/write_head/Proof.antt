@@ -25,7 +25,13 @@ same-length : tie.Need-same-length
 same-length c = search needs
 
 returns : tie.Need-returns
-returns c = command-head (c .before .before .before .before .before .before .before .before .before .before .before .before .before .before .args .head .now) (c .before .before .before .before .before .before .before .before .before .before .put .last .1 .0) (c .before .before .before .before .before .before .put2 .last .1 .0) (c .before .before .put3 .last .1 .0) (c .before .before .before .before .before .before .before .before .before .before .put .result .at) (c .before .before .before .before .before .before .put2 .result .at) (c .before .before .before .before .before .before .before .before .before .before .before .bit-of .result) (c .before .before .before .before .before .before .before .before .before .before .before .before .before .before .args .len) (c .before .before .before .before .before .before .before .before .before .before .before .before .before .before .pre) (λ i. c .before .before .before .before .before .before .before .before .before .before .before .before .before .slice-known .given i .fits) (c .before .before .before .before .before .before .before .before .before .before .put .ensures .bytes) (c .before .before .before .before .before .before .before .before .before .before .put .ensures .next) (c .before .before .before .before .before .before .put2 .ensures .bytes) (c .before .before .before .before .before .before .put2 .ensures .next ∙ ap (λ (i : ℕ). i + 10) (c .before .before .before .before .before .before .before .before .before .before .put .ensures .next)) (c .before .before .put3 .ensures .bytes) ∙ ap (λ (i : ℕ). packed ((1, i) ∷ (10, c .before .before .before .before .before .before .before .before .before .before .before .before .before .before .args .len) ∷ (5, 0) ∷ [])) (c .before .before .before .before .before .before .before .before .before .before .before .bit-of .ensures)
+returns c =
+    let args = c .before .before .before .before .before .before .before .before .before .before .before .before .before .before .args in
+    let bit-of = c .before .before .before .before .before .before .before .before .before .before .before .bit-of in
+    let put = c .before .before .before .before .before .before .before .before .before .before .put in
+    let put2 = c .before .before .before .before .before .before .put2 in
+    let put3 = c .before .before .put3 in
+    command-head (args .head .now) (put .last .1 .0) (put2 .last .1 .0) (put3 .last .1 .0) (put .result .at) (put2 .result .at) (bit-of .result) (args .len) (c .before .before .before .before .before .before .before .before .before .before .before .before .before .before .pre) (λ i. c .before .before .before .before .before .before .before .before .before .before .before .before .before .slice-known .given i .fits) (put .ensures .bytes) (put .ensures .next) (put2 .ensures .bytes) (put2 .ensures .next ∙ ap (λ (i : ℕ). i + 10) (put .ensures .next)) (put3 .ensures .bytes) ∙ ap (λ (i : ℕ). packed ((1, i) ∷ (10, args .len) ∷ (5, 0) ∷ [])) (bit-of .ensures)
 
 pub write-head-spec : {M : Type 1} → statement M
 write-head-spec =

@@ -21,7 +21,9 @@ returns : tie.Need-returns
 returns c = rw (c .if1 .taken)
 
 returns-2 : tie.Need-returns-2
-returns-2 c = places-matched (c .before .before .args .chain) (c .before .before .args .place) (c .before .before .args .properties) (c .before .before .args .count) (c .if1 .left)
+returns-2 c =
+    let args = c .before .before .args in
+    places-matched (args .chain) (args .place) (args .properties) (args .count) (c .if1 .left)
 
 pub places-of-spec : {M : Type 1} → statement M
 places-of-spec =

@@ -36,7 +36,13 @@ same-length : tie.Need-same-length
 same-length c = search needs
 
 returns : tie.Need-returns
-returns c = (rw (c .turned .ensures) (turn-on (c .before .before .before .before .before .before .before .before .before .before .before .before .args .template .now) (c .before .before .before .before .before .before .before .before .before .before .before .before .args .i) (c .before .before .before .before .before .before .before .plain-end .result) _ (c .before .before .before .before .before .before .before .before .before .before .before .before .args .out .now) (c .before .before .before .before .before .before .before .before .before .before .before .before .args .used) (c .before .before .before .put-text .result) _ (c .before .before .before .before .before .before .if1 .taken) (omega (arith, c .before .before .before .before .before .before .before .plain-end .ensures .within)) ((plain-next (c .before .before .before .before .before .before .before .before .before .before .before .before .args .spaceless) (c .before .before .before .before .before .before .before .before .before .before .before .before .pre .2 .0) (c .before .before .before .before .before .before .before .before .before .before .before .before .args .template .now) (c .before .before .before .before .before .before .before .before .before .before .before .before .args .i) (c .before .before .before .before .before .before .before .plain-end .result) (c .before .before .before .before .before .before .before .plain-end .ensures) (c .before .before .before .before .before .before .before .before .before .before .before .before .pre .1)) .0) (c .before .before .before .put-text .ensures)), λ s h. rw (c .turned .ensures) (turn-text (c .before .before .before .before .before .before .before .before .before .before .before .before .args .spaceless) s (c .before .before .before .before .before .before .before .before .before .before .before .before .args .template .now) (c .before .before .before .before .before .before .before .before .before .before .before .before .args .i) (c .before .before .before .before .before .before .before .before .before .before .before .before .args .out .now) (c .before .before .before .before .before .before .before .before .before .before .before .before .args .used) _ (c .before .before .before .before .before .before .before .plain-end .result) ((plain-next (c .before .before .before .before .before .before .before .before .before .before .before .before .args .spaceless) s (c .before .before .before .before .before .before .before .before .before .before .before .before .args .template .now) (c .before .before .before .before .before .before .before .before .before .before .before .before .args .i) (c .before .before .before .before .before .before .before .plain-end .result) (c .before .before .before .before .before .before .before .plain-end .ensures) (c .before .before .before .before .before .before .before .before .before .before .before .before .pre .1)) .1) (c .before .before .before .put-text .result) _ (c .before .before .before .put-text .ensures)))
+returns c =
+    let args = c .before .before .before .before .before .before .before .before .before .before .before .before .args in
+    let pre = c .before .before .before .before .before .before .before .before .before .before .before .before .pre in
+    let plain-end = c .before .before .before .before .before .before .before .plain-end in
+    let put-text = c .before .before .before .put-text in
+    let turned = c .turned in
+    (rw (turned .ensures) (turn-on (args .template .now) (args .i) (plain-end .result) _ (args .out .now) (args .used) (put-text .result) _ (c .before .before .before .before .before .before .if1 .taken) (omega (arith, plain-end .ensures .within)) ((plain-next (args .spaceless) (pre .2 .0) (args .template .now) (args .i) (plain-end .result) (plain-end .ensures) (pre .1)) .0) (put-text .ensures)), λ s h. rw (turned .ensures) (turn-text (args .spaceless) s (args .template .now) (args .i) (args .out .now) (args .used) _ (plain-end .result) ((plain-next (args .spaceless) s (args .template .now) (args .i) (plain-end .result) (plain-end .ensures) (pre .1)) .1) (put-text .result) _ (put-text .ensures)))
 
 piece-at-requires : tie.Need-piece-at-requires
 piece-at-requires c κs = search needs
@@ -45,7 +51,12 @@ enum-known-p : tie.Need-enum-known-p
 enum-known-p c = search needs
 
 put-piece-requires : tie.Need-put-piece-requires
-put-piece-requires c κs = let a : Ahead (c .before .before .p .given .0 .0) (c .before .before .p .given .0 .1 .0) (c .before .before .before .before .before .before .before .before .before .before .before .args .template .now) (c .before .before .before .before .before .before .before .before .before .before .before .args .i) = rw (c .before .before .p .given .1) at (c .before .before .before .before .piece-at .ensures .1) in (a .text, c .before .before .before .before .before .before .before .before .before .before .before .pre .2, c .before .before .before .before .before .before .before .before .before .before .before .pre .3)
+put-piece-requires c κs =
+    let args = c .before .before .before .before .before .before .before .before .before .before .before .args in
+    let pre = c .before .before .before .before .before .before .before .before .before .before .before .pre in
+    let p = c .before .before .p in
+    let a : Ahead (p .given .0 .0) (p .given .0 .1 .0) (args .template .now) (args .i) = rw (p .given .1) at (c .before .before .before .before .piece-at .ensures .1) in
+    (a .text, pre .2, pre .3)
 
 turned-requires-2 : tie.Need-turned-requires-2
 turned-requires-2 c κs = search needs
@@ -60,13 +71,28 @@ same-length-2 : tie.Need-same-length-2
 same-length-2 c = search needs
 
 returns-2 : tie.Need-returns-2
-returns-2 c = let e : told (Read (c .before .before .before .before .before .before .p .given .0 .0) (c .before .before .before .before .before .before .p .given .0 .1 .0)) (c .before .before .before .before .before .before .before .before .before .before .before .before .before .before .before .args .template .now) ≡ readAt (c .before .before .before .before .before .before .before .before .before .before .before .before .before .before .before .args .template .now) (c .before .before .before .before .before .before .before .before .before .before .before .before .before .before .before .args .i) = rw (c .before .before .before .before .before .before .p .given .1) at (c .before .before .before .before .before .before .before .before .piece-at .ensures .0) in let a : Ahead (c .before .before .before .before .before .before .p .given .0 .0) (c .before .before .before .before .before .before .p .given .0 .1 .0) (c .before .before .before .before .before .before .before .before .before .before .before .before .before .before .before .args .template .now) (c .before .before .before .before .before .before .before .before .before .before .before .before .before .before .before .args .i) = rw (c .before .before .before .before .before .before .p .given .1) at (c .before .before .before .before .before .before .before .before .piece-at .ensures .1) in (rw (c .turned2 .ensures) (turn-on (c .before .before .before .before .before .before .before .before .before .before .before .before .before .before .before .args .template .now) (c .before .before .before .before .before .before .before .before .before .before .before .before .before .before .before .args .i) (c .before .before .before .before .before .before .p .given .0 .1 .0) _ (c .before .before .before .before .before .before .before .before .before .before .before .before .before .before .before .args .out .now) (c .before .before .before .before .before .before .before .before .before .before .before .before .before .before .before .args .used) (c .before .before .before .put-piece .result) _ (a .forward) (a .inside) ((piece-next (c .before .before .before .before .before .before .before .before .before .before .before .before .before .before .before .args .spaceless) (c .before .before .before .before .before .before .before .before .before .before .before .before .before .before .before .pre .2 .0) (c .before .before .before .before .before .before .before .before .before .before .before .before .before .before .before .args .template .now) (c .before .before .before .before .before .before .before .before .before .before .before .before .before .before .before .args .i) (meaning (c .before .before .before .before .before .before .p .given .0 .0) (c .before .before .before .before .before .before .before .before .before .before .before .before .before .before .before .args .template .now)) (c .before .before .before .before .before .before .p .given .0 .1 .0) (sym e) (c .before .before .before .before .before .before .before .before .before .before .before .before .before .before .before .pre .1)) .0) (c .before .before .before .put-piece .ensures (c .before .before .before .before .before .before .before .before .before .before .before .before .before .before .before .pre .2 .0) (c .before .before .before .before .before .before .before .before .before .before .before .before .before .before .before .pre .2 .1))), λ s h. rw (c .turned2 .ensures) (turn-text (c .before .before .before .before .before .before .before .before .before .before .before .before .before .before .before .args .spaceless) s (c .before .before .before .before .before .before .before .before .before .before .before .before .before .before .before .args .template .now) (c .before .before .before .before .before .before .before .before .before .before .before .before .before .before .before .args .i) (c .before .before .before .before .before .before .before .before .before .before .before .before .before .before .before .args .out .now) (c .before .before .before .before .before .before .before .before .before .before .before .before .before .before .before .args .used) _ (c .before .before .before .before .before .before .p .given .0 .1 .0) ((piece-next (c .before .before .before .before .before .before .before .before .before .before .before .before .before .before .before .args .spaceless) s (c .before .before .before .before .before .before .before .before .before .before .before .before .before .before .before .args .template .now) (c .before .before .before .before .before .before .before .before .before .before .before .before .before .before .before .args .i) (meaning (c .before .before .before .before .before .before .p .given .0 .0) (c .before .before .before .before .before .before .before .before .before .before .before .before .before .before .before .args .template .now)) (c .before .before .before .before .before .before .p .given .0 .1 .0) (sym e) (c .before .before .before .before .before .before .before .before .before .before .before .before .before .before .before .pre .1)) .1) (c .before .before .before .put-piece .result) _ (c .before .before .before .put-piece .ensures s h)))
+returns-2 c =
+    let args = c .before .before .before .before .before .before .before .before .before .before .before .before .before .before .before .args in
+    let pre = c .before .before .before .before .before .before .before .before .before .before .before .before .before .before .before .pre in
+    let piece-at = c .before .before .before .before .before .before .before .before .piece-at in
+    let p = c .before .before .before .before .before .before .p in
+    let put-piece = c .before .before .before .put-piece in
+    let turned2 = c .turned2 in
+    let e : told (Read (p .given .0 .0) (p .given .0 .1 .0)) (args .template .now) ≡ readAt (args .template .now) (args .i) = rw (p .given .1) at (piece-at .ensures .0) in
+    let a : Ahead (p .given .0 .0) (p .given .0 .1 .0) (args .template .now) (args .i) = rw (p .given .1) at (piece-at .ensures .1) in
+    (rw (turned2 .ensures) (turn-on (args .template .now) (args .i) (p .given .0 .1 .0) _ (args .out .now) (args .used) (put-piece .result) _ (a .forward) (a .inside) ((piece-next (args .spaceless) (pre .2 .0) (args .template .now) (args .i) (meaning (p .given .0 .0) (args .template .now)) (p .given .0 .1 .0) (sym e) (pre .1)) .0) (put-piece .ensures (pre .2 .0) (pre .2 .1))), λ s h. rw (turned2 .ensures) (turn-text (args .spaceless) s (args .template .now) (args .i) (args .out .now) (args .used) _ (p .given .0 .1 .0) ((piece-next (args .spaceless) s (args .template .now) (args .i) (meaning (p .given .0 .0) (args .template .now)) (p .given .0 .1 .0) (sym e) (pre .1)) .1) (put-piece .result) _ (put-piece .ensures s h)))
 
 returns-3 : tie.Need-returns-3
-returns-3 c = let e : told End (c .before .before .before .before .before .before .before .before .before .args .template .now) ≡ readAt (c .before .before .before .before .before .before .before .before .before .args .template .now) (c .before .before .before .before .before .before .before .before .before .args .i) = rw (c .enum-told .given .1) at (c .before .before .piece-at .ensures .0) in (tt, λ s h. subst (λ (x : List ℕ). Appended x (c .before .before .before .before .before .before .before .before .before .args .out .now) (c .before .before .before .before .before .before .before .before .before .args .used) (put.Done (c .before .before .before .before .before .before .before .before .before .args .used)) (c .before .before .before .before .before .before .before .before .before .args .out .now)) (piece-end (c .before .before .before .before .before .before .before .before .before .args .spaceless) s (c .before .before .before .before .before .before .before .before .before .args .template .now) (c .before .before .before .before .before .before .before .before .before .args .i) (sym e)) (appended-none (c .before .before .before .before .before .before .before .before .before .args .out .now) (c .before .before .before .before .before .before .before .before .before .args .used) (c .before .before .before .before .before .before .before .before .before .pre .3)))
+returns-3 c =
+    let args = c .before .before .before .before .before .before .before .before .before .args in
+    let e : told End (args .template .now) ≡ readAt (args .template .now) (args .i) = rw (c .enum-told .given .1) at (c .before .before .piece-at .ensures .0) in
+    (tt, λ s h. subst (λ (x : List ℕ). Appended x (args .out .now) (args .used) (put.Done (args .used)) (args .out .now)) (piece-end (args .spaceless) s (args .template .now) (args .i) (sym e)) (appended-none (args .out .now) (args .used) (c .before .before .before .before .before .before .before .before .before .pre .3)))
 
 returns-4 : tie.Need-returns-4
-returns-4 c = let e : told Fault (c .before .before .before .before .before .before .before .before .before .args .template .now) ≡ readAt (c .before .before .before .before .before .before .before .before .before .args .template .now) (c .before .before .before .before .before .before .before .before .before .args .i) = rw (c .enum-told2 .given .1) at (c .before .before .piece-at .ensures .0) in (tt, λ s h. absurd (piece-fault (c .before .before .before .before .before .before .before .before .before .args .template .now) (c .before .before .before .before .before .before .before .before .before .args .i) (sym e) (c .before .before .before .before .before .before .before .before .before .pre .1)))
+returns-4 c =
+    let args = c .before .before .before .before .before .before .before .before .before .args in
+    let e : told Fault (args .template .now) ≡ readAt (args .template .now) (args .i) = rw (c .enum-told2 .given .1) at (c .before .before .piece-at .ensures .0) in
+    (tt, λ s h. absurd (piece-fault (args .template .now) (args .i) (sym e) (c .before .before .before .before .before .before .before .before .before .pre .1)))
 
 pub put-at-spec : {M : Type 1} → statement M
 put-at-spec =

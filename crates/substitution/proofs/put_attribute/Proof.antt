@@ -21,7 +21,10 @@ enum-known-start : tie.Need-enum-known-start
 enum-known-start c = search needs
 
 add-put-trimmed : tie.Need-add-put-trimmed
-add-put-trimmed c = let w : Within (At (c .before .start .given .0 .0) (c .before .start .given .0 .1 .0)) (length (c .before .before .before .before .before .before .before .args .dev .now)) = rw (c .before .start .given .1) at (c .before .before .before .find-attribute .ensures .1) in omega arith
+add-put-trimmed c =
+    let start = c .before .start in
+    let w : Within (At (start .given .0 .0) (start .given .0 .1 .0)) (length (c .before .before .before .before .before .before .before .args .dev .now)) = rw (start .given .1) at (c .before .before .before .find-attribute .ensures .1) in
+    omega arith
 
 sub-put-trimmed : tie.Need-sub-put-trimmed
 sub-put-trimmed c = search needs
@@ -30,7 +33,10 @@ part-put-trimmed-start : tie.Need-part-put-trimmed-start
 part-put-trimmed-start c = search needs
 
 part-put-trimmed-end : tie.Need-part-put-trimmed-end
-part-put-trimmed-end c = let w : Within (At (c .before .start .given .0 .0) (c .before .start .given .0 .1 .0)) (length (c .before .before .before .before .before .before .before .args .dev .now)) = rw (c .before .start .given .1) at (c .before .before .before .find-attribute .ensures .1) in omega arith
+part-put-trimmed-end c =
+    let start = c .before .start in
+    let w : Within (At (start .given .0 .0) (start .given .0 .1 .0)) (length (c .before .before .before .before .before .before .before .args .dev .now)) = rw (start .given .1) at (c .before .before .before .find-attribute .ensures .1) in
+    omega arith
 
 put-trimmed-requires : tie.Need-put-trimmed-requires
 put-trimmed-requires c κs = search needs
@@ -45,13 +51,26 @@ same-length : tie.Need-same-length
 same-length c = search needs
 
 returns : tie.Need-returns
-returns c = λ m h o k. let v = c .before .before .before .before .before .before .start .given .0 .0 in let n = c .before .before .before .before .before .before .start .given .0 .1 .0 in let w : Says (c .before .before .before .before .before .before .before .before .before .before .before .before .args .dev .now) (At v n) (attrOf (c .before .before .before .before .before .before .before .before .before .before .before .before .args .key .now) m) = rw (c .before .before .before .before .before .before .start .given .1) at (c .before .before .before .before .before .before .before .before .find-attribute .ensures .0 m h) in appended-same (c .before .before .before .before .before .before .before .before .before .before .before .before .args .spaceless) _ (trim (orEmpty (firstOf (attrOf (c .before .before .before .before .before .before .before .before .before .before .before .before .args .key .now) m) (attrAt (c .before .before .before .before .before .before .before .before .before .before .before .before .args .key .now) o)))) (c .before .before .before .before .before .before .before .before .before .before .before .before .args .out .now) (c .before .before .before .before .before .before .before .before .before .before .before .before .args .used) (c .before .before .put-trimmed .result) _ (ap trim (sized-part (c .before .before .before .before .before .before .before .before .before .before .before .before .args .dev .now) v n ∙ attribute-here (c .before .before .before .before .before .before .before .before .before .before .before .before .args .dev .now) (c .before .before .before .before .before .before .before .before .before .before .before .before .args .key .now) m o v n w)) (c .before .before .put-trimmed .ensures)
+returns c =
+    let args = c .before .before .before .before .before .before .before .before .before .before .before .before .args in
+    let start = c .before .before .before .before .before .before .start in
+    let put-trimmed = c .before .before .put-trimmed in
+    λ m h o k.
+    let v = start .given .0 .0 in
+    let n = start .given .0 .1 .0 in
+    let w : Says (args .dev .now) (At v n) (attrOf (args .key .now) m) = rw (start .given .1) at (c .before .before .before .before .before .before .before .before .find-attribute .ensures .0 m h) in
+    appended-same (args .spaceless) _ (trim (orEmpty (firstOf (attrOf (args .key .now) m) (attrAt (args .key .now) o)))) (args .out .now) (args .used) (put-trimmed .result) _ (ap trim (sized-part (args .dev .now) v n ∙ attribute-here (args .dev .now) (args .key .now) m o v n w)) (put-trimmed .ensures)
 
 same-length-2 : tie.Need-same-length-2
 same-length-2 c = search needs
 
 returns-2 : tie.Need-returns-2
-returns-2 c = λ m h o k. let w : Says (c .before .before .before .before .before .before .before .before .before .before .args .dev .now) Missing (attrOf (c .before .before .before .before .before .before .before .before .before .before .args .key .now) m) = rw (c .before .before .before .before .enum-told .given .1) at (c .before .before .before .before .before .before .find-attribute .ensures .0 m h) in appended-same (c .before .before .before .before .before .before .before .before .before .before .args .spaceless) _ (trim (orEmpty (firstOf (attrOf (c .before .before .before .before .before .before .before .before .before .before .args .key .now) m) (attrAt (c .before .before .before .before .before .before .before .before .before .before .args .key .now) o)))) (c .before .before .before .before .before .before .before .before .before .before .args .out .now) (c .before .before .before .before .before .before .before .before .before .before .args .used) (c .before .before .put-parent-attribute .result) _ (ap trim (attribute-there (c .before .before .before .before .before .before .before .before .before .before .args .key .now) m o w)) (c .before .before .put-parent-attribute .ensures o k)
+returns-2 c =
+    let args = c .before .before .before .before .before .before .before .before .before .before .args in
+    let put-parent-attribute = c .before .before .put-parent-attribute in
+    λ m h o k.
+    let w : Says (args .dev .now) Missing (attrOf (args .key .now) m) = rw (c .before .before .before .before .enum-told .given .1) at (c .before .before .before .before .before .before .find-attribute .ensures .0 m h) in
+    appended-same (args .spaceless) _ (trim (orEmpty (firstOf (attrOf (args .key .now) m) (attrAt (args .key .now) o)))) (args .out .now) (args .used) (put-parent-attribute .result) _ (ap trim (attribute-there (args .key .now) m o w)) (put-parent-attribute .ensures o k)
 
 pub put-attribute-spec : {M : Type 1} → statement M
 put-attribute-spec =

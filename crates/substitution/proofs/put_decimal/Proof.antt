@@ -35,7 +35,11 @@ same-length : tie.Need-same-length
 same-length c = search needs
 
 returns : tie.Need-returns
-returns c = appended-same (c .before .before .before .before .before .before .before .before .before .before .before .before .args .spaceless) _ (decimal-text (numberAt (c .before .before .before .before .before .before .before .before .before .before .before .before .args .dev .now) (c .before .before .before .before .before .before .before .before .before .before .before .before .args .at) (c .before .before .before .before .before .before .before .before .before .before .before .before .args .n))) (c .before .before .before .before .before .before .before .before .before .before .before .before .args .out .now) (c .before .before .before .before .before .before .before .before .before .before .before .before .args .used) (c .before .before .put-text .result) _ (end-part (c .before .before .before .before .before .before .before .decimal .result .digits) 10 (c .before .before .before .before .before .before .before .decimal .result .start) (c .before .before .before .before .before .before .before .decimal .ensures .size) ∙ c .before .before .before .before .before .before .before .decimal .ensures .same ∙ ap decimal-text (c .before .before .before .before .before .before .before .before .before .take .ensures .value)) (c .before .before .put-text .ensures)
+returns c =
+    let args = c .before .before .before .before .before .before .before .before .before .before .before .before .args in
+    let decimal = c .before .before .before .before .before .before .before .decimal in
+    let put-text = c .before .before .put-text in
+    appended-same (args .spaceless) _ (decimal-text (numberAt (args .dev .now) (args .at) (args .n))) (args .out .now) (args .used) (put-text .result) _ (end-part (decimal .result .digits) 10 (decimal .result .start) (decimal .ensures .size) ∙ decimal .ensures .same ∙ ap decimal-text (c .before .before .before .before .before .before .before .before .before .take .ensures .value)) (put-text .ensures)
 
 pub put-decimal-spec : {M : Type 1} → statement M
 put-decimal-spec =

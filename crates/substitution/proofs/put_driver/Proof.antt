@@ -13,7 +13,10 @@ enum-known-matched : tie.Need-enum-known-matched
 enum-known-matched c = search needs
 
 driver-requires : tie.Need-driver-requires
-driver-requires c κs = let w : MatchedStands (c .before .before .before .before .before .before .args .dev .now) (At (c .before .before .matched .given .0 .0)) = rw (c .before .before .matched .given .1) at (c .before .before .before .before .before .before .pre .0) in w
+driver-requires c κs =
+    let matched = c .before .before .matched in
+    let w : MatchedStands (c .before .before .before .before .before .before .args .dev .now) (At (matched .given .0 .0)) = rw (matched .given .1) at (c .before .before .before .before .before .before .pre .0) in
+    w
 
 put-text-requires : tie.Need-put-text-requires
 put-text-requires c κs = search needs
@@ -25,10 +28,20 @@ same-length : tie.Need-same-length
 same-length c = search needs
 
 returns : tie.Need-returns
-returns c = λ o h. let w : MatchedIs (c .before .before .before .before .before .before .before .before .before .before .args .dev .now) (At (c .before .before .before .before .before .before .matched .given .0 .0)) o = rw (c .before .before .before .before .before .before .matched .given .1) at h in appended-same (c .before .before .before .before .before .before .before .before .before .before .args .spaceless) _ (ofMatched o (λ n. n .driver)) (c .before .before .before .before .before .before .before .before .before .before .args .out .now) (c .before .before .before .before .before .before .before .before .before .before .args .used) (c .before .before .put-text .result) _ (c .before .before .before .driver .ensures (w .0) (w .2) ∙ matched-text (λ n. n .driver) o (w .0) (w .1)) (c .before .before .put-text .ensures)
+returns c =
+    let args = c .before .before .before .before .before .before .before .before .before .before .args in
+    let matched = c .before .before .before .before .before .before .matched in
+    let put-text = c .before .before .put-text in
+    λ o h.
+    let w : MatchedIs (args .dev .now) (At (matched .given .0 .0)) o = rw (matched .given .1) at h in
+    appended-same (args .spaceless) _ (ofMatched o (λ n. n .driver)) (args .out .now) (args .used) (put-text .result) _ (c .before .before .before .driver .ensures (w .0) (w .2) ∙ matched-text (λ n. n .driver) o (w .0) (w .1)) (put-text .ensures)
 
 returns-2 : tie.Need-returns-2
-returns-2 c = λ o h. let w : MatchedIs (c .before .before .before .before .args .dev .now) Nothing o = rw (c .enum-told .given .1) at h in nothing-put (c .before .before .before .before .args .spaceless) (ofMatched o (λ n. n .driver)) (c .before .before .before .before .args .out .now) (c .before .before .before .before .args .used) (unmatched-text (λ n. n .driver) o w) (c .before .before .before .before .pre .1)
+returns-2 c =
+    let args = c .before .before .before .before .args in
+    λ o h.
+    let w : MatchedIs (args .dev .now) Nothing o = rw (c .enum-told .given .1) at h in
+    nothing-put (args .spaceless) (ofMatched o (λ n. n .driver)) (args .out .now) (args .used) (unmatched-text (λ n. n .driver) o w) (c .before .before .before .before .pre .1)
 
 pub put-driver-spec : {M : Type 1} → statement M
 put-driver-spec =

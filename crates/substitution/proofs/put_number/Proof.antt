@@ -31,7 +31,12 @@ same-length : tie.Need-same-length
 same-length c = search needs
 
 returns : tie.Need-returns
-returns c = λ m h. appended-same (c .before .before .before .before .before .before .before .before .before .args .spaceless) _ (endDigits (nameOf m)) (c .before .before .before .before .before .before .before .before .before .args .out .now) (c .before .before .before .before .before .before .before .before .before .args .used) (c .before .before .put-text .result) _ (end-part (c .before .before .before .before .before .before .name .result .now) (length (c .before .before .before .before .before .before .name .result .now)) (c .before .before .before .before .before .digits-start .result) refl ∙ c .before .before .before .before .before .digits-start .ensures .1 ∙ ap endDigits (c .before .before .before .before .before .before .name .ensures m h)) (c .before .before .put-text .ensures)
+returns c =
+    let args = c .before .before .before .before .before .before .before .before .before .args in
+    let name = c .before .before .before .before .before .before .name in
+    let digits-start = c .before .before .before .before .before .digits-start in
+    let put-text = c .before .before .put-text in
+    λ m h. appended-same (args .spaceless) _ (endDigits (nameOf m)) (args .out .now) (args .used) (put-text .result) _ (end-part (name .result .now) (length (name .result .now)) (digits-start .result) refl ∙ digits-start .ensures .1 ∙ ap endDigits (name .ensures m h)) (put-text .ensures)
 
 pub put-number-spec : {M : Type 1} → statement M
 put-number-spec =

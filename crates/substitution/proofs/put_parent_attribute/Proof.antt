@@ -15,7 +15,10 @@ enum-known-matched : tie.Need-enum-known-matched
 enum-known-matched c = search needs
 
 attribute-requires : tie.Need-attribute-requires
-attribute-requires c κs = let w : MatchedStands (c .before .before .before .before .before .before .args .dev .now) (At (c .before .matched .given .0 .0)) = rw (c .before .matched .given .1) at (c .before .before .before .before .before .before .pre .0) in w
+attribute-requires c κs =
+    let matched = c .before .matched in
+    let w : MatchedStands (c .before .before .before .before .before .before .args .dev .now) (At (matched .given .0 .0)) = rw (matched .given .1) at (c .before .before .before .before .before .before .pre .0) in
+    w
 
 put-trimmed-requires : tie.Need-put-trimmed-requires
 put-trimmed-requires c κs = search needs
@@ -27,10 +30,20 @@ same-length : tie.Need-same-length
 same-length c = search needs
 
 returns : tie.Need-returns
-returns c = λ o h. let w : MatchedIs (c .before .before .before .before .before .before .before .before .before .before .before .args .dev .now) (At (c .before .before .before .before .before .before .matched .given .0 .0)) o = rw (c .before .before .before .before .before .before .matched .given .1) at h in appended-same (c .before .before .before .before .before .before .before .before .before .before .before .args .spaceless) _ (trim (orEmpty (attrAt (c .before .before .before .before .before .before .before .before .before .before .before .args .key .now) o))) (c .before .before .before .before .before .before .before .before .before .before .before .args .out .now) (c .before .before .before .before .before .before .before .before .before .before .before .args .used) (c .before .before .put-trimmed .result) _ (ap trim (c .before .before .before .before .attribute .ensures (w .0) (w .2) ∙ attribute-matched (c .before .before .before .before .before .before .before .before .before .before .before .args .key .now) o (w .0) (w .1))) (c .before .before .put-trimmed .ensures)
+returns c =
+    let args = c .before .before .before .before .before .before .before .before .before .before .before .args in
+    let matched = c .before .before .before .before .before .before .matched in
+    let put-trimmed = c .before .before .put-trimmed in
+    λ o h.
+    let w : MatchedIs (args .dev .now) (At (matched .given .0 .0)) o = rw (matched .given .1) at h in
+    appended-same (args .spaceless) _ (trim (orEmpty (attrAt (args .key .now) o))) (args .out .now) (args .used) (put-trimmed .result) _ (ap trim (c .before .before .before .before .attribute .ensures (w .0) (w .2) ∙ attribute-matched (args .key .now) o (w .0) (w .1))) (put-trimmed .ensures)
 
 returns-2 : tie.Need-returns-2
-returns-2 c = λ o h. let w : MatchedIs (c .before .before .before .before .before .args .dev .now) Nothing o = rw (c .enum-told .given .1) at h in nothing-put (c .before .before .before .before .before .args .spaceless) (trim (orEmpty (attrAt (c .before .before .before .before .before .args .key .now) o))) (c .before .before .before .before .before .args .out .now) (c .before .before .before .before .before .args .used) (attribute-none (c .before .before .before .before .before .args .key .now) o w) (c .before .before .before .before .before .pre .1)
+returns-2 c =
+    let args = c .before .before .before .before .before .args in
+    λ o h.
+    let w : MatchedIs (args .dev .now) Nothing o = rw (c .enum-told .given .1) at h in
+    nothing-put (args .spaceless) (trim (orEmpty (attrAt (args .key .now) o))) (args .out .now) (args .used) (attribute-none (args .key .now) o w) (c .before .before .before .before .before .pre .1)
 
 pub put-parent-attribute-spec : {M : Type 1} → statement M
 put-parent-attribute-spec =

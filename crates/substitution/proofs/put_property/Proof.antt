@@ -15,7 +15,10 @@ same-length : tie.Need-same-length
 same-length c = search needs
 
 returns : tie.Need-returns
-returns c = appended-same (c .before .before .before .before .before .before .before .before .args .spaceless) _ _ (c .before .before .before .before .before .before .before .before .args .out .now) (c .before .before .before .before .before .before .before .before .args .used) (c .before .before .put-text .result) _ (c .before .before .before .value-of .ensures) (c .before .before .put-text .ensures)
+returns c =
+    let args = c .before .before .before .before .before .before .before .before .args in
+    let put-text = c .before .before .put-text in
+    appended-same (args .spaceless) _ _ (args .out .now) (args .used) (put-text .result) _ (c .before .before .before .value-of .ensures) (put-text .ensures)
 
 pub put-property-spec : {M : Type 1} → statement M
 put-property-spec = tie.close (tie.spec value-of-requires put-text-requires same-length returns)

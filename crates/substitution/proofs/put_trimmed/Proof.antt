@@ -30,7 +30,11 @@ same-length : tie.Need-same-length
 same-length c = search needs
 
 returns : tie.Need-returns
-returns c = appended-same (c .before .before .before .before .before .before .before .before .args .spaceless) _ (trim (c .before .before .before .before .before .before .before .before .args .value .now)) (c .before .before .before .before .before .before .before .before .args .out .now) (c .before .before .before .before .before .before .before .before .args .used) (c .before .before .put-text .result) _ (ap-at (λ i. take i (c .before .before .before .before .before .before .before .before .args .value .now)) (c .before .before .before .before .before .trimmed-len .result - 0) (c .before .before .before .before .before .trimmed-len .result) (omega arith) ∙ c .before .before .before .before .before .trimmed-len .ensures .1) (c .before .before .put-text .ensures)
+returns c =
+    let args = c .before .before .before .before .before .before .before .before .args in
+    let trimmed-len = c .before .before .before .before .before .trimmed-len in
+    let put-text = c .before .before .put-text in
+    appended-same (args .spaceless) _ (trim (args .value .now)) (args .out .now) (args .used) (put-text .result) _ (ap-at (λ i. take i (args .value .now)) (trimmed-len .result - 0) (trimmed-len .result) (omega arith) ∙ trimmed-len .ensures .1) (put-text .ensures)
 
 pub put-trimmed-spec : {M : Type 1} → statement M
 put-trimmed-spec =

@@ -32,10 +32,20 @@ enum-known-next : tie.Need-enum-known-next Inv-loop μ-loop
 enum-known-next c = search needs
 
 loop-less : tie.Need-loop-less Inv-loop μ-loop
-loop-less c = let w : Onward (c .before .before .before .before .before .before .before .before .before .before .before .before .args .template .now) (c .before .before .before .before .before .before .before .loop .i) (c .before .next .given .0 .0) (c .before .next .given .0 .1 .0) (length (c .before .before .before .before .before .before .before .loop .out)) = rw (c .before .next .given .1) at (c .before .before .before .before .before .put-at .ensures .0) in omega (arith, w .forward, w .inside)
+loop-less c =
+    let loop = c .before .before .before .before .before .before .before .loop in
+    let next = c .before .next in
+    let w : Onward (c .before .before .before .before .before .before .before .before .before .before .before .before .args .template .now) (loop .i) (next .given .0 .0) (next .given .0 .1 .0) (length (loop .out)) = rw (next .given .1) at (c .before .before .before .before .before .put-at .ensures .0) in
+    omega (arith, w .forward, w .inside)
 
 loop-again : tie.Need-loop-again Inv-loop μ-loop
-loop-again c = let w : Onward (c .before .before .before .before .before .before .before .before .before .before .before .before .args .template .now) (c .before .before .before .before .before .before .before .loop .i) (c .before .next .given .0 .0) (c .before .next .given .0 .1 .0) (length (c .before .before .before .before .before .before .before .loop .out)) = rw (c .before .next .given .1) at (c .before .before .before .before .before .put-at .ensures .0) in (w .inside, w .sound, omega (arith, w .room), omega arith, λ s h r m z. let t : Turned (c .before .before .before .before .before .before .before .before .before .before .before .before .args .spaceless) s (c .before .before .before .before .before .before .before .before .before .before .before .before .args .template .now) (c .before .before .before .before .before .before .before .loop .i) (c .before .before .before .before .before .before .before .loop .out) (c .before .before .before .before .before .before .before .loop .used) (Next (c .before .next .given .0 .0) (c .before .next .given .0 .1 .0)) _ = rw (c .before .next .given .1) at (c .before .before .before .before .before .put-at .ensures .1 s h) in c .before .before .before .before .before .before .before .loop .inv .4 s h r m (t r m z))
+loop-again c =
+    let args = c .before .before .before .before .before .before .before .before .before .before .before .before .args in
+    let loop = c .before .before .before .before .before .before .before .loop in
+    let put-at = c .before .before .before .before .before .put-at in
+    let next = c .before .next in
+    let w : Onward (args .template .now) (loop .i) (next .given .0 .0) (next .given .0 .1 .0) (length (loop .out)) = rw (next .given .1) at (put-at .ensures .0) in
+    (w .inside, w .sound, omega (arith, w .room), omega arith, λ s h r m z. let t : Turned (args .spaceless) s (args .template .now) (loop .i) (loop .out) (loop .used) (Next (next .given .0 .0) (next .given .0 .1 .0)) _ = rw (next .given .1) at (put-at .ensures .1 s h) in loop .inv .4 s h r m (t r m z))
 
 enum-told : tie.Need-enum-told Inv-loop μ-loop
 enum-told c = search needs
@@ -44,7 +54,12 @@ same-length : tie.Need-same-length Inv-loop μ-loop
 same-length c = omega arith
 
 returns : tie.Need-returns Inv-loop μ-loop
-returns c = λ s h. let t : Turned (c .before .before .before .before .before .before .before .before .before .before .before .args .spaceless) s (c .before .before .before .before .before .before .before .before .before .before .before .args .template .now) (c .before .before .before .before .before .before .loop .i) (c .before .before .before .before .before .before .loop .out) (c .before .before .before .before .before .before .loop .used) End _ = rw (c .enum-told .given .1) at (c .before .before .before .before .put-at .ensures .1 s h) in filled-text (c .before .before .before .before .before .before .before .before .before .before .before .args .spaceless) s (c .before .before .before .before .before .before .before .before .before .before .before .args .template .now) (c .before .before .before .before .before .before .before .before .before .before .before .args .out .now) (c .before .before .before .before .before .before .before .before .before .before .before .pre .2) (c .before .before .before .before .before .before .loop .used) _ (c .before .before .before .before .before .before .loop .inv .4 s h (put.Done (c .before .before .before .before .before .before .loop .used)) _ t)
+returns c =
+    let args = c .before .before .before .before .before .before .before .before .before .before .before .args in
+    let loop = c .before .before .before .before .before .before .loop in
+    λ s h.
+    let t : Turned (args .spaceless) s (args .template .now) (loop .i) (loop .out) (loop .used) End _ = rw (c .enum-told .given .1) at (c .before .before .before .before .put-at .ensures .1 s h) in
+    filled-text (args .spaceless) s (args .template .now) (args .out .now) (c .before .before .before .before .before .before .before .before .before .before .before .pre .2) (loop .used) _ (loop .inv .4 s h (put.Done (loop .used)) _ t)
 
 enum-told-2 : tie.Need-enum-told-2 Inv-loop μ-loop
 enum-told-2 c = search needs
@@ -53,7 +68,12 @@ same-length-2 : tie.Need-same-length-2 Inv-loop μ-loop
 same-length-2 c = omega arith
 
 returns-2 : tie.Need-returns-2 Inv-loop μ-loop
-returns-2 c = λ s h. let t : Turned (c .before .before .before .before .before .before .before .before .before .before .before .args .spaceless) s (c .before .before .before .before .before .before .before .before .before .before .before .args .template .now) (c .before .before .before .before .before .before .loop .i) (c .before .before .before .before .before .before .loop .out) (c .before .before .before .before .before .before .loop .used) Full (c .before .before .before .before .before .before .loop .out) = rw (c .enum-told2 .given .1) at (c .before .before .before .before .put-at .ensures .1 s h) in filled-full (c .before .before .before .before .before .before .before .before .before .before .before .args .spaceless) s (c .before .before .before .before .before .before .before .before .before .before .before .args .template .now) (c .before .before .before .before .before .before .before .before .before .before .before .args .out .now) (c .before .before .before .before .before .before .before .before .before .before .before .pre .2) (c .before .before .before .before .before .before .loop .out) (c .before .before .before .before .before .before .loop .inv .4 s h put.Full (c .before .before .before .before .before .before .loop .out) t)
+returns-2 c =
+    let args = c .before .before .before .before .before .before .before .before .before .before .before .args in
+    let loop = c .before .before .before .before .before .before .loop in
+    λ s h.
+    let t : Turned (args .spaceless) s (args .template .now) (loop .i) (loop .out) (loop .used) Full (loop .out) = rw (c .enum-told2 .given .1) at (c .before .before .before .before .put-at .ensures .1 s h) in
+    filled-full (args .spaceless) s (args .template .now) (args .out .now) (c .before .before .before .before .before .before .before .before .before .before .before .pre .2) (loop .out) (loop .inv .4 s h put.Full (loop .out) t)
 
 pub substitute-spec : {M : Type 1} → statement M
 substitute-spec =
