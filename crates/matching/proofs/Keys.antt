@@ -2,7 +2,7 @@
 -- Assumes nothing.
 use Prim.Native.Nat.{ℕ}
 use mathlib.Core.Path.{_≡_, refl, sym, ap, _∙_}
-use mathlib.Core.Bool.{Bool, true, false, _||_}
+use mathlib.Core.Bool.{Bool, true, false, true≢false}
 use mathlib.Core.List.{List}
 use Rattle.rules.specs.Key.{Key, ACTION, DEVPATH, KERNEL, KERNELS, SUBSYSTEM, SUBSYSTEMS, DRIVER, DRIVERS, ATTR, ATTRS, ENV, SYMLINK, TAG, OWNER, GROUP, MODE, RUN, LABEL, GOTO, OPTIONS, Op, equal, unequal, assign, add, remove, final, isMatch}
 use Rattle.rules.specs.Pair.{Pair}
@@ -98,6 +98,30 @@ parent-key LABEL = refl
 parent-key GOTO = refl
 parent-key OPTIONS = refl
 
+-- another key asks nothing of the chain
+pub other-key : (k : Key) (m : Member) (p : Pair) → isParent k ≡ false → parentHolds k m p ≡ true
+unfolding parentHolds
+other-key ACTION m p e = refl
+other-key DEVPATH m p e = refl
+other-key KERNEL m p e = refl
+other-key KERNELS m p e = absurd (true≢false e)
+other-key SUBSYSTEM m p e = refl
+other-key SUBSYSTEMS m p e = absurd (true≢false e)
+other-key DRIVER m p e = refl
+other-key DRIVERS m p e = absurd (true≢false e)
+other-key ATTR m p e = refl
+other-key ATTRS m p e = absurd (true≢false e)
+other-key ENV m p e = refl
+other-key SYMLINK m p e = refl
+other-key TAG m p e = refl
+other-key OWNER m p e = refl
+other-key GROUP m p e = refl
+other-key MODE m p e = refl
+other-key RUN m p e = refl
+other-key LABEL m p e = refl
+other-key GOTO m p e = refl
+other-key OPTIONS m p e = refl
+
 -- ---- as code asks
 
 module _ (line : List ℕ) (r : pairs.Pair) (u : Subject) (e : u ≡ subjectOf (keyOf (r .key))) where
@@ -117,5 +141,5 @@ module _ (line : List ℕ) (r : pairs.Pair) (u : Subject) (e : u ≡ subjectOf (
       parent-subject (keyOf (r .key)) d m s (pairOf line r)
       ∙ sym (h ∙ ap (λ (w : Subject). pairOn w (pairOf line r) d m s) (f ∙ ap atParent e))
 
-  pub parent-before : (before after : Bool) → after ≡ (before || isParentSubject u) → after ≡ (before || isParent (keyOf (r .key)))
-  parent-before before after f = f ∙ ap (λ (x : Bool). before || x) (ap isParentSubject e ∙ sym (parent-key (keyOf (r .key))))
+  pub parent-here : (b : Bool) → b ≡ isParentSubject u → isParent (keyOf (r .key)) ≡ b
+  parent-here b f = parent-key (keyOf (r .key)) ∙ sym (f ∙ ap isParentSubject e)

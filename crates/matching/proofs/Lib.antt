@@ -1,5 +1,6 @@
 pub mod Keys
 pub mod Tests
+pub mod Pending
 pub mod Lists
 pub mod Search
 pub mod Begin

@@ -12,9 +12,6 @@ use Rattle.rules.specs.Pair.{Pair}
 use Rattle.device.specs.Device.{Member, Device, chain}
 use Rattle.outcome.specs.State.{State}
 use Rattle.engine.specs.Match.{allHold, hasParents, parentsHold, nearest, placeOf, matched}
-use Rattle.matching.specs.Answers.{ownOf}
-use Rattle.matching.specs.declared.Own.{Own}
-use Rattle.matching.specs.declared.Own.the-variants.{Fail, Hold, HoldWithParents}
 
 nth-drop : {A : Type 0} (xs : List A) (k : ℕ) (x : A) → nth k xs ≡ some x → drop k xs ≡ x ∷ drop (suc k) xs
 nth-drop [] k x e = let z : _≡_ {A = ℕ} 0 1 = cc in absurd (never z)
@@ -46,18 +43,17 @@ module _ (ms : List Member) (k : ℕ) (ps : List Pair) where
   unfolding nearest
   near-none h = ap (λ (x : List Member). nearest (k + 1) x ps) (drop-of-length-le ms h)
 
+-- pairs that hold at the same devices
+pub near-alike : (ps qs : List Pair) → ((m : Member) → parentsHold m ps ≡ parentsHold m qs) → (n : ℕ) (ms : List Member) → nearest n ms ps ≡ nearest n ms qs
+unfolding nearest
+near-alike ps qs e n [] = refl
+near-alike ps qs e n (m ∷ ms) =
+    near-step n m ms ps (parentsHold m qs) (e m)
+    ∙ ap (λ (o : Option ℕ). elim (parentsHold m qs) [ true ↦ some n | false ↦ o ]) (near-alike ps qs e (suc n) ms)
+
 -- ---- a match
 
-abbrev pub byOwn : Own → Option ℕ → Option ℕ
-byOwn Fail near = none
-byOwn Hold near = some 0
-byOwn HoldWithParents near = near
-
-by-own : (a b : Bool) (near : Option ℕ) → elim a [ true ↦ elim b [ true ↦ near | false ↦ some 0 ] | false ↦ none ] ≡ byOwn (ownOf a b) near
-by-own true true near = refl
-by-own true false near = refl
-by-own false b near = refl
-
-pub matched-own : (d : Device) (s : State) (ps : List Pair) → matched d s ps ≡ byOwn (ownOf (allHold d s ps) (hasParents ps)) (nearest 1 (chain d) ps)
+pub matched-by : (d : Device) (s : State) (ps : List Pair) (a b : Bool) → allHold d s ps ≡ a → hasParents ps ≡ b
+    → matched d s ps ≡ elim a [ true ↦ elim b [ true ↦ nearest 1 (chain d) ps | false ↦ some 0 ] | false ↦ none ]
 unfolding matched placeOf
-matched-own d s ps = by-own (allHold d s ps) (hasParents ps) (nearest 1 (chain d) ps)
+matched-by d s ps a b e f = ap₂ (λ (x y : Bool). elim x [ true ↦ elim y [ true ↦ nearest 1 (chain d) ps | false ↦ some 0 ] | false ↦ none ]) e f

@@ -1,27 +1,17 @@
--- Tests of each pair of an accepted line, from left to right: a turn of a loop.
+-- A test of every pair of an accepted line, from left to right: a turn of a loop.
 -- Assumes nothing.
 use Prim.Native.Nat.{ℕ, _+_, _≤_, _<_}
-use mathlib.Core.Path.{_≡_, refl, sym, ap, _∙_}
-use mathlib.Core.Bool.{Bool, true, false, _&&_, _||_}
+use mathlib.Core.Path.{_≡_, _∙_}
+use mathlib.Core.Bool.{Bool, true, false, _&&_}
 use mathlib.Core.List.{List, [], _∷_}
 use lib.ListN.{length, drop}
-use Rattle.lists.specs.Lists.{all, any}
+use Rattle.lists.specs.Lists.{all}
 use Rattle.rules.specs.Pair as rules
 use Rattle.rules.specs.Pairs.{Pairs}
 use Rattle.pairs.specs.Answers.{pairOf}
 use Rattle.pairs.specs.declared.Pair.{Pair}
 use Rattle.rule_pairs.specs.Here.{Here}
 use Rattle.rule_pairs.proofs.Walk.{last-pair, more-pairs, Left}
-
-pub or-none : (a : Bool) → (a || false) ≡ a
-or-none true = refl
-or-none false = refl
-
-or-later : (a b c : Bool) → (a || (b || c)) ≡ ((a || b) || c)
-or-later true b c = refl
-or-later false b c = refl
-
--- ---- every pair passes
 
 module _ (test : rules.Pair → Bool) (line : List ℕ) (at i : ℕ) (r : Pair) (here : Here line i r) (left : Left line at i (all test) (all test)) where
   pub all-fails : test (pairOf line r) ≡ false → (ps : List rules.Pair) → Pairs (drop at line) ps → all test ps ≡ false
@@ -44,26 +34,3 @@ module _ (test : rules.Pair → Bool) (line : List ℕ) (at i : ℕ) (r : Pair) 
       go : (qs : List rules.Pair) × Pairs (drop i line) qs × (all test ps ≡ all test qs) → (qs : List rules.Pair) × Pairs (drop (r .next + 1) line) qs × (all test ps ≡ all test qs)
       go ([], q, w) = absurd q
       go (p ∷ qs, q, w) = let f = here p qs q in (qs, more-pairs line i r p qs f b, w ∙ rw (← f .is, t))
-
--- ---- some pair passes, before or from here on
-
-module _ (test : rules.Pair → Bool) (line : List ℕ) (at i : ℕ) (r : Pair) (here : Here line i r) (before after : Bool)
-    (e : after ≡ (before || test (pairOf line r))) (left : Left line at i (any test) (λ qs. before || any test qs)) where
-  pub any-last : length line ≤ r .next → (ps : List rules.Pair) → Pairs (drop at line) ps → any test ps ≡ after
-  any-last b ps h = go (left ps h)
-    where
-      go : (qs : List rules.Pair) × Pairs (drop i line) qs × (any test ps ≡ (before || any test qs)) → any test ps ≡ after
-      go ([], q, w) = absurd q
-      go (p ∷ qs, q, w) =
-          let f = here p qs q in
-          w ∙ rw (← f .is, last-pair line i r p qs f b) (ap (λ (x : Bool). before || x) (or-none (test (pairOf line r))) ∙ sym e)
-
-  pub any-next : r .next < length line → Left line at (r .next + 1) (any test) (λ qs. after || any test qs)
-  any-next b ps h = go (left ps h)
-    where
-      go : (qs : List rules.Pair) × Pairs (drop i line) qs × (any test ps ≡ (before || any test qs))
-          → (qs : List rules.Pair) × Pairs (drop (r .next + 1) line) qs × (any test ps ≡ (after || any test qs))
-      go ([], q, w) = absurd q
-      go (p ∷ qs, q, w) =
-          let f = here p qs q in
-          (qs, more-pairs line i r p qs f b, w ∙ rw (← f .is, e) (or-later before (test (pairOf line r)) (any test qs)))

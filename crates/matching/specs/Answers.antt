@@ -1,18 +1,19 @@
 -- What the code's answers stand for in the definitions.
 -- Assumes nothing.
 use Prim.Native.Nat.{ℕ, _≤_}
-use mathlib.Core.Bool.{Bool, true, false}
+use mathlib.Core.Bool.{Bool}
 use mathlib.Core.Option.{Option, none, some}
+use Rattle.lists.specs.Lists.{pick}
 use Rattle.matching.specs.declared.Own.{Own}
 use Rattle.matching.specs.declared.Own.the-variants.{Fail, Hold, HoldWithParents}
 use Rattle.matching.specs.declared.Matched.{Matched}
 use Rattle.matching.specs.declared.Matched.the-variants.{At, Missed}
 
--- whether the keys of the event device and the outcome hold, and whether there are parent keys
-abbrev pub ownOf : Bool → Bool → Own
-ownOf true true = HoldWithParents
-ownOf true false = Hold
-ownOf false parents = Fail
+-- the first parent key so far, where the pair at a place has one or has none
+abbrev pub orParent : Own → Bool → ℕ → Own
+orParent Fail parent at = Fail
+orParent Hold parent at = pick parent (HoldWithParents at) Hold
+orParent (HoldWithParents first) parent at = HoldWithParents first
 
 -- the place of the matched device
 abbrev pub placeIn : Matched → Option ℕ

@@ -2,7 +2,6 @@
 // keys hold.
 
 ghost use mathlib.Core.Path.{_≡_};
-ghost use mathlib.Core.Bool.{true, _||_};
 ghost use mathlib.Core.List.{List};
 ghost use lib.ListN.{drop};
 ghost use Rattle.rules.specs.Pair as rules;
@@ -14,7 +13,7 @@ ghost use Rattle.rule_pairs.specs.Here.{PairsFrom};
 ghost use Rattle.matching.specs.Subjects.{subjectOf, isParentSubject, atEvent, atParent, subjectHolds, pairOn};
 ghost use Rattle.outcome_target.specs.Held.{Holds};
 ghost use Rattle.matching.specs.Judging.{Judging, Begun, ListHolds, OwnOf, NearestOf, MatchedOf};
-ghost use Rattle.matching.specs.Answers.{ownOf};
+ghost use Rattle.matching.specs.Answers.{orParent};
 use device_lookup::Chain;
 use keys::Key;
 use keys::Operator;
@@ -91,17 +90,16 @@ fn at_parent(subject: Subject) -> Subject
     }
 }
 
-// Whether there was a parent key before or this is one.
-fn or_parent(before: bool, subject: Subject) -> bool
-    ensures { λ r. ⌜ r ≡ (before || isParentSubject subject) ⌝ }
+fn is_parent(subject: Subject) -> bool
+    ensures { λ r. ⌜ r ≡ isParentSubject subject ⌝ }
 {
     match subject {
-        Subject::Action => before,
-        Subject::Device(_) => before,
+        Subject::Action => false,
+        Subject::Device(_) => false,
         Subject::Parent(_) => true,
-        Subject::Property => before,
-        Subject::List(_) => before,
-        Subject::Nothing => before,
+        Subject::Property => false,
+        Subject::List(_) => false,
+        Subject::Nothing => false,
     }
 }
 
@@ -196,21 +194,26 @@ fn pair_holds(
 
 // ---- all pairs at the event device
 
-// Whether the match keys hold that are judged at the event device and the outcome, and, if so, whether there are parent
-// keys besides.
+// Whether the match keys hold that are judged at the event device and the outcome, and, if so, where the first parent
+// key stands, if there is one.
 pub enum Own {
     Fail,
     Hold,
-    HoldWithParents,
+    HoldWithParents(usize),
 }
 
-fn held(parents: bool) -> Own
-    ensures { λ r. ⌜ r ≡ ownOf true parents ⌝ }
+// The first parent key so far, where the pair at a place has one or has none.
+fn or_parent(before: Own, parent: bool, at: usize) -> Own
+    ensures { λ r. ⌜ r ≡ orParent before parent at ⌝ }
 {
-    if parents {
-        Own::HoldWithParents
-    } else {
-        Own::Hold
+    match before {
+        Own::Fail => Own::Fail,
+        Own::Hold => if parent {
+            Own::HoldWithParents(at)
+        } else {
+            Own::Hold
+        },
+        Own::HoldWithParents(first) => Own::HoldWithParents(first),
     }
 }
 
@@ -218,7 +221,7 @@ fn own_keys(line: &[u8], at: usize, dev: &[u8], event: usize, t: &[u8], layout: 
     requires { ⌜ PairsFrom (now line) at × Judging (now dev) event (now t) layout ⌝ }
     ensures { λ r. ⌜ OwnOf (now (line .entry)) at (now (dev .entry)) event (now (t .entry)) layout r ⌝ }
 {
-    let mut parents = false;
+    let mut own = Own::Hold;
     let mut i = at;
     loop {
         let pair = rule_pairs::pair_at(line, i);
@@ -237,9 +240,9 @@ fn own_keys(line: &[u8], at: usize, dev: &[u8], event: usize, t: &[u8], layout: 
         ) {
             return Own::Fail;
         }
-        parents = or_parent(parents, subject);
+        own = or_parent(own, is_parent(subject), i);
         if line.len() <= next {
-            return held(parents);
+            return own;
         }
         i = next + 1;
     }
@@ -253,21 +256,22 @@ pub enum Matched {
     Missed,
 }
 
+// The nearest device at which the parent keys from `at` on hold.
 fn nearest(line: &[u8], at: usize, dev: &[u8], chain: Chain, t: &[u8], layout: Layout) -> Matched
     requires { ⌜ PairsFrom (now line) at × Begun (now dev) chain (now t) layout ⌝ }
     ensures { λ r. ⌜ NearestOf (now (line .entry)) at (now (dev .entry)) chain (now (t .entry)) layout r ⌝ }
 {
     let devices = chain.len;
     let places = chain.at;
+    let first = rule_pairs::pair_at(line, at);
     let mut k: usize = 0;
     let place = 'search: loop {
         if devices <= k {
             break 'search Matched::Missed;
         }
         let device = places[k];
-        let mut i = at;
+        let mut pair = first;
         loop {
-            let pair = rule_pairs::pair_at(line, i);
             let key = pair.key;
             let next = pair.next;
             if !pair_holds(
@@ -284,7 +288,7 @@ fn nearest(line: &[u8], at: usize, dev: &[u8], chain: Chain, t: &[u8], layout: L
             if line.len() <= next {
                 break 'search Matched::At(k + 1);
             }
-            i = next + 1;
+            pair = rule_pairs::pair_at(line, next + 1);
         }
         k += 1;
     };
@@ -307,6 +311,6 @@ pub fn match_rule(
     match own_keys(line, at, dev, places[0], t, layout) {
         Own::Fail => Matched::Missed,
         Own::Hold => Matched::At(0),
-        Own::HoldWithParents => nearest(line, at, dev, chain, t, layout),
+        Own::HoldWithParents(first) => nearest(line, first, dev, chain, t, layout),
     }
 }

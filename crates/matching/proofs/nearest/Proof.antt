@@ -1,6 +1,6 @@
 -- `matching::nearest` meets its contract: no device before the one at hand satisfies all parent keys, and each pair so far holds at this one.
 -- Assumes nothing.
-use Prim.Native.Nat.{_+_, _-_, _≤_, _<_}
+use Prim.Native.Nat.{ℕ, _+_, _-_, _≤_, _<_}
 use mathlib.Core.Path.{_≡_, refl, sym, _∙_}
 use mathlib.Core.Bool.{Bool}
 use mathlib.Core.List.{List}
@@ -13,7 +13,8 @@ use Rattle.lists.specs.Bytes.{Bytes}
 use Rattle.rules.specs.Pair as rules
 use Rattle.rules.specs.Pairs.{Pairs}
 use Rattle.pairs.specs.Answers.{pairOf}
-use Rattle.rule_pairs.specs.Here.{PairsFrom}
+use Rattle.pairs.specs.declared.Pair.{Pair}
+use Rattle.rule_pairs.specs.Here.{PairsFrom, Here}
 use Rattle.rule_pairs.proofs.Walk.{walk-on, pair-in, goes-on, Left}
 use Rattle.device.specs.Device.{Member, chain}
 use Rattle.device.specs.Places.{Lies}
@@ -31,50 +32,60 @@ use Rattle.matching.proofs.nearest.Tie as tie
 abbrev parentTest : Member → rules.Pair → Bool
 parentTest m p = parentHolds (p .key) m p
 
+-- the pair at hand is one of the line, and all before it hold at the device at hand
+record Going (line : List ℕ) (at : ℕ) (dev : List ℕ) (device : ℕ) (r : Pair) : Type 0 where
+  i : ℕ
+  from : PairsFrom line i
+  here : Here line i r
+  left : (m : Member) → Lies dev device m → Left line at i (all (parentTest m)) (all (parentTest m))
+
 abbrev Inv-loop : tie.InvT-loop
-Inv-loop line at dev t layout devices places k device i₀ i = PairsFrom line i × ((m : Member) → Lies dev device m → Left line at i (all (parentTest m)) (all (parentTest m)))
+Inv-loop line at dev t layout devices places first k device pair₀ pair = Going line at dev device pair
 
 abbrev μ-loop : tie.MeasureT-loop
-μ-loop line at dev t layout devices places k device i₀ i = length line - i
+μ-loop line at dev t layout devices places first k device pair₀ pair = length line - pair .next
 
 abbrev Inv-search : tie.InvT-search
-Inv-search line at dev t layout devices places k₀ k =
+Inv-search line at dev t layout devices places first k₀ k =
     (k ≤ devices)
     × ((x : Begun dev (record { len = devices; at = places }) t layout) (ps : List rules.Pair) → Pairs (drop at line) ps
     → match.nearest 1 (chain (x .device)) ps ≡ match.nearest (k + 1) (drop k (chain (x .device))) ps)
 
 abbrev μ-search : tie.MeasureT-search
-μ-search line at dev t layout devices places k₀ k = devices - k
+μ-search line at dev t layout devices places first k₀ k = devices - k
 
 -- ---- the device at hand
 
-bytes : (w : tie.Else1 Inv-loop μ-loop Inv-search μ-search) → Bytes (w .before .before .before .before .before .before .args .dev .now)
-bytes w = λ i. w .before .before .before .before .shared-slice-known2 .given i .fits
+bytes : (w : tie.Else1 Inv-loop μ-loop Inv-search μ-search) → Bytes (w .before .before .before .before .before .before .before .args .dev .now)
+bytes w = λ i. w .before .before .before .before .before .shared-slice-known2 .given i .fits
 
 -- one of at most 16
 few : (w : tie.Else1 Inv-loop μ-loop Inv-search μ-search) → w .before .search .k < 16
 few w =
-    let s = w .before .before .before .before .before .before in
+    let s = w .before .before .before .before .before .before .before in
     omega (arith, chain-few (s .args .dev .now) (s .pre .1 .device) (s .pre .1 .decoded), s .pre .1 .chained .len)
 
 device : (w : tie.Else1 Inv-loop μ-loop Inv-search μ-search)
-    → let a = w .before .before .before .before .before .before .args in
+    → let a = w .before .before .before .before .before .before .before .args in
     (x : Begun (a .dev .now) (a .chain) (a .t .now) (a .layout)) → Nth (a .dev .now) (bytes w) (a .chain) (a .t .now) (a .layout) x (w .before .search .k)
-device w x = let a = w .before .before .before .before .before .before .args in the-nth (a .dev .now) (bytes w) (a .chain) (a .t .now) (a .layout) x (w .before .search .k) (w .if1 .left)
+device w x = let a = w .before .before .before .before .before .before .before .args in the-nth (a .dev .now) (bytes w) (a .chain) (a .t .now) (a .layout) x (w .before .search .k) (w .if1 .left)
 
 -- the pair at hand, as the definitions judge it there
 judged : (w : tie.After-pair-holds Inv-loop μ-loop Inv-search μ-search)
     → let a = w .before .before .before .before .before .before .before .before .before .before .before .args in
-    (x : Begun (a .dev .now) (a .chain) (a .t .now) (a .layout)) (m : Member) → Lies (a .dev .now) (getD (a .chain .at) (w .before .before .before .before .before .before .search .k) 0) m
-    → parentTest m (pairOf (a .line .now) (w .before .before .before .pair-at .result)) ≡ w .pair-holds .result
+    (x : Begun (a .dev .now) (a .chain) (a .t .now) (a .layout)) (m : Member) → Lies (a .dev .now) (getD (a .chain .at) (w .before .before .before .before .before .search .k) 0) m
+    → parentTest m (pairOf (a .line .now) (w .before .before .before .loop .pair)) ≡ w .pair-holds .result
 judged w x m f =
     let a = w .before .before .before .before .before .before .before .before .before .before .before .args in
     let u = w .before .before .subject-of in
     let v = w .before .at-parent in
-    parent-judged (a .line .now) (w .before .before .before .pair-at .result) (u .result) (u .ensures) (v .result) (v .ensures) (x .device) m (x .state) (w .pair-holds .result)
-    (w .pair-holds .ensures (judged-at (a .dev .now) (bytes (w .before .before .before .before .before)) (a .chain) (a .t .now) (a .layout) x (w .before .before .before .before .before .before .search .k) m f))
+    parent-judged (a .line .now) (w .before .before .before .loop .pair) (u .result) (u .ensures) (v .result) (v .ensures) (x .device) m (x .state) (w .pair-holds .result)
+    (w .pair-holds .ensures (judged-at (a .dev .now) (bytes (w .before .before .before .before)) (a .chain) (a .t .now) (a .layout) x (w .before .before .before .before .before .search .k) m f))
 
 -- ----
+
+pair-at-requires : tie.Need-pair-at-requires Inv-loop μ-loop Inv-search μ-search
+pair-at-requires c κs = c .before .before .before .before .pre .0
 
 search-holds : tie.Need-search-holds Inv-loop μ-loop Inv-search μ-search
 search-holds c = (omega arith, λ x ps h. refl)
@@ -86,10 +97,9 @@ array-read-device : tie.Need-array-read-device Inv-loop μ-loop Inv-search μ-se
 array-read-device c = few c
 
 loop-holds : tie.Need-loop-holds Inv-loop μ-loop Inv-search μ-search
-loop-holds c = (c .before .before .before .before .before .before .pre .0, λ m f ps h. (ps, h, refl))
-
-pair-at-requires : tie.Need-pair-at-requires Inv-loop μ-loop Inv-search μ-search
-pair-at-requires c κs = c .loop .inv .0
+loop-holds c =
+    let s = c .before .before .before .before .before .before .before in
+    record { i = s .args .at; from = s .pre .0; here = c .before .before .pair-at .ensures; left = λ m f ps h. (ps, h, refl) }
 
 subject-of-requires : tie.Need-subject-of-requires Inv-loop μ-loop Inv-search μ-search
 subject-of-requires c κs = search needs
@@ -101,37 +111,47 @@ pair-holds-requires : tie.Need-pair-holds-requires Inv-loop μ-loop Inv-search �
 pair-holds-requires c κs =
     let s = c .before .before .before .before .before .before .before .before .before .before in
     let a = s .args in
-    let e = c .before .before .before .before in
-    let l = c .before .before .before .loop in
-    let p = c .before .before .pair-at in
+    let e = c .before .before .before in
+    let l = c .before .before .loop in
     let n = device e (s .pre .1) in
-    (pair-in (a .line .now) (l .i) (p .result) (l .inv .0) (p .ensures), judged-at (a .dev .now) (bytes e) (a .chain) (a .t .now) (a .layout) (s .pre .1) (c .before .before .before .before .before .search .k) (n .member) (n .lies))
+    (pair-in (a .line .now) (l .inv .i) (l .pair) (l .inv .from) (l .inv .here), judged-at (a .dev .now) (bytes e) (a .chain) (a .t .now) (a .layout) (s .pre .1) (c .before .before .before .before .search .k) (n .member) (n .lies))
 
 add-t27 : tie.Need-add-t27 Inv-loop μ-loop Inv-search μ-search
-add-t27 c = omega (arith, few (c .before .before .before .before .before .before .before))
+add-t27 c = omega (arith, few (c .before .before .before .before .before .before))
 
-add-i : tie.Need-add-i Inv-loop μ-loop Inv-search μ-search
-add-i c = omega arith
+add-pair-at : tie.Need-add-pair-at Inv-loop μ-loop Inv-search μ-search
+add-pair-at c = omega arith
+
+pair-at-requires-2 : tie.Need-pair-at-requires-2 Inv-loop μ-loop Inv-search μ-search
+pair-at-requires-2 c κs =
+    let l = c .before .before .before .before .before .loop in
+    walk-on (c .before .before .before .before .before .before .before .before .before .before .before .before .before .args .line .now) (l .inv .i) (l .pair) (l .inv .from) (l .inv .here) (c .if3 .left)
+
+-- the pairs behind the one at hand
+behind : (w : tie.After-pair-at2 Inv-loop μ-loop Inv-search μ-search) → PairsFrom (w .before .before .before .before .before .before .before .before .before .before .before .before .before .before .args .line .now) (w .before .before .before .before .before .before .loop .pair .next + 1)
+behind w =
+    let l = w .before .before .before .before .before .before .loop in
+    walk-on (w .before .before .before .before .before .before .before .before .before .before .before .before .before .before .args .line .now) (l .inv .i) (l .pair) (l .inv .from) (l .inv .here) (w .before .if3 .left)
 
 loop-less : tie.Need-loop-less Inv-loop μ-loop Inv-search μ-search
 loop-less c =
-    let l = c .before .before .before .before .before .before .loop in
-    let p = c .before .before .before .before .before .pair-at in
-    let g = goes-on _ (l .i) (p .result) (l .inv .0) (p .ensures) in
+    let g = goes-on _ (c .before .before .before .before .before .before .loop .pair .next + 1) (c .pair-at2 .result) (behind c) (c .pair-at2 .ensures) in
     omega arith
 
 loop-again : tie.Need-loop-again Inv-loop μ-loop Inv-search μ-search
 loop-again c =
-    let s = c .before .before .before .before .before .before .before .before .before .before .before .before .before in
+    let s = c .before .before .before .before .before .before .before .before .before .before .before .before .before .before in
     let a = s .args in
     let l = c .before .before .before .before .before .before .loop in
-    let p = c .before .before .before .before .before .pair-at in (
-      walk-on (a .line .now) (l .i) (p .result) (l .inv .0) (p .ensures) (c .if3 .left),
-      λ m f. all-next (parentTest m) (a .line .now) (a .at) (l .i) (p .result) (p .ensures) (l .inv .1 m f) (judged (c .before .before) (s .pre .1) m f ∙ not-false _ (c .before .if2 .left)) (c .if3 .left),
-    )
+    record {
+      i = l .pair .next + 1;
+      from = behind c;
+      here = c .pair-at2 .ensures;
+      left = λ m f. all-next (parentTest m) (a .line .now) (a .at) (l .inv .i) (l .pair) (l .inv .here) (l .inv .left m f) (judged (c .before .before .before) (s .pre .1) m f ∙ not-false _ (c .before .before .if2 .left)) (c .before .if3 .left);
+    }
 
 add-k : tie.Need-add-k Inv-loop μ-loop Inv-search μ-search
-add-k c = omega (arith, few (c .before .before .before .before .before .before))
+add-k c = omega (arith, few (c .before .before .before .before .before))
 
 search-less : tie.Need-search-less Inv-loop μ-loop Inv-search μ-search
 search-less c = omega arith
@@ -142,13 +162,12 @@ search-again c = (
   omega arith,
   λ x ps h.
       let a = c .before .before .before .before .before .before .before .before .before .before .before .before .args in
-      let q = c .before .before .before .before .before .before .before .search in
-      let l = c .before .before .before .before .before .loop in
-      let p = c .before .before .before .before .pair-at in
-      let n = device (c .before .before .before .before .before .before) x in
+      let q = c .before .before .before .before .before .before .search in
+      let l = c .before .before .before .before .loop in
+      let n = device (c .before .before .before .before .before) x in
       let f = judged (c .before) x (n .member) (n .lies) ∙ not-true _ (c .if2 .taken) in
       q .inv .1 x ps h
-      ∙ near-later (chain (x .device)) (q .k) ps (n .member) (n .nth) (all-fails (parentTest (n .member)) (a .line .now) (a .at) (l .i) (p .result) (p .ensures) (l .inv .1 (n .member) (n .lies)) f ps h),
+      ∙ near-later (chain (x .device)) (q .k) ps (n .member) (n .nth) (all-fails (parentTest (n .member)) (a .line .now) (a .at) (l .inv .i) (l .pair) (l .inv .here) (l .inv .left (n .member) (n .lies)) f ps h),
 )
 
 returns : tie.Need-returns Inv-loop μ-loop Inv-search μ-search
@@ -161,14 +180,13 @@ unfolding parentsHold
 returns-2 c = (
   (λ x ps h.
       let a = c .before .before .before .before .before .before .before .before .before .before .before .before .before .args in
-      let q = c .before .before .before .before .before .before .before .before .search in
-      let l = c .before .before .before .before .before .before .loop in
-      let p = c .before .before .before .before .before .pair-at in
-      let n = device (c .before .before .before .before .before .before .before) x in
+      let q = c .before .before .before .before .before .before .before .search in
+      let l = c .before .before .before .before .before .loop in
+      let n = device (c .before .before .before .before .before .before) x in
       let f = judged (c .before .before) x (n .member) (n .lies) ∙ not-false _ (c .before .if2 .left) in
       sym
       (q .inv .1 x ps h
-      ∙ near-here (chain (x .device)) (q .k) ps (n .member) (n .nth) (all-last (parentTest (n .member)) (a .line .now) (a .at) (l .i) (p .result) (p .ensures) (l .inv .1 (n .member) (n .lies)) f (c .if3 .taken) ps h))),
+      ∙ near-here (chain (x .device)) (q .k) ps (n .member) (n .nth) (all-last (parentTest (n .member)) (a .line .now) (a .at) (l .inv .i) (l .pair) (l .inv .here) (l .inv .left (n .member) (n .lies)) f (c .if3 .taken) ps h))),
   omega arith,
 )
 
@@ -180,16 +198,17 @@ nearest-spec =
     μ-loop
     Inv-search
     μ-search
+    pair-at-requires
     search-holds
     mul-device
     array-read-device
     loop-holds
-    pair-at-requires
     subject-of-requires
     at-parent-requires
     pair-holds-requires
     add-t27
-    add-i
+    add-pair-at
+    pair-at-requires-2
     loop-less
     loop-again
     add-k

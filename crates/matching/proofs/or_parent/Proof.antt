@@ -1,9 +1,6 @@
 -- `matching::or_parent` meets its contract.
 -- Assumes nothing.
-use mathlib.Core.Path.{sym}
 use borrow.Author.Needs.{needs}
-use Rattle.matching.proofs.Tests.{or-none}
-use Rattle.lists.proofs.Tests.{or-true}
 use Rattle.matching.proofs.or_parent.Statement.{statement}
 use Rattle.matching.proofs.or_parent.Tie as tie
 
@@ -13,49 +10,22 @@ enum-told c = search needs
 enum-told-2 : tie.Need-enum-told-2
 enum-told-2 c = search needs
 
-enum-told-3 : tie.Need-enum-told-3
-enum-told-3 c = search needs
-
-enum-told-4 : tie.Need-enum-told-4
-enum-told-4 c = search needs
-
-enum-told-5 : tie.Need-enum-told-5
-enum-told-5 c = search needs
-
-enum-told-6 : tie.Need-enum-told-6
-enum-told-6 c = search needs
+enum-known-before : tie.Need-enum-known-before
+enum-known-before c = search needs
 
 returns : tie.Need-returns
-returns c = rw (c .enum-told .given .1) (sym (or-none (c .before .before .args .before)))
+returns c = search needs
 
 returns-2 : tie.Need-returns-2
-returns-2 c = rw (c .enum-told2 .given .1) (sym (or-none (c .before .before .args .before)))
+returns-2 c = rw (c .before .enum-told2 .given .1, c .if1 .taken)
 
 returns-3 : tie.Need-returns-3
-returns-3 c = rw (c .enum-told3 .given .1) (sym (or-true (c .before .before .args .before)))
+returns-3 c = search needs
 
 returns-4 : tie.Need-returns-4
-returns-4 c = rw (c .enum-told4 .given .1) (sym (or-none (c .before .before .args .before)))
-
-returns-5 : tie.Need-returns-5
-returns-5 c = rw (c .enum-told5 .given .1) (sym (or-none (c .before .before .args .before)))
-
-returns-6 : tie.Need-returns-6
-returns-6 c = rw (c .enum-told6 .given .1) (sym (or-none (c .before .before .args .before)))
+returns-4 c = rw (c .before .before2 .given .1)
 
 pub or-parent-spec : {M : Type 1} → statement M
 or-parent-spec =
     tie.close
-    (tie.spec
-    enum-told
-    enum-told-2
-    enum-told-3
-    enum-told-4
-    enum-told-5
-    enum-told-6
-    returns
-    returns-2
-    returns-3
-    returns-4
-    returns-5
-    returns-6)
+    (tie.spec enum-told enum-told-2 enum-known-before returns returns-2 returns-3 returns-4)
