@@ -1,0 +1,3 @@
+pub mod Marks
+pub mod Cleaning
+pub mod Names
