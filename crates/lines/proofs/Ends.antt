@@ -2,65 +2,72 @@
 -- Assumes nothing.
 use Prim.Native.Nat.{ℕ, _+_, _≤_, _<_}
 use mathlib.Core.Path.{_≡_, refl, sym, ap, _∙_}
-use mathlib.Core.Bool.{Bool, true, false, _||_, or-false, or-assoc}
-use mathlib.Core.List.{List, [], _∷_, _++_}
+use mathlib.Core.Bool.{Bool, true, false, _||_}
+use mathlib.Core.List.{List}
 use native.Mathlib.Omega.{arith}
-use borrow.Author.Tests.{ne-eqb}
+use borrow.Author.Tests.{eq-eqb, ne-eqb}
 use lib.Dec.{eqb}
 use lib.ListN.{length, getD}
-use Rattle.lists.specs.Lists.{any}
 use Rattle.lists.specs.Bytes.{holds}
 use Rattle.lists.specs.Runs.{spanAt}
-use Rattle.lists.proofs.Runs.{place-in, place-stop, place-end}
-use Rattle.lists.proofs.Tests.{or-true}
+use Rattle.lists.proofs.Runs.{place-in, place-stop, place-end, span-ge, span-le}
 use Rattle.scan.specs.Ends.{isNot}
 use Rattle.pairs.specs.Answers.{part}
-use Rattle.pairs.proofs.Parts.{part-none, part-next}
-use Rattle.lines.specs.Answers.{EndsAt}
+use Rattle.pairs.proofs.Parts.{part-cons, part-none}
+use Rattle.lines.specs.Answers.{CleanLine}
 
-any-snoc : (p : ℕ → Bool) (xs : List ℕ) (x : ℕ) → any p (xs ++ (x ∷ [])) ≡ (any p xs || p x)
-any-snoc p [] x = or-false (p x)
-any-snoc p (y ∷ xs) x = ap (λ (t : Bool). p y || t) (any-snoc p xs x) ∙ sym (or-assoc (p y) (any p xs) (p x))
+-- the end of the line that starts at a place
+abbrev endOf : List ℕ → ℕ → ℕ
+endOf t at = spanAt (isNot 10) t at
 
--- no newline up to a place, and whether there is NUL
-pub record Scans (t : List ℕ) (at i : ℕ) (nul : Bool) : Type 0 where
+-- no newline from the line's start up to a place, and NUL only behind it
+pub record Scans (t : List ℕ) (at i : ℕ) : Type 0 where
   pub from : at ≤ i
   pub within : i ≤ length t
-  pub place : spanAt (isNot 10) t i ≡ spanAt (isNot 10) t at
-  pub seen : nul ≡ holds 0 (part t at i)
+  pub place : endOf t i ≡ endOf t at
+  pub nul : holds 0 (part t i (endOf t at)) ≡ holds 0 (part t at (endOf t at))
 
-pub scan-begins : (t : List ℕ) (at : ℕ) → at ≤ length t → Scans t at at false
-scan-begins t at h = record { from = omega arith; within = h; place = refl; seen = rw (part-none t at) }
+pub scan-begins : (t : List ℕ) (at : ℕ) → at ≤ length t → Scans t at at
+scan-begins t at h = record { from = omega arith; within = h; place = refl; nul = refl }
 
-module _ (t : List ℕ) (at i : ℕ) (nul : Bool) (s : Scans t at i nul) where
-  -- one byte more
-  seen-next : i < length t → (nul || eqb (getD t i 0) 0) ≡ holds 0 (part t at (i + 1))
-  seen-next h = sym (ap (holds 0) (part-next t at i (s .from) h) ∙ any-snoc (λ x. eqb x 0) (part t at i) (getD t i 0) ∙ ap (λ (u : Bool). u || eqb (getD t i 0) 0) (sym (s .seen)))
+module _ (t : List ℕ) (at i : ℕ) (s : Scans t at i) where
+  -- the line ends here
+  ends : endOf t i ≡ i → CleanLine t at i
+  ends e =
+      let p : i ≡ endOf t at = sym e ∙ s .place in
+      let c : holds 0 (part t at (endOf t at)) ≡ false = sym (s .nul) ∙ rw (← p, part-none t i) in
+      record {
+        run = record { place = p; from = s .from; within = omega (arith, s .within) };
+        clean = rw p c;
+      }
 
-  pub scan-nul : i < length t → getD t i 0 ≡ 0 → Scans t at (i + 1) true
-  scan-nul h e = record {
-    from = omega arith;
-    within = omega arith;
-    place = sym (place-in (isNot 10) t i h (rw e)) ∙ s .place;
-    seen = sym (or-true nul) ∙ (rw e at (seen-next h));
-  }
+  pub scan-out : length t ≤ i → CleanLine t at i
+  scan-out h = ends (place-end (isNot 10) t i h)
 
-  pub scan-other : i < length t → (getD t i 0 ≡ 10 → ⊥) → (getD t i 0 ≡ 0 → ⊥) → Scans t at (i + 1) nul
-  scan-other h n z = record {
-    from = omega arith;
-    within = omega arith;
-    place = sym (place-in (isNot 10) t i h (rw (ne-eqb (getD t i 0) 10 n))) ∙ s .place;
-    seen = sym (or-false nul) ∙ (rw (ne-eqb (getD t i 0) 0 z) at (seen-next h));
-  }
+  module _ (h : i < length t) where
+    pub scan-newline : getD t i 0 ≡ 10 → CleanLine t at i
+    scan-newline e = ends (place-stop (isNot 10) t i h (rw e))
 
-  pub scan-newline : i < length t → getD t i 0 ≡ 10 → EndsAt t at (record { end = i; nul = nul })
-  scan-newline h e = record {
-    run = record { place = sym (place-stop (isNot 10) t i h (rw e)) ∙ s .place; from = s .from; within = omega arith };
-    nul = s .seen;
-  }
+    module _ (n : getD t i 0 ≡ 10 → ⊥) where
+      onward : endOf t (i + 1) ≡ endOf t at
+      onward = sym (place-in (isNot 10) t i h (rw (ne-eqb (getD t i 0) 10 n))) ∙ s .place
 
-  pub scan-out : length t ≤ i → EndsAt t at (record { end = i; nul = nul })
-  scan-out h = record {
-    run = record { place = sym (place-end (isNot 10) t i h) ∙ s .place; from = s .from; within = omega arith };
-    nul = s .seen;
-  }
+      -- the byte at hand and those behind it
+      byte-first : holds 0 (part t i (endOf t at)) ≡ (eqb (getD t i 0) 0 || holds 0 (part t (i + 1) (endOf t at)))
+      byte-first =
+          let a = span-ge (isNot 10) t (i + 1) in
+          let b = span-le (isNot 10) t (i + 1) (omega arith) in
+          ap (holds 0) (part-cons t i (endOf t at) (omega (arith, onward)) (omega (arith, onward)))
+
+      pub scan-other : (getD t i 0 ≡ 0 → ⊥) → Scans t at (i + 1)
+      scan-other z = record {
+        from = omega (arith, s .from);
+        within = omega arith;
+        place = onward;
+        nul = sym (byte-first ∙ rw (ne-eqb (getD t i 0) 0 z)) ∙ s .nul;
+      }
+
+    pub scan-nul : getD t i 0 ≡ 0 → holds 0 (part t at (endOf t at)) ≡ true
+    scan-nul e =
+        let n : getD t i 0 ≡ 10 → ⊥ = λ q. omega arith in
+        sym (s .nul) ∙ byte-first n ∙ rw e

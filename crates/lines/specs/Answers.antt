@@ -2,9 +2,11 @@
 -- Assumes nothing.
 use Prim.Native.Nat.{ℕ, _+_, _-_, _≤_, _<_}
 use mathlib.Core.Path.{_≡_}
+use mathlib.Core.Bool.{true, false}
 use mathlib.Core.List.{List}
 use lib.ListN.{length, drop}
 use Rattle.lists.specs.Bytes.{holds}
+use Rattle.lists.specs.Runs.{spanAt}
 use Rattle.lists.specs.Checked.{Checked, refused, ok}
 use Rattle.lists.specs.Refusal.{Refusal, pair-extra}
 use Rattle.text.specs.Engine as text
@@ -13,6 +15,7 @@ use Rattle.scan.specs.Ends.{RunEnd, isNot}
 use Rattle.pairs.specs.Answers.{part}
 use Rattle.rule_pairs.specs.Marks.{markOf, MarkIn}
 use Rattle.lines.specs.declared.LineEnd.{LineEnd}
+use Rattle.lines.specs.declared.LineEnd.the-variants as end
 use Rattle.lines.specs.declared.Marks.{Marks}
 use Rattle.lines.specs.declared.Noted.{Noted}
 use Rattle.lines.specs.declared.Noted.the-variants as noted
@@ -22,10 +25,15 @@ use Rattle.lines.specs.declared.LineRead.{LineRead}
 use Rattle.lines.specs.declared.LineRead.the-variants.{Skipped, Fault, Rule}
 use Rattle.lines.specs.Names.{Names, namesFrom}
 
--- the end of a line that starts at a place, and whether it holds NUL
-pub record EndsAt (text : List ℕ) (at : ℕ) (r : LineEnd) : Type 0 where
-  pub run : RunEnd (isNot 10) text at (r .end)
-  pub nul : r .nul ≡ holds 0 (part text at (r .end))
+-- a line from a place to another, without NUL
+pub record CleanLine (text : List ℕ) (at e : ℕ) : Type 0 where
+  pub run : RunEnd (isNot 10) text at e
+  pub clean : holds 0 (part text at e) ≡ false
+
+-- the line that starts at a place
+abbrev pub EndsAt : List ℕ → ℕ → LineEnd → Type 0
+EndsAt text at (end.At e) = CleanLine text at e
+EndsAt text at end.Nul = holds 0 (part text at (spanAt (isNot 10) text at)) ≡ true
 
 abbrev pub namesBy : List ℕ → Marks → Names
 namesBy line m = record { label = markOf line (m .label); goto = markOf line (m .goto) }

@@ -1,5 +1,6 @@
 // One line of a rules text: skipped, a fault with its refusal, or a rule, of which the names of its LABEL and GOTO are kept.
 ghost use mathlib.Core.Path.{_≡_};
+ghost use mathlib.Core.Bool.{false};
 ghost use mathlib.Core.List.{List};
 ghost use Prim.Native.Nat.{ℕ, _-_, _≤_, _<_};
 ghost use lib.ListN.{length, drop};
@@ -17,10 +18,11 @@ use rule_pairs::MarkFound;
 
 // ---- the end of a line
 
-// The place of a line's newline, or the end of the text, and whether the line holds NUL.
-pub struct LineEnd {
-    pub end: usize,
-    pub nul: bool,
+pub enum LineEnd {
+    // the place of the line's newline, or the end of the text
+    At(usize),
+    // the line holds NUL
+    Nul,
 }
 
 pub fn line_end(text: &[u8], at: usize) -> LineEnd
@@ -28,22 +30,25 @@ pub fn line_end(text: &[u8], at: usize) -> LineEnd
     ensures { λ r. ⌜ EndsAt (now (text .entry)) at r ⌝ }
 {
     let mut i = at;
-    let mut nul = false;
     while i < text.len() {
-        match text[i] {
-            b'\n' => {
-                return LineEnd { end: i, nul };
-            }
-            0 => {
-                nul = true;
-                i += 1;
-            }
-            _ => {
-                i += 1;
+        let b = text[i];
+        if b'\n' < b {
+            i += 1;
+        } else {
+            match b {
+                b'\n' => {
+                    return LineEnd::At(i);
+                }
+                0 => {
+                    return LineEnd::Nul;
+                }
+                _ => {
+                    i += 1;
+                }
             }
         }
     }
-    LineEnd { end: i, nul }
+    LineEnd::At(i)
 }
 
 // ---- the names of a rule
@@ -164,17 +169,14 @@ fn read_pairs(line: &[u8], at: usize) -> LineRead
 
 // ---- a line
 
-// A line without its newline; nul says whether it holds NUL.
-pub fn read_line(line: &[u8], nul: bool) -> LineRead
-    requires { ⌜ nul ≡ holds 0 (now line) ⌝ }
+// A line without its newline, and without NUL.
+pub fn read_line(line: &[u8]) -> LineRead
+    requires { ⌜ holds 0 (now line) ≡ false ⌝ }
     ensures { λ r. ⌜ (lineBy (now (line .entry)) r ≡ named (reading.readLine (now (line .entry)))) × LineIn (now (line .entry)) r ⌝ }
 {
     let at = scan::blank_end(line, 0);
     let first = scan::byte_at(line, at);
     if 1024 < line.len() {
-        return LineRead::Fault(Refusal::LineBad);
-    }
-    if nul {
         return LineRead::Fault(Refusal::LineBad);
     }
     if line.len() <= at {

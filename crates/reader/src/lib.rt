@@ -3,8 +3,10 @@ ghost use mathlib.Core.Path.{_≡_};
 ghost use Prim.Native.Nat.{_+_, _*_, _≤_, _<_};
 ghost use lib.ListN.{length};
 ghost use Rattle.lists.specs.Sizes.{mostRules, mostText};
+ghost use Rattle.lines.specs.Answers.{CleanLine};
 ghost use Rattle.reader.specs.Read.{ReadTo, TakenIs, LinesAre, textBy, verdict};
 use jumps::Settled;
+use lines::LineEnd;
 use lines::LineRead;
 use refusals::Refusal;
 
@@ -19,20 +21,19 @@ pub enum Taken {
     Next(usize, usize),
 }
 
-// Reads the line at a place, and notes its rule behind those of the lines before.
-fn take_line(
+// Reads the line from a place to another, and notes its rule behind those of the lines before.
+fn take_clean(
     text: &[u8],
     at: usize,
+    end: usize,
     number: usize,
     count: usize,
     noted: &mut [usize; ROOM],
 ) -> Taken
-    requires { ⌜ (length (now text) ≤ mostText) × (at ≤ length (now text)) × (number ≤ at + 1) × ReadTo (now text) at number count (now noted) ⌝ }
+    requires { ⌜ (length (now text) ≤ mostText) × (at ≤ length (now text)) × CleanLine (now text) at end × (number ≤ at + 1) × ReadTo (now text) at number count (now noted) ⌝ }
     ensures { λ r. ⌜ TakenIs (now (text .entry)) at number (now (noted .exit)) r ⌝ }
 {
-    let ends = lines::line_end(text, at);
-    let end = ends.end;
-    match lines::read_line(&text[at..end], ends.nul) {
+    match lines::read_line(&text[at..end]) {
         LineRead::Skipped => Taken::Next(end + 1, count),
         LineRead::Fault(f) => Taken::Refused(f),
         LineRead::Rule(marks) => {
@@ -44,6 +45,23 @@ fn take_line(
             jumps::note(noted, count, number, &text[at..end], at, label, goto);
             Taken::Next(end + 1, count + 1)
         }
+    }
+}
+
+// Reads the line at a place.
+fn take_line(
+    text: &[u8],
+    at: usize,
+    number: usize,
+    count: usize,
+    noted: &mut [usize; ROOM],
+) -> Taken
+    requires { ⌜ (length (now text) ≤ mostText) × (at ≤ length (now text)) × (number ≤ at + 1) × ReadTo (now text) at number count (now noted) ⌝ }
+    ensures { λ r. ⌜ TakenIs (now (text .entry)) at number (now (noted .exit)) r ⌝ }
+{
+    match lines::line_end(text, at) {
+        LineEnd::At(end) => take_clean(text, at, end, number, count, noted),
+        LineEnd::Nul => Taken::Refused(Refusal::LineBad),
     }
 }
 

@@ -8,19 +8,16 @@ use Rattle.lines.proofs.line_end.Statement.{statement}
 use Rattle.lines.proofs.line_end.Tie as tie
 
 abbrev Inv-loop : tie.InvT-loop
-Inv-loop text at i₀ nul₀ i nul = Scans text at i nul
+Inv-loop text at i₀ i = Scans text at i
 
 abbrev μ-loop : tie.MeasureT-loop
-μ-loop text at i₀ nul₀ i nul = length text - i
+μ-loop text at i₀ i = length text - i
 
 loop-holds : tie.Need-loop-holds Inv-loop μ-loop
 loop-holds c = scan-begins (c .args .text .now) (c .args .at) (c .pre)
 
-shared-slice-read-match : tie.Need-shared-slice-read-match Inv-loop μ-loop
-shared-slice-read-match c = omega arith
-
-returns : tie.Need-returns Inv-loop μ-loop
-returns c = scan-newline (c .before .before .before .before .args .text .now) (c .before .before .before .before .args .at) (c .before .before .before .loop .i) (c .before .before .before .loop .nul) (c .before .before .before .loop .inv) (omega arith) (c .match .keys1)
+shared-slice-read-b : tie.Need-shared-slice-read-b Inv-loop μ-loop
+shared-slice-read-b c = omega arith
 
 add-i : tie.Need-add-i Inv-loop μ-loop
 add-i c = omega arith
@@ -29,7 +26,13 @@ loop-less : tie.Need-loop-less Inv-loop μ-loop
 loop-less c = omega arith
 
 loop-again : tie.Need-loop-again Inv-loop μ-loop
-loop-again c = scan-nul (c .before .before .before .before .args .text .now) (c .before .before .before .before .args .at) (c .before .before .before .loop .i) (c .before .before .before .loop .nul) (c .before .before .before .loop .inv) (omega arith) (c .match .keys2)
+loop-again c = scan-other (c .before .before .before .before .args .text .now) (c .before .before .before .before .args .at) (c .before .before .before .loop .i) (c .before .before .before .loop .inv) (omega arith) (λ e. omega arith) (λ e. omega arith)
+
+returns : tie.Need-returns Inv-loop μ-loop
+returns c = scan-newline (c .before .before .before .before .before .args .text .now) (c .before .before .before .before .before .args .at) (c .before .before .before .before .loop .i) (c .before .before .before .before .loop .inv) (omega arith) (c .match .keys1)
+
+returns-2 : tie.Need-returns-2 Inv-loop μ-loop
+returns-2 c = scan-nul (c .before .before .before .before .before .args .text .now) (c .before .before .before .before .before .args .at) (c .before .before .before .before .loop .i) (c .before .before .before .before .loop .inv) (omega arith) (c .match .keys2)
 
 add-i-2 : tie.Need-add-i-2 Inv-loop μ-loop
 add-i-2 c = omega arith
@@ -38,10 +41,10 @@ loop-less-2 : tie.Need-loop-less-2 Inv-loop μ-loop
 loop-less-2 c = omega arith
 
 loop-again-2 : tie.Need-loop-again-2 Inv-loop μ-loop
-loop-again-2 c = scan-other (c .before .before .before .before .args .text .now) (c .before .before .before .before .args .at) (c .before .before .before .loop .i) (c .before .before .before .loop .nul) (c .before .before .before .loop .inv) (omega arith) (c .match .rest .0 .1) (c .match .rest .1)
+loop-again-2 c = scan-other (c .before .before .before .before .before .args .text .now) (c .before .before .before .before .before .args .at) (c .before .before .before .before .loop .i) (c .before .before .before .before .loop .inv) (omega arith) (c .match .rest .0 .1) (c .match .rest .1)
 
-returns-2 : tie.Need-returns-2 Inv-loop μ-loop
-returns-2 c = scan-out (c .before .before .args .text .now) (c .before .before .args .at) (c .before .loop .i) (c .before .loop .nul) (c .before .loop .inv) (omega arith)
+returns-3 : tie.Need-returns-3 Inv-loop μ-loop
+returns-3 c = scan-out (c .before .before .args .text .now) (c .before .before .args .at) (c .before .loop .i) (c .before .loop .inv) (omega arith)
 
 pub line-end-spec : {M : Type 1} → statement M
 line-end-spec =
@@ -50,12 +53,13 @@ line-end-spec =
     Inv-loop
     μ-loop
     loop-holds
-    shared-slice-read-match
-    returns
+    shared-slice-read-b
     add-i
     loop-less
     loop-again
+    returns
+    returns-2
     add-i-2
     loop-less-2
     loop-again-2
-    returns-2)
+    returns-3)

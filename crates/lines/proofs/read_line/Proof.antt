@@ -1,6 +1,6 @@
 -- `lines::read_line` meets its contract.
 -- Assumes nothing.
-use Rattle.lines.proofs.Line.{line-long, line-nul, line-blank, line-comment, line-rule}
+use Rattle.lines.proofs.Line.{line-long, line-blank, line-comment, line-rule}
 use mathlib.Core.Path.{sym, _∙_}
 use native.Mathlib.Omega.{arith}
 use borrow.Author.Needs.{needs}
@@ -17,19 +17,16 @@ returns : tie.Need-returns
 returns c = (line-long (c .before .before .before .before .args .line .now) (c .if1 .taken), tt)
 
 returns-2 : tie.Need-returns-2
-returns-2 c = (line-nul (c .before .before .before .before .before .args .line .now) (omega arith) (sym (c .before .before .before .before .before .pre) ∙ c .if2 .taken), tt)
+returns-2 c = (line-blank (c .before .before .before .before .before .args .line .now) (omega arith) (c .before .before .before .before .before .pre) (c .before .before .before .blank-end .result) (c .before .before .before .blank-end .ensures .place) (c .if2 .taken), tt)
 
 returns-3 : tie.Need-returns-3
-returns-3 c = (line-blank (c .before .before .before .before .before .before .args .line .now) (omega arith) (sym (c .before .before .before .before .before .before .pre) ∙ c .before .if2 .left) (c .before .before .before .before .blank-end .result) (c .before .before .before .before .blank-end .ensures .place) (c .if3 .taken), tt)
-
-returns-4 : tie.Need-returns-4
-returns-4 c = (line-comment (c .before .before .before .before .before .before .before .args .line .now) (omega arith) (sym (c .before .before .before .before .before .before .before .pre) ∙ c .before .before .if2 .left) (c .before .before .before .before .before .blank-end .result) (c .before .before .before .before .before .blank-end .ensures .place) (c .before .if3 .left) (sym (c .before .before .before .before .byte-at .ensures) ∙ c .if4 .taken), tt)
+returns-3 c = (line-comment (c .before .before .before .before .before .before .args .line .now) (omega arith) (c .before .before .before .before .before .before .pre) (c .before .before .before .before .blank-end .result) (c .before .before .before .before .blank-end .ensures .place) (c .before .if2 .left) (sym (c .before .before .before .byte-at .ensures) ∙ c .if3 .taken), tt)
 
 read-pairs-requires : tie.Need-read-pairs-requires
 read-pairs-requires c κs = search needs
 
-returns-5 : tie.Need-returns-5
-returns-5 c = (c .read-pairs .ensures .0 ∙ line-rule (c .before .before .before .before .before .before .before .before .args .line .now) (omega arith) (sym (c .before .before .before .before .before .before .before .before .pre) ∙ c .before .before .before .if2 .left) (c .before .before .before .before .before .before .blank-end .result) (c .before .before .before .before .before .before .blank-end .ensures .place) (c .before .before .if3 .left) (λ e. c .before .if4 .left (c .before .before .before .before .before .byte-at .ensures ∙ e)), c .read-pairs .ensures .1)
+returns-4 : tie.Need-returns-4
+returns-4 c = (c .read-pairs .ensures .0 ∙ line-rule (c .before .before .before .before .before .before .before .args .line .now) (omega arith) (c .before .before .before .before .before .before .before .pre) (c .before .before .before .before .before .blank-end .result) (c .before .before .before .before .before .blank-end .ensures .place) (c .before .before .if2 .left) (λ e. c .before .if3 .left (c .before .before .before .before .byte-at .ensures ∙ e)), c .read-pairs .ensures .1)
 
 pub read-line-spec : {M : Type 1} → statement M
 read-line-spec =
@@ -40,6 +37,5 @@ read-line-spec =
     returns
     returns-2
     returns-3
-    returns-4
     read-pairs-requires
-    returns-5)
+    returns-4)
