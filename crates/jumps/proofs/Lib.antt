@@ -1,3 +1,4 @@
 pub mod Names
 pub mod Rows
 pub mod Noted
+pub mod Table

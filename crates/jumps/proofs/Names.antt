@@ -3,14 +3,14 @@
 use Prim.Native.Nat.{ℕ, _+_, _-_, _≤_, _<_}
 use mathlib.Core.Path.{_≡_, refl, sym, ap, _∙_}
 use mathlib.Core.Bool.{Bool, true, false}
-use mathlib.Core.List.{List, [], _∷_, _++_}
+use mathlib.Core.List.{List, _++_}
 use mathlib.Core.Option.{none, some}
 use native.Mathlib.Omega.{arith}
 use borrow.Author.Tests.{eqb-true, eqb-false, eq-eqb, ne-eqb}
 use lib.Dec.{eqb}
 use lib.ListN.{length, getD, take, drop, length-drop, take-append-drop, drop-of-length-le}
 use lib.Seq.{drop-drop, drop-append-le, take-append-le}
-use Rattle.lists.specs.Lists.{pick, isSome}
+use Rattle.lists.specs.Lists.{isSome}
 use Rattle.lists.specs.Checked.{Placed}
 use Rattle.lists.specs.Bytes.{sameBytes}
 use Rattle.lists.proofs.Bytes.{same-eq}

@@ -1,10 +1,9 @@
 -- The rules noted so far: none, one more, and 19 of them.
 -- Assumes nothing.
-use Prim.Native.Nat.{ℕ, zero, suc, _+_, _-_, _*_, _≤_, _<_}
+use Prim.Native.Nat.{ℕ, zero, suc, _+_, _*_, _≤_, _<_}
 use mathlib.Core.Path.{_≡_, refl, sym, ap, ap₂, _∙_}
 use mathlib.Core.Bool.{Bool, true, false}
 use mathlib.Core.List.{List, [], _∷_, _++_, map}
-use mathlib.Core.Option.{Option, none, some}
 use native.Mathlib.Numerals.{add-one}
 use native.Mathlib.Omega.{arith}
 use borrow.Author.Tests.{ltb-true, ltb-false}
@@ -16,12 +15,12 @@ use Rattle.lists.specs.Sizes.{mostRules}
 use Rattle.lists.proofs.Moves.{ap-at, length-part}
 use Rattle.text.specs.Reading.{settle}
 use Rattle.rules.specs.Pair.{Rule, labelOf, gotoOf}
-use Rattle.rules.specs.Reading.{reader, unescape}
+use Rattle.rules.specs.Reading.{reader}
 use Rattle.pairs.specs.Answers.{part}
 use Rattle.rule_pairs.specs.Marks.{markOf, MarkIn}
 use Rattle.rule_pairs.specs.declared.MarkFound.{MarkFound}
 use Rattle.rule_pairs.specs.declared.MarkFound.the-variants.{At, Missing}
-use Rattle.jumps.specs.Names.{hashOf, Name, MarkStands, MarkPut}
+use Rattle.jumps.specs.Names.{hashOf, MarkStands, MarkPut}
 use Rattle.jumps.specs.Noted.{Marks, marks, marksOf, nameAt, rowAt, rows, NameAt, Names, Noted, NotedOne}
 use Rattle.jumps.proofs.Names.{part-part, name-none, name-some}
 use Rattle.jumps.proofs.Rows.{rows-snoc, rows-kept, settle-marks}

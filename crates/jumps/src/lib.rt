@@ -2,7 +2,7 @@
 ghost use mathlib.Core.Path.{_≡_};
 ghost use mathlib.Core.List.{List};
 ghost use Prim.Native.Nat.{ℕ, _+_, _-_, _*_, _≤_, _<_};
-ghost use lib.ListN.{length, getD};
+ghost use lib.ListN.{length};
 ghost use Rattle.lists.specs.Lists.{isSome};
 ghost use Rattle.lists.specs.Checked.{Placed};
 ghost use Rattle.lists.specs.Sizes.{mostText, mostRules};
@@ -12,7 +12,8 @@ ghost use Rattle.rules.specs.Reading.{reader, unescape};
 ghost use Rattle.pairs.specs.Answers.{part};
 ghost use Rattle.rule_pairs.specs.Marks.{MarkIn};
 ghost use Rattle.jumps.specs.Names.{mixed, hashOf, Name, MarkPut};
-ghost use Rattle.jumps.specs.Noted.{marks, nameAt, rows, NameAt, Names, isAnswered, Noted, NotedOne, settledBy};
+ghost use Rattle.jumps.specs.Noted.{marks, nameAt, rows, NameAt, isAnswered, Noted, NotedOne, settledBy};
+ghost use Rattle.jumps.specs.Table.{Table, Missed};
 use rule_pairs::MarkFound;
 
 // A rule takes seven numbers: its line; where its label's name starts and ends in the text, and that name's hash; the
@@ -79,6 +80,9 @@ pub fn note(
 
 // ---- each jump finds its label
 
+// The labels of the rules behind a place stand in a table, by the last byte of their hashes: for each of its 256 values
+// one more than the first rule that has such a label, and for each such rule one more than the next, or 0.
+
 pub enum Settled {
     All,
     // the line of the first jump that finds none
@@ -108,33 +112,40 @@ fn is_label(
     scan::same(&text[start..end], &text[s..e])
 }
 
-// Whether a rule from a place on has the label that is written from start to end.
+// Whether a rule that stands in the table has the label that is written from start to end.
 fn has_label(
     text: &[u8],
     jumps: &[usize; ROOM],
-    count: usize,
-    from: usize,
+    heads: &[usize; 256],
+    later: &[usize; 512],
     start: usize,
     end: usize,
     hash: usize,
 ) -> bool
-    requires { ⌜ (count ≤ mostRules) × Names (now text) (now jumps) count × (from ≤ count) × Name (now text) start end hash ⌝ }
-    ensures { λ r. ⌜ r ≡ isSome (text-reading.goesTo marks (unescape (part (now (text .entry)) start end)) (rows (now (text .entry)) (now (jumps .entry)) from (count - from))) ⌝ }
+    requires { ⌜ ((n : ℕ) × ((m : ℕ) × Table (now text) (now jumps) n m (now heads) (now later))) × Name (now text) start end hash ⌝ }
+    ensures { λ r. ⌜ ((n m : ℕ) → Table (now (text .entry)) (now (jumps .entry)) n m (now (heads .entry)) (now (later .entry)) → r ≡ isSome (text-reading.goesTo marks (unescape (part (now (text .entry)) start end)) (rows (now (text .entry)) (now (jumps .entry)) m (n - m)))) ⌝ }
 {
-    let mut i = from;
-    while i < count {
+    let mut next = heads[hash % 256];
+    while next != 0 {
+        let i = next - 1;
         if is_label(text, jumps, i * 7 + 1, start, end, hash) {
             return true;
         }
-        i += 1;
+        next = later[i];
     }
     false
 }
 
-// Whether the jump of a rule, if it has one, finds its label behind it.
-fn is_answered(text: &[u8], jumps: &[usize; ROOM], count: usize, i: usize) -> bool
-    requires { ⌜ (count ≤ mostRules) × Names (now text) (now jumps) count × (i < count) ⌝ }
-    ensures { λ r. ⌜ r ≡ isAnswered (nameAt (now (text .entry)) (now (jumps .entry)) (i * 7 + 4)) (rows (now (text .entry)) (now (jumps .entry)) (i + 1) (count - (i + 1))) ⌝ }
+// Whether the jump of a rule, if it has one, finds its label in the table of the rules behind it.
+fn is_answered(
+    text: &[u8],
+    jumps: &[usize; ROOM],
+    heads: &[usize; 256],
+    later: &[usize; 512],
+    i: usize,
+) -> bool
+    requires { ⌜ ((n : ℕ) × Table (now text) (now jumps) n (i + 1) (now heads) (now later)) ⌝ }
+    ensures { λ r. ⌜ ((n : ℕ) → Table (now (text .entry)) (now (jumps .entry)) n (i + 1) (now (heads .entry)) (now (later .entry)) → r ≡ isAnswered (nameAt (now (text .entry)) (now (jumps .entry)) (i * 7 + 4)) (rows (now (text .entry)) (now (jumps .entry)) (i + 1) (n - (i + 1)))) ⌝ }
 {
     let at = i * 7 + 4;
     let start = jumps[at];
@@ -143,20 +154,56 @@ fn is_answered(text: &[u8], jumps: &[usize; ROOM], count: usize, i: usize) -> bo
     }
     let end = jumps[at + 1];
     let hash = jumps[at + 2];
-    has_label(text, jumps, count, i + 1, start, end, hash)
+    has_label(text, jumps, heads, later, start, end, hash)
 }
 
-// The first GOTO without a later LABEL, when all rules are noted.
+// One more than the first rule from this one on whose jump finds no label, or 0.
+fn missing_from(
+    text: &[u8],
+    jumps: &[usize; ROOM],
+    heads: &[usize; 256],
+    later: &[usize; 512],
+    i: usize,
+    missing: usize,
+) -> usize
+    requires { ⌜ ((n : ℕ) × Table (now text) (now jumps) n (i + 1) (now heads) (now later)) ⌝ }
+    ensures { λ r. ⌜ ((n : ℕ) → Table (now (text .entry)) (now (jumps .entry)) n (i + 1) (now (heads .entry)) (now (later .entry)) → Missed (now (text .entry)) (now (jumps .entry)) n (i + 1) missing → Missed (now (text .entry)) (now (jumps .entry)) n i r) ⌝ }
+{
+    if is_answered(text, jumps, heads, later, i) {
+        return missing;
+    }
+    i + 1
+}
+
+// Puts the label of a rule, if it has one, before those of the rules behind it.
+fn put_label(jumps: &[usize; ROOM], i: usize, heads: &mut [usize; 256], later: &mut [usize; 512])
+    requires { ⌜ ((text : List ℕ) × ((n : ℕ) × Table text (now jumps) n (i + 1) (now heads) (now later))) ⌝ }
+    ensures { λ _. ⌜ ((text : List ℕ) (n : ℕ) → Table text (now (jumps .entry)) n (i + 1) (now (heads .entry)) (now (later .entry)) → Table text (now (jumps .entry)) n i (now (heads .exit)) (now (later .exit))) ⌝ }
+{
+    if jumps[i * 7 + 1] == 0 {
+        return;
+    }
+    let b = jumps[i * 7 + 3] % 256;
+    later[i] = heads[b];
+    heads[b] = i + 1;
+}
+
+// The first GOTO without a later LABEL, when all rules are noted. The rules are gone through from the last to the first.
 pub fn settle(text: &[u8], jumps: &[usize; ROOM], count: usize) -> Settled
     requires { ⌜ ((rs : List (Placed Rule)) × Noted (now text) (now jumps) count rs) ⌝ }
     ensures { λ r. ⌜ ((rs : List (Placed Rule)) → Noted (now (text .entry)) (now (jumps .entry)) count rs → settledBy r ≡ text-reading.settle reader rs) ⌝ }
 {
-    let mut i: usize = 0;
-    while i < count {
-        if !is_answered(text, jumps, count, i) {
-            return Settled::Missing(jumps[i * 7]);
-        }
-        i += 1;
+    let mut heads: [usize; 256] = [0; 256];
+    let mut later: [usize; 512] = [0; 512];
+    let mut missing: usize = 0;
+    let mut i = count;
+    while 0 < i {
+        i -= 1;
+        missing = missing_from(text, jumps, &heads, &later, i, missing);
+        put_label(jumps, i, &mut heads, &mut later);
     }
-    Settled::All
+    if missing == 0 {
+        return Settled::All;
+    }
+    Settled::Missing(jumps[(missing - 1) * 7])
 }

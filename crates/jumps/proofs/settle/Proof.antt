@@ -1,66 +1,55 @@
--- `jumps::settle` meets its contract: 19 from the rule at hand on is 19 of all rules.
+-- `jumps::settle` meets its contract: the table holds the labels of the rules behind, and the answer is theirs.
 -- Assumes nothing.
-use Prim.Native.Nat.{_-_, _≤_}
-use mathlib.Core.Path.{_≡_, sym, _∙_}
+use Prim.Native.Nat.{_+_, _-_}
+use mathlib.Core.Path.{_≡_, sym, ap, _∙_}
 use native.Mathlib.Omega.{arith}
-use borrow.Author.Tests.{not-true, not-false}
-use Rattle.lists.proofs.Moves.{ap-at}
-use Rattle.text.specs.Reading.{settle}
-use Rattle.jumps.specs.Noted.{marks, rows}
-use Rattle.jumps.proofs.Rows.{settle-behind, settle-here, settle-end}
+use Rattle.jumps.specs.Table.{Table, answerOf, Missed}
 use Rattle.jumps.proofs.Noted.{noted-settle}
+use Rattle.jumps.proofs.Table.{table-start, missed-start, missed-all, answer-at}
 use Rattle.jumps.proofs.settle.Statement.{statement}
 use Rattle.jumps.proofs.settle.Tie as tie
 
 abbrev Inv-loop : tie.InvT-loop
-Inv-loop text jumps count i₀ i = (i ≤ count) × (settle marks (rows text jumps i (count - i)) ≡ settle marks (rows text jumps 0 count))
+Inv-loop text jumps count heads₀ later₀ missing₀ i₀ heads later missing i = Table text jumps count i heads later × Missed text jumps count i missing
 
 abbrev μ-loop : tie.MeasureT-loop
-μ-loop text jumps count i₀ i = count - i
+μ-loop text jumps count heads₀ later₀ missing₀ i₀ heads later missing i = i
 
 loop-holds : tie.Need-loop-holds Inv-loop μ-loop
-loop-holds c = (omega arith, ap-at (λ k. settle marks (rows (c .before .args .text .now) (c .before .args .jumps .now) 0 k)) (c .before .args .count - 0) (c .before .args .count) (omega arith))
+loop-holds c = (table-start (c .before .args .text .now) (c .before .args .jumps .now) (c .before .args .count) (c .before .pre .1 .few) (c .before .pre .1 .names), missed-start (c .before .args .text .now) (c .before .args .jumps .now) (c .before .args .count))
 
-is-answered-requires : tie.Need-is-answered-requires Inv-loop μ-loop
-is-answered-requires c κs = (c .before .before .before .pre .1 .few, c .before .before .before .pre .1 .names, omega arith)
+sub-i : tie.Need-sub-i Inv-loop μ-loop
+sub-i c = omega (arith, c .loop-test .taken)
 
-mul-t7 : tie.Need-mul-t7 Inv-loop μ-loop
-mul-t7 c = omega (arith, c .before .before .before .before .before .pre .1 .few)
+missing-from-requires : tie.Need-missing-from-requires Inv-loop μ-loop
+missing-from-requires c κs = let q : c .before .before .before .loop .i - 1 + 1 ≡ c .before .before .before .loop .i = omega (arith, c .before .before .loop-test .taken) in (c .before .before .before .before .before .args .count, rw q (c .before .before .before .loop .inv .0))
 
-mul-t8 : tie.Need-mul-t8 Inv-loop μ-loop
-mul-t8 c = omega (arith, c .before .before .before .before .before .pre .1 .few)
-
-element-copy-out-t11 : tie.Need-element-copy-out-t11 Inv-loop μ-loop
-element-copy-out-t11 c = omega (arith, c .before .before .before .before .before .pre .1 .few)
-
-returns : tie.Need-returns Inv-loop μ-loop
-returns c = λ rs d. sym (settle-here (c .before .before .before .before .before .before .args .text .now) (c .before .before .before .before .before .before .args .jumps .now) (c .before .before .before .before .loop .i) (c .before .before .before .before .before .before .args .count) (omega arith) (sym (c .before .before .is-answered .ensures) ∙ not-true _ (c .before .if1 .taken))) ∙ c .before .before .before .before .loop .inv .1 ∙ noted-settle (c .before .before .before .before .before .before .args .text .now) (c .before .before .before .before .before .before .args .jumps .now) (c .before .before .before .before .before .before .args .count) rs d
-
-add-i : tie.Need-add-i Inv-loop μ-loop
-add-i c = omega arith
+put-label-requires : tie.Need-put-label-requires Inv-loop μ-loop
+put-label-requires c κs = let q : c .before .before .before .before .before .before .loop .i - 1 + 1 ≡ c .before .before .before .before .before .before .loop .i = omega (arith, c .before .before .before .before .before .loop-test .taken) in (c .before .before .before .before .before .before .before .before .args .text .now, (c .before .before .before .before .before .before .before .before .args .count, rw q (c .before .before .before .before .before .before .loop .inv .0)))
 
 loop-less : tie.Need-loop-less Inv-loop μ-loop
-loop-less c = omega arith
+loop-less c = omega (arith, c .before .before .before .before .before .before .loop-test .taken)
 
 loop-again : tie.Need-loop-again Inv-loop μ-loop
-loop-again c = (omega arith, sym (settle-behind (c .before .before .before .before .before .args .text .now) (c .before .before .before .before .before .args .jumps .now) (c .before .before .before .loop .i) (c .before .before .before .before .before .args .count) (omega arith) (sym (c .before .is-answered .ensures) ∙ not-false _ (c .if1 .left))) ∙ c .before .before .before .loop .inv .1)
+loop-again c = let q : c .before .before .before .before .before .before .before .loop .i - 1 + 1 ≡ c .before .before .before .before .before .before .before .loop .i = omega (arith, c .before .before .before .before .before .before .loop-test .taken) in (c .put-label .ensures (c .before .before .before .before .before .before .before .before .before .args .text .now) (c .before .before .before .before .before .before .before .before .before .args .count) (rw q (c .before .before .before .before .before .before .before .loop .inv .0)), c .before .before .before .missing-from .ensures (c .before .before .before .before .before .before .before .before .before .args .count) (rw q (c .before .before .before .before .before .before .before .loop .inv .0)) (rw q (c .before .before .before .before .before .before .before .loop .inv .1)))
+
+returns : tie.Need-returns Inv-loop μ-loop
+returns c = λ rs d. ap (answerOf (c .before .before .before .before .args .jumps .now)) (sym (c .if1 .taken)) ∙ missed-all (c .before .before .before .before .args .text .now) (c .before .before .before .before .args .jumps .now) (c .before .before .before .before .args .count) (c .before .before .loop .i) (c .before .before .loop .missing) (omega (arith, c .before .loop-test .left)) (c .before .before .loop .inv .1) ∙ noted-settle (c .before .before .before .before .args .text .now) (c .before .before .before .before .args .jumps .now) (c .before .before .before .before .args .count) rs d
+
+sub-t15 : tie.Need-sub-t15 Inv-loop μ-loop
+sub-t15 c = omega (arith, c .before .before .loop .inv .1 .within, c .before .before .before .before .pre .1 .few, c .if1 .left)
+
+mul-t16 : tie.Need-mul-t16 Inv-loop μ-loop
+mul-t16 c = omega (arith, c .before .before .loop .inv .1 .within, c .before .before .before .before .pre .1 .few, c .if1 .left)
+
+mul-t17 : tie.Need-mul-t17 Inv-loop μ-loop
+mul-t17 c = omega (arith, c .before .before .loop .inv .1 .within, c .before .before .before .before .pre .1 .few, c .if1 .left)
+
+element-copy-out-t20 : tie.Need-element-copy-out-t20 Inv-loop μ-loop
+element-copy-out-t20 c = omega (arith, c .before .before .loop .inv .1 .within, c .before .before .before .before .pre .1 .few, c .if1 .left)
 
 returns-2 : tie.Need-returns-2 Inv-loop μ-loop
-returns-2 c = λ rs d. sym (settle-end (c .before .before .before .args .text .now) (c .before .before .before .args .jumps .now) (c .before .loop .i) (c .before .before .before .args .count) (omega arith)) ∙ c .before .loop .inv .1 ∙ noted-settle (c .before .before .before .args .text .now) (c .before .before .before .args .jumps .now) (c .before .before .before .args .count) rs d
+returns-2 c = λ rs d. answer-at (c .before .before .before .before .before .args .jumps .now) (c .before .before .before .loop .missing) (c .before .if1 .left) ∙ missed-all (c .before .before .before .before .before .args .text .now) (c .before .before .before .before .before .args .jumps .now) (c .before .before .before .before .before .args .count) (c .before .before .before .loop .i) (c .before .before .before .loop .missing) (omega (arith, c .before .before .loop-test .left)) (c .before .before .before .loop .inv .1) ∙ noted-settle (c .before .before .before .before .before .args .text .now) (c .before .before .before .before .before .args .jumps .now) (c .before .before .before .before .before .args .count) rs d
 
 pub settle-spec : {M : Type 1} → statement M
-settle-spec =
-    tie.close
-    (tie.spec
-    Inv-loop
-    μ-loop
-    loop-holds
-    is-answered-requires
-    mul-t7
-    mul-t8
-    element-copy-out-t11
-    returns
-    add-i
-    loop-less
-    loop-again
-    returns-2)
+settle-spec = tie.close (tie.spec Inv-loop μ-loop loop-holds sub-i missing-from-requires put-label-requires loop-less loop-again returns sub-t15 mul-t16 mul-t17 element-copy-out-t20 returns-2)
