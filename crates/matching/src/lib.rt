@@ -2,18 +2,14 @@
 // keys hold.
 
 ghost use mathlib.Core.Path.{_≡_};
-ghost use mathlib.Core.List.{List};
-ghost use lib.ListN.{drop};
-ghost use Rattle.rules.specs.Pair as rules;
-ghost use Rattle.rules.specs.Pairs.{Pairs};
+ghost use Prim.Native.Nat.{_≤_};
 ghost use Rattle.keys.specs.Table.{keyOf, operatorOf};
 ghost use Rattle.pairs.specs.Answers.{pairOf};
 ghost use Rattle.pairs.specs.Bounds.{PairIn};
 ghost use Rattle.rule_pairs.specs.Here.{PairsFrom};
 ghost use Rattle.matching.specs.Subjects.{subjectOf, isParentSubject, atEvent, atParent, subjectHolds, pairOn};
 ghost use Rattle.outcome_target.specs.Held.{Holds};
-ghost use Rattle.matching.specs.Judging.{Judging, Begun, ListHolds, OwnOf, NearestOf, MatchedOf};
-ghost use Rattle.matching.specs.Answers.{orParent};
+ghost use Rattle.matching.specs.Judging.{Judging, Begun, ListHolds, Stands, NearestOf, NextOf, MatchedOf};
 use device_lookup::Chain;
 use keys::Key;
 use keys::Operator;
@@ -192,62 +188,6 @@ fn pair_holds(
     )
 }
 
-// ---- all pairs at the event device
-
-// Whether the match keys hold that are judged at the event device and the outcome, and, if so, where the first parent
-// key stands, if there is one.
-pub enum Own {
-    Fail,
-    Hold,
-    HoldWithParents(usize),
-}
-
-// The first parent key so far, where the pair at a place has one or has none.
-fn or_parent(before: Own, parent: bool, at: usize) -> Own
-    ensures { λ r. ⌜ r ≡ orParent before parent at ⌝ }
-{
-    match before {
-        Own::Fail => Own::Fail,
-        Own::Hold => if parent {
-            Own::HoldWithParents(at)
-        } else {
-            Own::Hold
-        },
-        Own::HoldWithParents(first) => Own::HoldWithParents(first),
-    }
-}
-
-fn own_keys(line: &[u8], at: usize, dev: &[u8], event: usize, t: &[u8], layout: Layout) -> Own
-    requires { ⌜ PairsFrom (now line) at × Judging (now dev) event (now t) layout ⌝ }
-    ensures { λ r. ⌜ OwnOf (now (line .entry)) at (now (dev .entry)) event (now (t .entry)) layout r ⌝ }
-{
-    let mut own = Own::Hold;
-    let mut i = at;
-    loop {
-        let pair = rule_pairs::pair_at(line, i);
-        let key = pair.key;
-        let operator = pair.operator;
-        let next = pair.next;
-        let subject = subject_of(key);
-        if !pair_holds(
-            line,
-            pair,
-            at_event(subject, operator),
-            dev,
-            event,
-            t,
-            layout,
-        ) {
-            return Own::Fail;
-        }
-        own = or_parent(own, is_parent(subject), i);
-        if line.len() <= next {
-            return own;
-        }
-        i = next + 1;
-    }
-}
-
 // ---- the parent keys
 
 // The place of the matched device: 0 without parent keys, else from 1, the event device.
@@ -256,14 +196,13 @@ pub enum Matched {
     Missed,
 }
 
-// The nearest device at which the parent keys from `at` on hold.
-fn nearest(line: &[u8], at: usize, dev: &[u8], chain: Chain, t: &[u8], layout: Layout) -> Matched
-    requires { ⌜ PairsFrom (now line) at × Begun (now dev) chain (now t) layout ⌝ }
-    ensures { λ r. ⌜ NearestOf (now (line .entry)) at (now (dev .entry)) chain (now (t .entry)) layout r ⌝ }
+// The nearest device at which the parent keys from a pair on hold.
+fn nearest(line: &[u8], first: Pair, dev: &[u8], chain: Chain, t: &[u8], layout: Layout) -> Matched
+    requires { ⌜ Stands (now line) first × Begun (now dev) chain (now t) layout ⌝ }
+    ensures { λ r. ⌜ NearestOf (now (line .entry)) first (now (dev .entry)) chain (now (t .entry)) layout r ⌝ }
 {
     let devices = chain.len;
     let places = chain.at;
-    let first = rule_pairs::pair_at(line, at);
     let mut k: usize = 0;
     let place = 'search: loop {
         if devices <= k {
@@ -295,6 +234,31 @@ fn nearest(line: &[u8], at: usize, dev: &[u8], chain: Chain, t: &[u8], layout: L
     place
 }
 
+// The place of the matched device behind a pair: 0 before the first parent key, which asks for all of them.
+fn next_place(
+    place: usize,
+    parent: bool,
+    line: &[u8],
+    pair: Pair,
+    dev: &[u8],
+    chain: Chain,
+    t: &[u8],
+    layout: Layout,
+) -> Matched
+    requires { ⌜ (place ≤ chain .len) × Stands (now line) pair × Begun (now dev) chain (now t) layout ⌝ }
+    ensures { λ r. ⌜ NextOf place parent (now (line .entry)) pair (now (dev .entry)) chain (now (t .entry)) layout r ⌝ }
+{
+    if 0 < place {
+        return Matched::At(place);
+    }
+    if !parent {
+        return Matched::At(0);
+    }
+    nearest(line, pair, dev, chain, t, layout)
+}
+
+// ---- a rule
+
 // Whether the rule whose pairs stand from `at` on matches, and at which device.
 pub fn match_rule(
     line: &[u8],
@@ -308,9 +272,34 @@ pub fn match_rule(
     ensures { λ r. ⌜ MatchedOf (now (line .entry)) at (now (dev .entry)) chain (now (t .entry)) layout r ⌝ }
 {
     let places = chain.at;
-    match own_keys(line, at, dev, places[0], t, layout) {
-        Own::Fail => Matched::Missed,
-        Own::Hold => Matched::At(0),
-        Own::HoldWithParents(first) => nearest(line, first, dev, chain, t, layout),
+    let event = places[0];
+    let mut place: usize = 0;
+    let mut i = at;
+    loop {
+        let pair = rule_pairs::pair_at(line, i);
+        let key = pair.key;
+        let operator = pair.operator;
+        let next = pair.next;
+        let subject = subject_of(key);
+        if !pair_holds(
+            line,
+            pair,
+            at_event(subject, operator),
+            dev,
+            event,
+            t,
+            layout,
+        ) {
+            return Matched::Missed;
+        }
+        let parent = is_parent(subject);
+        let Matched::At(found) = next_place(place, parent, line, pair, dev, chain, t, layout) else {
+            return Matched::Missed;
+        };
+        place = found;
+        if line.len() <= next {
+            return Matched::At(place);
+        }
+        i = next + 1;
     }
 }

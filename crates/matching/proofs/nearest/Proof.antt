@@ -14,14 +14,14 @@ use Rattle.rules.specs.Pair as rules
 use Rattle.rules.specs.Pairs.{Pairs}
 use Rattle.pairs.specs.Answers.{pairOf}
 use Rattle.pairs.specs.declared.Pair.{Pair}
-use Rattle.rule_pairs.specs.Here.{PairsFrom, Here}
+use Rattle.rule_pairs.specs.Here.{PairsFrom}
 use Rattle.rule_pairs.proofs.Walk.{walk-on, pair-in, goes-on, Left}
 use Rattle.device.specs.Device.{Member, chain}
 use Rattle.device.specs.Places.{Lies}
 use Rattle.device_lookup.proofs.Devices.{chain-few}
 use Rattle.engine.specs.Match as match
 use Rattle.engine.specs.Match.{parentHolds, parentsHold}
-use Rattle.matching.specs.Judging.{Begun}
+use Rattle.matching.specs.Judging.{Begun, PairAt}
 use Rattle.matching.proofs.Keys.{parent-judged}
 use Rattle.matching.proofs.Tests.{all-fails, all-last, all-next}
 use Rattle.matching.proofs.Search.{near-here, near-later, near-none}
@@ -32,51 +32,56 @@ use Rattle.matching.proofs.nearest.Tie as tie
 abbrev parentTest : Member → rules.Pair → Bool
 parentTest m p = parentHolds (p .key) m p
 
--- the pair at hand is one of the line, and all before it hold at the device at hand
-record Going (line : List ℕ) (at : ℕ) (dev : List ℕ) (device : ℕ) (r : Pair) : Type 0 where
+-- a pair of the line, where all from place j to it hold at the device at hand
+record Going (line : List ℕ) (j : ℕ) (dev : List ℕ) (device : ℕ) (r : Pair) : Type 0 where
   i : ℕ
-  from : PairsFrom line i
-  here : Here line i r
-  left : (m : Member) → Lies dev device m → Left line at i (all (parentTest m)) (all (parentTest m))
+  stands : PairAt line i r
+  left : (m : Member) → Lies dev device m → Left line j i (all (parentTest m)) (all (parentTest m))
 
 abbrev Inv-loop : tie.InvT-loop
-Inv-loop line at dev t layout devices places first k device pair₀ pair = Going line at dev device pair
+Inv-loop line first dev t layout devices places k device pair₀ pair = (j : ℕ) → PairAt line j first → Going line j dev device pair
 
 abbrev μ-loop : tie.MeasureT-loop
-μ-loop line at dev t layout devices places first k device pair₀ pair = length line - pair .next
+μ-loop line first dev t layout devices places k device pair₀ pair = length line - pair .next
 
 abbrev Inv-search : tie.InvT-search
-Inv-search line at dev t layout devices places first k₀ k =
+Inv-search line first dev t layout devices places k₀ k =
     (k ≤ devices)
-    × ((x : Begun dev (record { len = devices; at = places }) t layout) (ps : List rules.Pair) → Pairs (drop at line) ps
+    × ((x : Begun dev (record { len = devices; at = places }) t layout) (j : ℕ) → PairAt line j first → (ps : List rules.Pair) → Pairs (drop j line) ps
     → match.nearest 1 (chain (x .device)) ps ≡ match.nearest (k + 1) (drop k (chain (x .device))) ps)
 
 abbrev μ-search : tie.MeasureT-search
-μ-search line at dev t layout devices places first k₀ k = devices - k
+μ-search line first dev t layout devices places k₀ k = devices - k
 
--- ---- the device at hand
+-- ---- the device and the pair at hand
 
-bytes : (w : tie.Else1 Inv-loop μ-loop Inv-search μ-search) → Bytes (w .before .before .before .before .before .before .before .args .dev .now)
-bytes w = λ i. w .before .before .before .before .before .shared-slice-known2 .given i .fits
+bytes : (w : tie.Else1 Inv-loop μ-loop Inv-search μ-search) → Bytes (w .before .before .before .before .before .before .args .dev .now)
+bytes w = λ i. w .before .before .before .before .shared-slice-known2 .given i .fits
 
 -- one of at most 16
 few : (w : tie.Else1 Inv-loop μ-loop Inv-search μ-search) → w .before .search .k < 16
 few w =
-    let s = w .before .before .before .before .before .before .before in
+    let s = w .before .before .before .before .before .before in
     omega (arith, chain-few (s .args .dev .now) (s .pre .1 .device) (s .pre .1 .decoded), s .pre .1 .chained .len)
 
 device : (w : tie.Else1 Inv-loop μ-loop Inv-search μ-search)
-    → let a = w .before .before .before .before .before .before .before .args in
+    → let a = w .before .before .before .before .before .before .args in
     (x : Begun (a .dev .now) (a .chain) (a .t .now) (a .layout)) → Nth (a .dev .now) (bytes w) (a .chain) (a .t .now) (a .layout) x (w .before .search .k)
-device w x = let a = w .before .before .before .before .before .before .before .args in the-nth (a .dev .now) (bytes w) (a .chain) (a .t .now) (a .layout) x (w .before .search .k) (w .if1 .left)
+device w x = let a = w .before .before .before .before .before .before .args in the-nth (a .dev .now) (bytes w) (a .chain) (a .t .now) (a .layout) x (w .before .search .k) (w .if1 .left)
 
--- the pair at hand, as the definitions judge it there
+stands : (w : tie.At-loop Inv-loop μ-loop Inv-search μ-search) → (i : ℕ) × PairAt (w .before .before .before .before .before .before .before .args .line .now) i (w .loop .pair)
+stands w =
+    let s = w .before .before .before .before .before .before .before .pre .0 in
+    let g = w .loop .inv (s .0) (s .1) in
+    (g .i, g .stands)
+
+-- as the definitions judge it there
 judged : (w : tie.After-pair-holds Inv-loop μ-loop Inv-search μ-search)
-    → let a = w .before .before .before .before .before .before .before .before .before .before .before .args in
+    → let a = w .before .before .before .before .before .before .before .before .before .before .args in
     (x : Begun (a .dev .now) (a .chain) (a .t .now) (a .layout)) (m : Member) → Lies (a .dev .now) (getD (a .chain .at) (w .before .before .before .before .before .search .k) 0) m
     → parentTest m (pairOf (a .line .now) (w .before .before .before .loop .pair)) ≡ w .pair-holds .result
 judged w x m f =
-    let a = w .before .before .before .before .before .before .before .before .before .before .before .args in
+    let a = w .before .before .before .before .before .before .before .before .before .before .args in
     let u = w .before .before .subject-of in
     let v = w .before .at-parent in
     parent-judged (a .line .now) (w .before .before .before .loop .pair) (u .result) (u .ensures) (v .result) (v .ensures) (x .device) m (x .state) (w .pair-holds .result)
@@ -84,11 +89,8 @@ judged w x m f =
 
 -- ----
 
-pair-at-requires : tie.Need-pair-at-requires Inv-loop μ-loop Inv-search μ-search
-pair-at-requires c κs = c .before .before .before .before .pre .0
-
 search-holds : tie.Need-search-holds Inv-loop μ-loop Inv-search μ-search
-search-holds c = (omega arith, λ x ps h. refl)
+search-holds c = (omega arith, λ x j w ps h. refl)
 
 mul-device : tie.Need-mul-device Inv-loop μ-loop Inv-search μ-search
 mul-device c = omega (arith, few c)
@@ -97,9 +99,7 @@ array-read-device : tie.Need-array-read-device Inv-loop μ-loop Inv-search μ-se
 array-read-device c = few c
 
 loop-holds : tie.Need-loop-holds Inv-loop μ-loop Inv-search μ-search
-loop-holds c =
-    let s = c .before .before .before .before .before .before .before in
-    record { i = s .args .at; from = s .pre .0; here = c .before .before .pair-at .ensures; left = λ m f ps h. (ps, h, refl) }
+loop-holds c = λ j w. record { i = j; stands = w; left = λ m f ps h. (ps, h, refl) }
 
 subject-of-requires : tie.Need-subject-of-requires Inv-loop μ-loop Inv-search μ-search
 subject-of-requires c κs = search needs
@@ -109,45 +109,42 @@ at-parent-requires c κs = search needs
 
 pair-holds-requires : tie.Need-pair-holds-requires Inv-loop μ-loop Inv-search μ-search
 pair-holds-requires c κs =
-    let s = c .before .before .before .before .before .before .before .before .before .before in
+    let s = c .before .before .before .before .before .before .before .before .before in
     let a = s .args in
     let e = c .before .before .before in
-    let l = c .before .before .loop in
+    let (i, w) = stands (c .before .before) in
     let n = device e (s .pre .1) in
-    (pair-in (a .line .now) (l .inv .i) (l .pair) (l .inv .from) (l .inv .here), judged-at (a .dev .now) (bytes e) (a .chain) (a .t .now) (a .layout) (s .pre .1) (c .before .before .before .before .search .k) (n .member) (n .lies))
+    (pair-in (a .line .now) i (c .before .before .loop .pair) (w .from) (w .here), judged-at (a .dev .now) (bytes e) (a .chain) (a .t .now) (a .layout) (s .pre .1) (c .before .before .before .before .search .k) (n .member) (n .lies))
 
-add-t27 : tie.Need-add-t27 Inv-loop μ-loop Inv-search μ-search
-add-t27 c = omega (arith, few (c .before .before .before .before .before .before))
+add-t26 : tie.Need-add-t26 Inv-loop μ-loop Inv-search μ-search
+add-t26 c = omega (arith, few (c .before .before .before .before .before .before))
 
 add-pair-at : tie.Need-add-pair-at Inv-loop μ-loop Inv-search μ-search
 add-pair-at c = omega arith
 
-pair-at-requires-2 : tie.Need-pair-at-requires-2 Inv-loop μ-loop Inv-search μ-search
-pair-at-requires-2 c κs =
-    let l = c .before .before .before .before .before .loop in
-    walk-on (c .before .before .before .before .before .before .before .before .before .before .before .before .before .args .line .now) (l .inv .i) (l .pair) (l .inv .from) (l .inv .here) (c .if3 .left)
-
 -- the pairs behind the one at hand
-behind : (w : tie.After-pair-at2 Inv-loop μ-loop Inv-search μ-search) → PairsFrom (w .before .before .before .before .before .before .before .before .before .before .before .before .before .before .args .line .now) (w .before .before .before .before .before .before .loop .pair .next + 1)
+behind : (w : tie.Else3 Inv-loop μ-loop Inv-search μ-search) → PairsFrom (w .before .before .before .before .before .before .before .before .before .before .before .before .args .line .now) (w .before .before .before .before .before .loop .pair .next + 1)
 behind w =
-    let l = w .before .before .before .before .before .before .loop in
-    walk-on (w .before .before .before .before .before .before .before .before .before .before .before .before .before .before .args .line .now) (l .inv .i) (l .pair) (l .inv .from) (l .inv .here) (w .before .if3 .left)
+    let (i, p) = stands (w .before .before .before .before .before) in
+    walk-on (w .before .before .before .before .before .before .before .before .before .before .before .before .args .line .now) i (w .before .before .before .before .before .loop .pair) (p .from) (p .here) (w .if3 .left)
+
+pair-at-requires : tie.Need-pair-at-requires Inv-loop μ-loop Inv-search μ-search
+pair-at-requires c κs = behind c
 
 loop-less : tie.Need-loop-less Inv-loop μ-loop Inv-search μ-search
 loop-less c =
-    let g = goes-on _ (c .before .before .before .before .before .before .loop .pair .next + 1) (c .pair-at2 .result) (behind c) (c .pair-at2 .ensures) in
+    let g = goes-on _ (c .before .before .before .before .before .before .loop .pair .next + 1) (c .pair-at .result) (behind (c .before)) (c .pair-at .ensures) in
     omega arith
 
 loop-again : tie.Need-loop-again Inv-loop μ-loop Inv-search μ-search
-loop-again c =
-    let s = c .before .before .before .before .before .before .before .before .before .before .before .before .before .before in
-    let a = s .args in
+loop-again c = λ j w.
+    let s = c .before .before .before .before .before .before .before .before .before .before .before .before .before in
     let l = c .before .before .before .before .before .before .loop in
+    let g = l .inv j w in
     record {
       i = l .pair .next + 1;
-      from = behind c;
-      here = c .pair-at2 .ensures;
-      left = λ m f. all-next (parentTest m) (a .line .now) (a .at) (l .inv .i) (l .pair) (l .inv .here) (l .inv .left m f) (judged (c .before .before .before) (s .pre .1) m f ∙ not-false _ (c .before .before .if2 .left)) (c .before .if3 .left);
+      stands = record { from = behind (c .before); here = c .pair-at .ensures };
+      left = λ m f. all-next (parentTest m) (s .args .line .now) j (g .i) (l .pair) (g .stands .here) (g .left m f) (judged (c .before .before .before) (s .pre .1) m f ∙ not-false _ (c .before .before .if2 .left)) (c .before .if3 .left);
     }
 
 add-k : tie.Need-add-k Inv-loop μ-loop Inv-search μ-search
@@ -160,33 +157,33 @@ search-again : tie.Need-search-again Inv-loop μ-loop Inv-search μ-search
 unfolding parentsHold
 search-again c = (
   omega arith,
-  λ x ps h.
-      let a = c .before .before .before .before .before .before .before .before .before .before .before .before .args in
+  λ x j w ps h.
       let q = c .before .before .before .before .before .before .search in
       let l = c .before .before .before .before .loop in
+      let g = l .inv j w in
       let n = device (c .before .before .before .before .before) x in
       let f = judged (c .before) x (n .member) (n .lies) ∙ not-true _ (c .if2 .taken) in
-      q .inv .1 x ps h
-      ∙ near-later (chain (x .device)) (q .k) ps (n .member) (n .nth) (all-fails (parentTest (n .member)) (a .line .now) (a .at) (l .inv .i) (l .pair) (l .inv .here) (l .inv .left (n .member) (n .lies)) f ps h),
+      q .inv .1 x j w ps h
+      ∙ near-later (chain (x .device)) (q .k) ps (n .member) (n .nth) (all-fails (parentTest (n .member)) (c .before .before .before .before .before .before .before .before .before .before .before .args .line .now) j (g .i) (l .pair) (g .stands .here) (g .left (n .member) (n .lies)) f ps h),
 )
 
 returns : tie.Need-returns Inv-loop μ-loop Inv-search μ-search
 returns c =
     let q = c .before .search in
-    ((λ x ps h. sym (q .inv .1 x ps h ∙ near-none (chain (x .device)) (q .k) ps (omega (arith, x .chained .len)))), tt)
+    ((λ x j w ps h. sym (q .inv .1 x j w ps h ∙ near-none (chain (x .device)) (q .k) ps (omega (arith, x .chained .len)))), tt)
 
 returns-2 : tie.Need-returns-2 Inv-loop μ-loop Inv-search μ-search
 unfolding parentsHold
 returns-2 c = (
-  (λ x ps h.
-      let a = c .before .before .before .before .before .before .before .before .before .before .before .before .before .args in
+  (λ x j w ps h.
       let q = c .before .before .before .before .before .before .before .search in
       let l = c .before .before .before .before .before .loop in
+      let g = l .inv j w in
       let n = device (c .before .before .before .before .before .before) x in
       let f = judged (c .before .before) x (n .member) (n .lies) ∙ not-false _ (c .before .if2 .left) in
       sym
-      (q .inv .1 x ps h
-      ∙ near-here (chain (x .device)) (q .k) ps (n .member) (n .nth) (all-last (parentTest (n .member)) (a .line .now) (a .at) (l .inv .i) (l .pair) (l .inv .here) (l .inv .left (n .member) (n .lies)) f (c .if3 .taken) ps h))),
+      (q .inv .1 x j w ps h
+      ∙ near-here (chain (x .device)) (q .k) ps (n .member) (n .nth) (all-last (parentTest (n .member)) (c .before .before .before .before .before .before .before .before .before .before .before .before .args .line .now) j (g .i) (l .pair) (g .stands .here) (g .left (n .member) (n .lies)) f (c .if3 .taken) ps h))),
   omega arith,
 )
 
@@ -198,7 +195,6 @@ nearest-spec =
     μ-loop
     Inv-search
     μ-search
-    pair-at-requires
     search-holds
     mul-device
     array-read-device
@@ -206,9 +202,9 @@ nearest-spec =
     subject-of-requires
     at-parent-requires
     pair-holds-requires
-    add-t27
+    add-t26
     add-pair-at
-    pair-at-requires-2
+    pair-at-requires
     loop-less
     loop-again
     add-k
