@@ -36,7 +36,7 @@ use Rattle.records.specs.declared.Change.the-variants as change
 pub prop-ok : (k v : List ℕ) → okText mostKey k ≡ true → length v ≤ mostValue → clean v ≡ true → okProp (property k v) ≡ true
 prop-ok k v h m c = rw (h, le-leb (length v) mostValue m) c
 
-byte-clean : (b : ℕ) → not (eqb b 0) ≡ true → not (eqb (cleanByte b) 0) ≡ true
+pub byte-clean : (b : ℕ) → not (eqb b 0) ≡ true → not (eqb (cleanByte b) 0) ≡ true
 byte-clean b h = go (linkByte b) refl
   where
     go : (t : Bool) → linkByte b ≡ t → not (eqb (pick t b 95) 0) ≡ true

@@ -6,8 +6,7 @@ use mathlib.Core.Bool.{Bool, true, false, not}
 use mathlib.Core.List.{List}
 use native.Mathlib.Omega.{arith}
 use lib.Dec.{leb}
-use lib.ListN.{length, take}
-use lib.Seq.{length-take-le}
+use lib.ListN.{length}
 use borrow.Author.Tests.{le-leb, lt-leb}
 use Rattle.lists.specs.Lists.{pick}
 use Rattle.lists.specs.Checked.{Checked, refused, ok, _>>=_}
@@ -30,9 +29,6 @@ use Rattle.content.specs.declared.ModeRead.{ModeRead}
 use Rattle.content.specs.declared.ModeRead.the-variants as mode
 use Rattle.engine.specs.Substitute.{filled}
 use Rattle.engine.specs.Assign.{closing, ownerIn, modeIn, sourceOf, owned, grouped, moded}
-use Rattle.insertion.specs.declared.Put.{Put}
-use Rattle.insertion.specs.declared.Put.the-variants as put
-use Rattle.substitution.specs.Turns.{Text, Filled}
 use Rattle.records.specs.Records.{Says, Changes}
 use Rattle.records.specs.declared.Change.{Change}
 use Rattle.records.specs.declared.Change.the-variants as change
@@ -138,14 +134,3 @@ module _ (d : Device) (place : ℕ) (s : State) (p : Pair) (o : Op) (v : List �
   single-long Owner q = rw (f, q)
   single-long Group q = rw (f, q)
   single-long Mode q = rw (f, q)
-
--- ---- a text at the front of a buffer
-
-pub filled-front : (o : Checked refusal.Refusal (List ℕ)) (l : List ℕ) (r : Put) (l′ : List ℕ) → Filled o l r l′ → (k : ℕ) → r ≡ put.Done k → Text o l k l′
-filled-front o l r l′ h k q = subst (λ (r : Put). Filled o l r l′) q h
-
-pub filled-long : (o : Checked refusal.Refusal (List ℕ)) (l : List ℕ) (r : Put) (l′ : List ℕ) → Filled o l r l′ → r ≡ put.Full → o ≡ refused refusal.substitution-long
-filled-long o l r l′ h q = subst (λ (r : Put). Filled o l r l′) q h
-
-pub front-size : (o : Checked refusal.Refusal (List ℕ)) (l : List ℕ) (k : ℕ) (l′ : List ℕ) → Text o l k l′ → k ≡ length (take k l′)
-front-size o l k l′ h = sym (length-take-le k l′ (omega (arith, h .room, h .size)))

@@ -5,7 +5,8 @@ use Rattle.engine.specs.Substitute.{filled}
 use Rattle.device.specs.Device.{chain}
 use mathlib.Core.Bool.{false}
 use lib.ListN.{length}
-use Rattle.assign_owner.proofs.Owners.{single-says, single-long, filled-front, filled-long, front-size}
+use Rattle.filling.proofs.Texts.{filled-front, filled-long, front-size}
+use Rattle.assign_owner.proofs.Owners.{single-says, single-long}
 use Rattle.keys.specs.Table.{operatorOf}
 use mathlib.Core.Path.{refl}
 use native.Mathlib.Omega.{arith}
