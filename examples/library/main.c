@@ -1,0 +1,59 @@
+/* The library from C: checks two rules texts, and makes the fresh outcome record and the run list of a device. */
+#include <stdio.h>
+#include <string.h>
+
+#include "spillfinch.h"
+
+/* ttyUSB0 with one property and no parents; the README of reference/ shows how such records are packed from text. */
+static const uint8_t device[] = "\x10\x10\xbc\x00\x00\x00\x40"            /* one device; add; node 188:0; 1 property */
+                                "\x10\x07" "ID_MODEL" "counter"           /* key 8 bytes, value 7 */
+                                "\x0a\x86\x00\x00" "/devices/usb1/ttyUSB0" "tty"; /* path 21 bytes, subsystem 3, no driver, no attributes */
+
+static uint8_t outcome[SPILLFINCH_OUTCOME_ROOM];
+static uint8_t run_list[SPILLFINCH_RUN_LIST_ROOM];
+
+static void show_answer(const char *what, const uint32_t *answer)
+{
+    if (answer[SPILLFINCH_NUMBER] == SPILLFINCH_ACCEPTED)
+        printf("%s: accepted, %u visited, %u bytes\n", what, (unsigned)answer[SPILLFINCH_VISITED], (unsigned)answer[SPILLFINCH_USED]);
+    else
+        printf("%s: refused %u line %u\n", what, (unsigned)answer[SPILLFINCH_NUMBER], (unsigned)answer[SPILLFINCH_LINE]);
+}
+
+static void show_bytes(const uint8_t *bytes, size_t length)
+{
+    for (size_t i = 0; i < length; i++)
+        printf(i + 1 == length ? "%02x\n" : "%02x ", bytes[i]);
+}
+
+static void check(const char *what, const char *text)
+{
+    uint32_t answer[SPILLFINCH_ANSWER_LENGTH];
+    spillfinch_check((const uint8_t *)text, strlen(text), answer);
+    show_answer(what, answer);
+}
+
+int main(void)
+{
+    const size_t device_length = sizeof device - 1;
+    uint32_t answer[SPILLFINCH_ANSWER_LENGTH];
+
+    check("check of a rule", "KERNEL==\"ttyUSB[0-9]*\", SYMLINK+=\"counter%n\"\n");
+    check("check of a jump without its label", "# counters\nKERNEL!=\"tty*\", GOTO=\"end\"\n");
+
+    spillfinch_fresh(device, device_length, outcome, sizeof outcome, answer);
+    show_answer("fresh", answer);
+    show_bytes(outcome, answer[SPILLFINCH_USED]);
+    const size_t outcome_length = answer[SPILLFINCH_USED];
+
+    spillfinch_close(device, device_length, outcome, outcome_length, run_list, sizeof run_list, answer);
+    show_answer("close", answer);
+    show_bytes(run_list, answer[SPILLFINCH_USED]);
+
+    spillfinch_close(device, device_length - 1, outcome, outcome_length, run_list, sizeof run_list, answer);
+    show_answer("close beside a device record that is cut short", answer);
+
+    spillfinch_fresh(device, device_length, outcome, SPILLFINCH_OUTCOME_ROOM - 1, answer);
+    show_answer("fresh into a target that is too short", answer);
+    return 0;
+}

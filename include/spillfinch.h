@@ -1,0 +1,100 @@
+/* Spillfinch: udev rules tried against recorded devices.
+ *
+ * Every function takes any bytes of any length and comes back; there is no state between calls and no memory of the heap. A call
+ * needs less than 256 KB of stack.
+ *
+ * A pointer must not be null, not even beside a length of 0. What is written (target, answer) must not overlap anything else that
+ * the same call is given.
+ *
+ * All 8 numbers of `answer` are written in every call:
+ *   answer[SPILLFINCH_NUMBER]   0, or why the input is refused (enum spillfinch_refusal)
+ *   answer[SPILLFINCH_LINE]     the line of the rules text that is refused, from 1; 0 if the refusal is about no line
+ *   answer[SPILLFINCH_VISITED]  how many rules had their matching begun; 0 for all but a run
+ *   answer[SPILLFINCH_USED]     the length of the record at the start of the target; 0 after a refusal and for a check
+ *   answer[4] to answer[7]      0, kept for later counts
+ *
+ * All bytes of `target` are written in every call: behind the record they are zero, after a refusal all of them are.
+ */
+#ifndef SPILLFINCH_H
+#define SPILLFINCH_H
+
+#include <stddef.h>
+#include <stdint.h>
+
+#ifdef __cplusplus
+extern "C" {
+#endif
+
+/* The room that a target must have: the length of the fullest outcome record, and of the fullest run list. */
+#define SPILLFINCH_OUTCOME_ROOM 17611
+#define SPILLFINCH_RUN_LIST_ROOM 8225
+
+/* The longest input that can be accepted. */
+#define SPILLFINCH_TEXT_MOST 32768
+#define SPILLFINCH_DEVICE_MOST 16384
+
+/* Limits of a rules text: bytes of a line, bytes of a value, pairs of a line, rules. */
+#define SPILLFINCH_LINE_MOST 1024
+#define SPILLFINCH_VALUE_MOST 256
+#define SPILLFINCH_PAIRS_MOST 32
+#define SPILLFINCH_RULES_MOST 512
+
+/* Limits of the records: devices of a chain (the event device, then its parents), attributes of a device, properties; entries of an
+ * outcome record; bytes of a substituted text. */
+#define SPILLFINCH_CHAIN_MOST 16
+#define SPILLFINCH_ATTRIBUTES_MOST 31
+#define SPILLFINCH_PROPERTIES_MOST 32
+#define SPILLFINCH_LINKS_MOST 16
+#define SPILLFINCH_TAGS_MOST 16
+#define SPILLFINCH_RUNS_MOST 16
+#define SPILLFINCH_SUBSTITUTED_MOST 512
+
+enum spillfinch_answer {
+    SPILLFINCH_NUMBER = 0,
+    SPILLFINCH_LINE = 1,
+    SPILLFINCH_VISITED = 2,
+    SPILLFINCH_USED = 3,
+    SPILLFINCH_ANSWER_LENGTH = 8
+};
+
+/* Why an input is refused. */
+enum spillfinch_refusal {
+    SPILLFINCH_ACCEPTED = 0,
+    SPILLFINCH_TARGET_SHORT = 1,
+    SPILLFINCH_TEXT_LONG = 2,
+    SPILLFINCH_DEVICE_BAD = 3,
+    SPILLFINCH_OUTCOME_BAD = 4,
+    SPILLFINCH_LINE_BAD = 10,          /* a line that is too long or holds NUL */
+    SPILLFINCH_KEY_BAD = 11,           /* a key that is unknown or missing */
+    SPILLFINCH_ARGUMENT_BAD = 12,      /* an argument in braces that is missing, faulty or not taken by the key */
+    SPILLFINCH_OPERATOR_BAD = 13,      /* an operator that is missing or not one of the key's */
+    SPILLFINCH_VALUE_BAD = 14,         /* a value without its quotation marks, or too long */
+    SPILLFINCH_CONTENT_BAD = 15,       /* a value that is no pattern, template, setting, label or tag, as its key asks */
+    SPILLFINCH_PAIR_EXTRA = 16,        /* a pair too many, or a second LABEL or GOTO */
+    SPILLFINCH_COMMA_MISSING = 17,     /* neither a comma nor the line's end behind a pair */
+    SPILLFINCH_RULE_EXTRA = 18,        /* a rule too many */
+    SPILLFINCH_LABEL_MISSING = 19,     /* a GOTO without a later LABEL */
+    SPILLFINCH_SUBSTITUTION_LONG = 30, /* a substituted text that is too long */
+    SPILLFINCH_LINK_BAD = 31,          /* a link that is too long, absolute, or has an empty, `.` or `..` component */
+    SPILLFINCH_LIST_FULL = 32,         /* one more link, tag, program or property than there is room for */
+    SPILLFINCH_OWNER_BAD = 33,         /* an owner or a group that is faulty */
+    SPILLFINCH_MODE_BAD = 34           /* a mode that is faulty */
+};
+
+/* Reads a rules text without a device: whether it is accepted, else the number and the line of its first refusal (2, 10 to 19). */
+void spillfinch_check(const uint8_t *text, size_t text_length, uint32_t answer[SPILLFINCH_ANSWER_LENGTH]);
+
+/* Writes the outcome record that a device starts with: its properties, and nothing else set. Refusals: 1, 3. */
+void spillfinch_fresh(const uint8_t *device, size_t device_length, uint8_t *target, size_t target_length,
+                      uint32_t answer[SPILLFINCH_ANSWER_LENGTH]);
+
+/* Writes the run list of an outcome record: each program or builtin, its template substituted with the record's properties and with
+ * the device. Refusals: 1, 3, 4, 30, all with line 0. */
+void spillfinch_close(const uint8_t *device, size_t device_length, const uint8_t *outcome, size_t outcome_length, uint8_t *target,
+                      size_t target_length, uint32_t answer[SPILLFINCH_ANSWER_LENGTH]);
+
+#ifdef __cplusplus
+}
+#endif
+
+#endif
