@@ -35,24 +35,33 @@ behind-both y z l₁ l₂ l₃ p q r f g x l used a =
 pub behind-none : (l : List ℕ) (p : Put) → Behind [] l p p l
 behind-none l p x m used a = subst (λ (t : List ℕ). Appended t m used p l) (sym (append-nil x)) a
 
+-- ---- what is left to write
+
+-- z behind what is written so far, p, in l, makes it y behind p₀ in l₀
+abbrev pub Leads : (y l₀ : List ℕ) (p₀ : Put) (z l : List ℕ) (p : Put) → Type 0
+Leads y l₀ p₀ z l p = (r : Put) (l₂ : List ℕ) → Behind z l p r l₂ → Behind y l₀ p₀ r l₂
+
+module _ (y l₀ : List ℕ) (p₀ : Put) (l : List ℕ) (p : Put) where
+  pub leads-more : (a b : List ℕ) → Leads y l₀ p₀ (a ++ b) l p → (p₁ : Put) (l₁ : List ℕ) → Behind a l p p₁ l₁ → Leads y l₀ p₀ b l₁ p₁
+  leads-more a b f p₁ l₁ g r l₂ h = f r l₂ (behind-both a b l l₁ l₂ p p₁ r g h)
+
+  pub leads-last : Leads y l₀ p₀ [] l p → Behind y l₀ p₀ p l
+  leads-last f = f p l (behind-none l p)
+
 -- ---- a text, byte by byte
 
 escaped-next : (t : List ℕ) (i : ℕ) → i < length t → escaped (drop i t) ≡ shownByte (getD t i 0) ++ escaped (drop (i + 1) t)
 unfolding escaped
 escaped-next t i h = ap escaped (rest-at t i h)
 
--- z behind what is written so far, p, in l, makes it y behind p₀ in l₀
-abbrev pub Leads : (y l₀ : List ℕ) (p₀ : Put) (z l : List ℕ) (p : Put) → Type 0
-Leads y l₀ p₀ z l p = (r : Put) (l₂ : List ℕ) → Behind z l p r l₂ → Behind y l₀ p₀ r l₂
-
 module _ (y l₀ : List ℕ) (p₀ : Put) (t : List ℕ) (i : ℕ) (l : List ℕ) (p : Put) (f : Leads y l₀ p₀ (escaped (drop i t)) l p) where
   pub leads-next : i < length t → (p₁ : Put) (l₁ : List ℕ) → Behind (shownByte (getD t i 0)) l p p₁ l₁ → Leads y l₀ p₀ (escaped (drop (i + 1) t)) l₁ p₁
-  leads-next h p₁ l₁ b r l₂ g =
-      f r l₂ (subst (λ (z : List ℕ). Behind z l p r l₂) (sym (escaped-next t i h)) (behind-both (shownByte (getD t i 0)) (escaped (drop (i + 1) t)) l l₁ l₂ p p₁ r b g))
+  leads-next h =
+      leads-more y l₀ p₀ l p (shownByte (getD t i 0)) (escaped (drop (i + 1) t)) (subst (λ (z : List ℕ). Leads y l₀ p₀ z l p) (escaped-next t i h) f)
 
   pub leads-end : length t ≤ i → Behind y l₀ p₀ p l
   unfolding escaped
-  leads-end h = f p l (subst (λ (z : List ℕ). Behind (escaped z) l p p l) (sym (drop-of-length-le t h)) (behind-none l p))
+  leads-end h = leads-last y l₀ p₀ l p (subst (λ (z : List ℕ). Leads y l₀ p₀ (escaped z) l p) (drop-of-length-le t h) f)
 
 -- ---- what the code writes
 
