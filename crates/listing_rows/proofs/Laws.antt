@@ -8,12 +8,16 @@ use native.Mathlib.Nat.{not-suc-le-zero}
 use lib.ListN.{length, take, drop}
 use Rattle.lists.specs.Lists.{cat}
 use Rattle.lists.proofs.Moves.{ap-at}
+use Rattle.entries.specs.Entry.{Property, oneProp}
+use Rattle.entries.specs.Parse.{got, many}
+use Rattle.entries.proofs.Rows.{through}
+use Rattle.rows.proofs.Readers.{property-reads, one-got}
 use Rattle.engine.specs.Listing.{escaped, lineOf}
 use Rattle.insertion.specs.declared.Put.{Put}
 use Rattle.rows.specs.Entry.{size, name, rest, Placed}
 use Rattle.rows.specs.Row.{names}
 use Rattle.rows.specs.declared.Kind.{Kind}
-use Rattle.rows.specs.declared.Kind.the-variants.{Text}
+use Rattle.rows.specs.declared.Kind.the-variants as kind
 use Rattle.rows.specs.declared.Entry.{Entry}
 use Rattle.rows.proofs.Turns.{place-name, place-rest, place-next}
 use Rattle.listing_lines.specs.Behind.{Behind}
@@ -56,6 +60,19 @@ module _ (kind : Kind) (word l : List ℕ) (p left : ℕ) (y o₀ : List ℕ) (f
 
 -- ---- texts
 
-pub text-lines : (word : List ℕ) (n : ℕ) (bs : List ℕ) → entryLines Text word n bs ≡ cat (λ (x : List ℕ). lineOf word (escaped x)) (names Text n bs)
+pub text-lines : (word : List ℕ) (n : ℕ) (bs : List ℕ) → entryLines kind.Text word n bs ≡ cat (λ (x : List ℕ). lineOf word (escaped x)) (names kind.Text n bs)
 text-lines word zero bs = refl
-text-lines word (suc n) bs = ap (λ (z : List ℕ). lineOf word (escaped (name Text bs)) ++ z) (text-lines word n (drop (size Text bs) bs))
+text-lines word (suc n) bs = ap (λ (z : List ℕ). lineOf word (escaped (name kind.Text bs)) ++ z) (text-lines word n (drop (size kind.Text bs) bs))
+
+-- ---- properties
+
+pub property-lines : (word : List ℕ) (n : ℕ) (bs : List ℕ) (ps : List Property) (r : List ℕ) → many oneProp n bs ≡ got ps r
+    → entryLines kind.Property word n bs ≡ cat (λ (p : Property). lineOf word (escaped (p .key) ++ (61 ∷ escaped (p .value)))) ps
+property-lines word zero bs ps r e = let q : ps ≡ [] = cc in rw q
+property-lines word (suc n) bs ps r e =
+    through (oneProp bs) _ ps r e λ p q e₁ f₁.
+    through (many oneProp n q) _ ps r f₁ λ qs q′ e₂ f₂.
+    let (h, x, y) = one-got property-reads bs p q e₁ in
+    let j : ps ≡ p ∷ qs = cc in
+    let line : Property → List ℕ = λ (p : Property). lineOf word (escaped (p .key) ++ (61 ∷ escaped (p .value))) in
+    rw j (ap₂ (λ (a c : List ℕ). a ++ c) (ap line x) (ap (entryLines kind.Property word n) y ∙ property-lines word n q qs q′ e₂))
