@@ -1,10 +1,10 @@
--- The lines of the lists and properties of the state whose record a target holds.
+-- The lines of the lists, the properties and the priority of the state whose record a target holds.
 -- Assumes nothing.
 use Prim.Native.Nat.{ℕ}
 use mathlib.Core.List.{List, _∷_, _++_}
 use Rattle.lists.specs.Lists.{cat}
 use Rattle.entries.specs.Entry.{Property}
-use Rattle.engine.specs.Listing.{escaped, lineOf}
+use Rattle.engine.specs.Listing.{escaped, signed, lineOf}
 use Rattle.outcome.specs.State.{State}
 use Rattle.outcome_target.specs.Held.{Held}
 use Rattle.outcome_target.specs.Texts.{textsIn}
@@ -26,3 +26,6 @@ TextsBehind list word t lay o front r o₁ = (n : ℕ) (s : State) → Held n t 
 
 abbrev pub PropertiesBehind : List ℕ → List ℕ → Layout → List ℕ → Put → Put → List ℕ → Type 0
 PropertiesBehind word t lay o front r o₁ = (n : ℕ) (s : State) → Held n t lay s → Behind (propertyLines word (s .properties)) o front r o₁
+
+abbrev pub PriorityBehind : List ℕ → List ℕ → Layout → List ℕ → Put → Put → List ℕ → Type 0
+PriorityBehind word t lay o front r o₁ = (n : ℕ) (s : State) → Held n t lay s → Behind (lineOf word (signed (s .priority))) o front r o₁
