@@ -1,0 +1,63 @@
+-- What the assignments of a rule leave.
+-- Assumes nothing.
+use Prim.Native.Nat.{ℕ, _≤_}
+use mathlib.Core.Path.{_≡_}
+use mathlib.Core.Bool.{true, false}
+use mathlib.Core.List.{List, [], _∷_}
+use lib.ListN.{length, drop}
+use Rattle.lists.specs.Bytes.{clean}
+use Rattle.lists.specs.Checked.{Checked, refused, ok}
+use Rattle.lists.specs.Refusal as refusal
+use Rattle.lists.specs.Sizes.{mostValue}
+use Rattle.rules.specs.Key.{isMatch}
+use Rattle.rules.specs.Pair as rules
+use Rattle.rules.specs.Pairs.{Pairs}
+use Rattle.refusals.specs.Refusals.{refusalOf}
+use Rattle.pairs.specs.Answers.{pairOf}
+use Rattle.pairs.specs.Bounds.{PairIn}
+use Rattle.pairs.specs.declared.Pair.{Pair}
+use Rattle.device.specs.Device.{Device, chain}
+use Rattle.device_lookup.specs.declared.Chain.{Chain}
+use Rattle.outcome.specs.State.{State}
+use Rattle.outcome_target.specs.Held.{Held}
+use Rattle.outcome_target.specs.declared.Layout.{Layout}
+use Rattle.engine.specs.Assign as assign
+use Rattle.engine.specs.Assign.{assignPair, assignAll}
+use Rattle.engine.specs.Step.{begun}
+use Rattle.records.specs.Records.{Denotes}
+use Rattle.records.specs.declared.Change.{Change}
+use Rattle.records.specs.declared.Change.the-variants.{Left, Refused}
+use Rattle.assign_key.specs.Keys.{FitsKey, workOf, Beside, WorkSays}
+use Rattle.assign_key.specs.declared.Work.{Work}
+use Rattle.assign_key.specs.declared.Assigned.{Assigned}
+
+-- what reading ensures of a pair
+pub record Assignable (p : rules.Pair) : Type 0 where
+  pub unbroken : clean (p .value) ≡ true
+  pub short : length (p .value) ≤ mostValue
+  pub fits : isMatch (p .op) ≡ false → FitsKey (p .key) (p .argument) (p .value)
+
+abbrev pub Assignables : List rules.Pair → Type 0
+Assignables [] = Unit {0}
+Assignables (p ∷ ps) = Assignable p × Assignables ps
+
+-- the pairs of a rule that was read, from a place of its line on
+abbrev pub RuleFrom : List ℕ → ℕ → Type 0
+RuleFrom line at = (at ≤ length line) × ((ps : List rules.Pair) × Pairs (drop at line) ps × Assignables ps)
+
+abbrev pub Readable : List ℕ → Pair → Type 0
+Readable line r = PairIn line r × Assignable (pairOf line r)
+
+abbrev pub PairAssigned : List ℕ → Pair → List ℕ → Chain → ℕ → List ℕ → Work → List ℕ → Assigned → Type 0
+PairAssigned line pair dev places place t w t′ r =
+    Beside (λ d s. WorkSays (length (chain d)) t′ r (assignPair d place (pairOf line pair) (workOf s (w .escape)))) dev places t w
+
+-- an answer beside what the definition gives; the escape setting ends with the rule
+abbrev pub AllSays : ℕ → List ℕ → Change → Checked refusal.Refusal assign.Work → Type 0
+AllSays n t (Left lay) c = (w : assign.Work) × (c ≡ ok w) × Held n t lay (w .state)
+AllSays n t (Refused f) c = c ≡ refused (refusalOf f)
+
+abbrev pub AllAssigned : List ℕ → ℕ → List ℕ → Chain → ℕ → List ℕ → Layout → List ℕ → Change → Type 0
+AllAssigned line at dev places place t lay t′ r =
+    (ps : List rules.Pair) → Pairs (drop at line) ps
+    → (d : Device) (s : State) → Denotes dev places t lay d s → AllSays (length (chain d)) t′ r (assignAll d place ps (begun s))

@@ -1,0 +1,98 @@
+-- `runner::run_line` meets its contract.
+-- Assumes nothing.
+use mathlib.Core.Path.{refl}
+use Rattle.pairs.specs.Answers.{part}
+use Rattle.runner.proofs.Lines.{is-blank, is-comment, is-rule, line-skipped, line-passed, line-missed, line-left, line-refused}
+use native.Mathlib.Omega.{arith}
+use borrow.Author.Needs.{needs}
+use Rattle.runner.proofs.run_line.Statement.{statement}
+use Rattle.runner.proofs.run_line.Tie as tie
+
+sub-line : tie.Need-sub-line
+sub-line c = search needs
+
+part-line-start : tie.Need-part-line-start
+part-line-start c = search needs
+
+part-line-end : tie.Need-part-line-end
+part-line-end c = search needs
+
+blank-end-requires : tie.Need-blank-end-requires
+blank-end-requires c κs = search needs
+
+returns : tie.Need-returns
+returns c = record { says = λ d s h n. line-skipped (c .before .before .before .before .before .before .args .text .now) (c .before .before .before .before .before .before .args .dev .now) (c .before .before .before .before .before .before .args .chain) (c .before .before .before .before .before .before .args .standing) d s n (part (c .before .before .before .before .before .before .args .text .now) (c .before .before .before .before .before .before .args .start) (c .before .before .before .before .before .before .args .end)) (c .before .before .before .before .before .before .args .t .now) (is-blank (part (c .before .before .before .before .before .before .args .text .now) (c .before .before .before .before .before .before .args .start) (c .before .before .before .before .before .before .args .end)) (c .before .blank-end .result) (c .before .blank-end .ensures) (c .before .before .before .before .before .before .pre .faultless) (c .if1 .taken)) h (c .before .before .before .before .before .before .pre .sought); length = refl }
+
+shared-slice-read-if2 : tie.Need-shared-slice-read-if2
+shared-slice-read-if2 c = search needs
+
+returns-2 : tie.Need-returns-2
+returns-2 c = record { says = λ d s h n. line-skipped (c .before .before .before .before .before .before .before .before .args .text .now) (c .before .before .before .before .before .before .before .before .args .dev .now) (c .before .before .before .before .before .before .before .before .args .chain) (c .before .before .before .before .before .before .before .before .args .standing) d s n (part (c .before .before .before .before .before .before .before .before .args .text .now) (c .before .before .before .before .before .before .before .before .args .start) (c .before .before .before .before .before .before .before .before .args .end)) (c .before .before .before .before .before .before .before .before .args .t .now) (is-comment (part (c .before .before .before .before .before .before .before .before .args .text .now) (c .before .before .before .before .before .before .before .before .args .start) (c .before .before .before .before .before .before .before .before .args .end)) (c .before .before .before .blank-end .result) (c .before .before .before .blank-end .ensures) (c .before .before .before .before .before .before .before .before .pre .faultless) (omega (arith, c .before .before .if1 .left)) (c .if2 .taken)) h (c .before .before .before .before .before .before .before .before .pre .sought); length = refl }
+
+begins-requires : tie.Need-begins-requires
+begins-requires c κs = let r = is-rule (part (c .before .before .before .before .before .before .before .before .args .text .now) (c .before .before .before .before .before .before .before .before .args .start) (c .before .before .before .before .before .before .before .before .args .end)) (c .before .before .before .blank-end .result) (c .before .before .before .blank-end .ensures) (c .before .before .before .before .before .before .before .before .pre .faultless) (omega (arith, c .before .before .if1 .left)) (c .if2 .left) in ((omega (arith, c .before .before .if1 .left), (r .rule, r .pairs)), c .before .before .before .before .before .before .before .before .pre .sought)
+
+returns-3 : tie.Need-returns-3
+returns-3 c = let r = is-rule (part (c .before .before .before .before .before .before .before .before .before .before .args .text .now) (c .before .before .before .before .before .before .before .before .before .before .args .start) (c .before .before .before .before .before .before .before .before .before .before .args .end)) (c .before .before .before .before .before .blank-end .result) (c .before .before .before .before .before .blank-end .ensures) (c .before .before .before .before .before .before .before .before .before .before .pre .faultless) (omega (arith, c .before .before .before .before .if1 .left)) (c .before .before .if2 .left) in record { says = λ d s h n. line-passed (c .before .before .before .before .before .before .before .before .before .before .args .text .now) (c .before .before .before .before .before .before .before .before .before .before .args .dev .now) (c .before .before .before .before .before .before .before .before .before .before .args .chain) (c .before .before .before .before .before .before .before .before .before .before .args .standing) d s n (part (c .before .before .before .before .before .before .before .before .before .before .args .text .now) (c .before .before .before .before .before .before .before .before .before .before .args .start) (c .before .before .before .before .before .before .before .before .before .before .args .end)) (c .before .before .before .before .before .before .before .before .before .before .args .t .now) (r .rule) (r .reads) (c .before .begins .result) (c .before .begins .ensures (r .rule) (r .pairs)) (c .if3 .taken) h (c .before .before .before .before .before .before .before .before .before .before .pre .sought); length = refl }
+
+add-visited : tie.Need-add-visited
+add-visited c = omega (arith, c .before .before .before .before .before .before .before .before .before .before .before .before .pre .few)
+
+step-requires : tie.Need-step-requires
+step-requires c κs = let r = is-rule (part (c .before .before .before .before .before .before .before .before .before .before .before .before .before .args .text .now) (c .before .before .before .before .before .before .before .before .before .before .before .before .before .args .start) (c .before .before .before .before .before .before .before .before .before .before .before .before .before .args .end)) (c .before .before .before .before .before .before .before .before .blank-end .result) (c .before .before .before .before .before .before .before .before .blank-end .ensures) (c .before .before .before .before .before .before .before .before .before .before .before .before .before .pre .faultless) (omega (arith, c .before .before .before .before .before .before .before .if1 .left)) (c .before .before .before .before .before .if2 .left) in ((omega (arith, c .before .before .before .before .before .before .before .if1 .left), (r .rule, r .pairs, r .sound)), c .before .before .before .before .before .before .before .before .before .before .before .before .before .pre .ready)
+
+enum-told : tie.Need-enum-told
+enum-told c = search needs
+
+enum-known-left : tie.Need-enum-known-left
+enum-known-left c = search needs
+
+after-requires : tie.Need-after-requires
+after-requires c κs = let r = is-rule (part (c .before .before .before .before .before .before .before .before .before .before .before .before .before .before .before .before .before .before .before .args .text .now) (c .before .before .before .before .before .before .before .before .before .before .before .before .before .before .before .before .before .before .before .args .start) (c .before .before .before .before .before .before .before .before .before .before .before .before .before .before .before .before .before .before .before .args .end)) (c .before .before .before .before .before .before .before .before .before .before .before .before .before .before .blank-end .result) (c .before .before .before .before .before .before .before .before .before .before .before .before .before .before .blank-end .ensures) (c .before .before .before .before .before .before .before .before .before .before .before .before .before .before .before .before .before .before .before .pre .faultless) (omega (arith, c .before .before .before .before .before .before .before .before .before .before .before .before .before .if1 .left)) (c .before .before .before .before .before .before .before .before .before .before .before .if2 .left) in (c .before .before .before .before .before .before .before .before .before .before .before .before .before .before .before .before .before .before .before .pre .from, c .before .before .before .before .before .before .before .before .before .before .before .before .before .before .before .before .before .before .before .pre .within, (omega (arith, c .before .before .before .before .before .before .before .before .before .before .before .before .before .if1 .left), (r .rule, r .pairs)))
+
+enum-known-refusal : tie.Need-enum-known-refusal
+enum-known-refusal c = search needs
+
+same-length : tie.Need-same-length
+same-length c = c .before .before .before .before .step .ensures .length
+
+returns-4 : tie.Need-returns-4
+returns-4 c = let r = is-rule (part (c .before .before .before .before .before .before .before .before .before .before .before .before .before .before .before .before .before .before .args .text .now) (c .before .before .before .before .before .before .before .before .before .before .before .before .before .before .before .before .before .before .args .start) (c .before .before .before .before .before .before .before .before .before .before .before .before .before .before .before .before .before .before .args .end)) (c .before .before .before .before .before .before .before .before .before .before .before .before .before .blank-end .result) (c .before .before .before .before .before .before .before .before .before .before .before .before .before .blank-end .ensures) (c .before .before .before .before .before .before .before .before .before .before .before .before .before .before .before .before .before .before .pre .faultless) (omega (arith, c .before .before .before .before .before .before .before .before .before .before .before .before .if1 .left)) (c .before .before .before .before .before .before .before .before .before .before .if2 .left) in record { says = λ d s h n. line-missed (c .before .before .before .before .before .before .before .before .before .before .before .before .before .before .before .before .before .before .args .text .now) (c .before .before .before .before .before .before .before .before .before .before .before .before .before .before .before .before .before .before .args .dev .now) (c .before .before .before .before .before .before .before .before .before .before .before .before .before .before .before .before .before .before .args .chain) (c .before .before .before .before .before .before .before .before .before .before .before .before .before .before .before .before .before .before .args .standing) d s n (part (c .before .before .before .before .before .before .before .before .before .before .before .before .before .before .before .before .before .before .args .text .now) (c .before .before .before .before .before .before .before .before .before .before .before .before .before .before .before .before .before .before .args .start) (c .before .before .before .before .before .before .before .before .before .before .before .before .before .before .before .before .before .before .args .end)) _ (r .rule) (r .reads) (c .before .before .before .before .before .before .before .before .before .begins .result) (c .before .before .before .before .before .before .before .before .before .begins .ensures (r .rule) (r .pairs)) (c .before .before .before .before .before .before .before .before .if3 .left) _ refl (c .before .before .before .before .step .result) (c .enum-told .given .1) (c .before .before .before .before .step .ensures .says d s h (r .rule) (r .pairs)); length = c .before .before .before .before .step .ensures .length }
+
+same-length-2 : tie.Need-same-length-2
+same-length-2 c = c .before .before .before .before .before .before .step .ensures .length
+
+returns-5 : tie.Need-returns-5
+returns-5 c = let r = is-rule (part (c .before .before .before .before .before .before .before .before .before .before .before .before .before .before .before .before .before .before .before .before .args .text .now) (c .before .before .before .before .before .before .before .before .before .before .before .before .before .before .before .before .before .before .before .before .args .start) (c .before .before .before .before .before .before .before .before .before .before .before .before .before .before .before .before .before .before .before .before .args .end)) (c .before .before .before .before .before .before .before .before .before .before .before .before .before .before .before .blank-end .result) (c .before .before .before .before .before .before .before .before .before .before .before .before .before .before .before .blank-end .ensures) (c .before .before .before .before .before .before .before .before .before .before .before .before .before .before .before .before .before .before .before .before .pre .faultless) (omega (arith, c .before .before .before .before .before .before .before .before .before .before .before .before .before .before .if1 .left)) (c .before .before .before .before .before .before .before .before .before .before .before .before .if2 .left) in record { says = λ d s h n. line-left (c .before .before .before .before .before .before .before .before .before .before .before .before .before .before .before .before .before .before .before .before .args .text .now) (c .before .before .before .before .before .before .before .before .before .before .before .before .before .before .before .before .before .before .before .before .args .dev .now) (c .before .before .before .before .before .before .before .before .before .before .before .before .before .before .before .before .before .before .before .before .args .chain) (c .before .before .before .before .before .before .before .before .before .before .before .before .before .before .before .before .before .before .before .before .args .standing) d s n (part (c .before .before .before .before .before .before .before .before .before .before .before .before .before .before .before .before .before .before .before .before .args .text .now) (c .before .before .before .before .before .before .before .before .before .before .before .before .before .before .before .before .before .before .before .before .args .start) (c .before .before .before .before .before .before .before .before .before .before .before .before .before .before .before .before .before .before .before .before .args .end)) _ (r .rule) (r .reads) (c .before .before .before .before .before .before .before .before .before .before .before .begins .result) (c .before .before .before .before .before .before .before .before .before .before .before .begins .ensures (r .rule) (r .pairs)) (c .before .before .before .before .before .before .before .before .before .before .if3 .left) _ refl (c .before .before .before .before .before .before .step .result) (c .before .before .left .given .0 .0) (c .before .before .left .given .1) (c .before .before .before .before .before .before .step .ensures .says d s h (r .rule) (r .pairs)) (c .after .result) (c .after .ensures .0 (r .rule) (r .pairs)) (c .after .ensures .1); length = c .before .before .before .before .before .before .step .ensures .length }
+
+same-length-3 : tie.Need-same-length-3
+same-length-3 c = c .before .before .before .before .before .step .ensures .length
+
+returns-6 : tie.Need-returns-6
+returns-6 c = let r = is-rule (part (c .before .before .before .before .before .before .before .before .before .before .before .before .before .before .before .before .before .before .before .args .text .now) (c .before .before .before .before .before .before .before .before .before .before .before .before .before .before .before .before .before .before .before .args .start) (c .before .before .before .before .before .before .before .before .before .before .before .before .before .before .before .before .before .before .before .args .end)) (c .before .before .before .before .before .before .before .before .before .before .before .before .before .before .blank-end .result) (c .before .before .before .before .before .before .before .before .before .before .before .before .before .before .blank-end .ensures) (c .before .before .before .before .before .before .before .before .before .before .before .before .before .before .before .before .before .before .before .pre .faultless) (omega (arith, c .before .before .before .before .before .before .before .before .before .before .before .before .before .if1 .left)) (c .before .before .before .before .before .before .before .before .before .before .before .if2 .left) in record { says = λ d s h n. line-refused (c .before .before .before .before .before .before .before .before .before .before .before .before .before .before .before .before .before .before .before .args .text .now) (c .before .before .before .before .before .before .before .before .before .before .before .before .before .before .before .before .before .before .before .args .dev .now) (c .before .before .before .before .before .before .before .before .before .before .before .before .before .before .before .before .before .before .before .args .chain) (c .before .before .before .before .before .before .before .before .before .before .before .before .before .before .before .before .before .before .before .args .standing) d s n (part (c .before .before .before .before .before .before .before .before .before .before .before .before .before .before .before .before .before .before .before .args .text .now) (c .before .before .before .before .before .before .before .before .before .before .before .before .before .before .before .before .before .before .before .args .start) (c .before .before .before .before .before .before .before .before .before .before .before .before .before .before .before .before .before .before .before .args .end)) _ (r .rule) (r .reads) (c .before .before .before .before .before .before .before .before .before .before .begins .result) (c .before .before .before .before .before .before .before .before .before .before .begins .ensures (r .rule) (r .pairs)) (c .before .before .before .before .before .before .before .before .before .if3 .left) _ refl (c .before .before .before .before .before .step .result) (c .before .refusal .given .0 .0) (c .before .refusal .given .1) (c .before .before .before .before .before .step .ensures .says d s h (r .rule) (r .pairs)); length = c .before .before .before .before .before .step .ensures .length }
+
+pub run-line-spec : {M : Type 1} → statement M
+run-line-spec =
+    tie.close
+    (tie.spec
+    sub-line
+    part-line-start
+    part-line-end
+    blank-end-requires
+    returns
+    shared-slice-read-if2
+    returns-2
+    begins-requires
+    returns-3
+    add-visited
+    step-requires
+    enum-told
+    enum-known-left
+    after-requires
+    enum-known-refusal
+    same-length
+    returns-4
+    same-length-2
+    returns-5
+    same-length-3
+    returns-6)

@@ -1,0 +1,137 @@
+// The rules of an accepted text in order, with jumps and the visited count.
+ghost use mathlib.Core.List.{List};
+ghost use mathlib.Core.Path.{_≡_};
+ghost use mathlib.Core.Bool.{true};
+ghost use Prim.Native.Nat.{_≤_};
+ghost use lib.ListN.{length, drop};
+ghost use Rattle.rules.specs.Pair.{Pair, labelOf, gotoOf};
+ghost use Rattle.rules.specs.Pairs.{Pairs};
+ghost use Rattle.pairs.specs.Answers.{part};
+ghost use Rattle.rule_pairs.specs.Here.{PairsFrom};
+ghost use Rattle.text.specs.Running as running;
+ghost use Rattle.records.specs.Records.{Ready};
+ghost use Rattle.runner.specs.Modes.{modeOf, Sought};
+ghost use Rattle.runner.specs.Runs.{LineReady, LineRuns, Accepted, Runs};
+use device_lookup::Chain;
+use outcome_target::Layout;
+use refusals::Refusal;
+use rule_pairs::Mark;
+use rule_pairs::MarkFound;
+use step::Stepped;
+
+// The next rule runs, or the next rule with the label that is written from start to end of the text.
+pub enum Mode {
+    Next,
+    Seek(usize, usize),
+}
+
+// Where a run stands between two lines.
+pub struct Standing {
+    pub layout: Layout,
+    pub mode: Mode,
+    pub visited: u32,
+}
+
+pub enum LineRan {
+    On(Standing),
+    Refused(Refusal),
+}
+
+// The layout of the record that is left and the visited count, or a refusal and its line.
+pub enum TextRan {
+    Ended(Layout, u32),
+    Refused(Refusal, u32),
+}
+
+// Whether the rule whose pairs stand from `at` on begins.
+fn begins(text: &[u8], line: &[u8], at: usize, mode: Mode) -> bool
+    requires { ⌜ PairsFrom (now line) at × Sought (now text) mode ⌝ }
+    ensures { λ r. ⌜ ((ps : List Pair) → Pairs (drop at (now (line .entry))) ps → r ≡ running.begins (modeOf (now (text .entry)) mode) (labelOf ps)) ⌝ }
+{
+    match mode {
+        Mode::Next => true,
+        Mode::Seek(start, end) => match rule_pairs::find_mark(line, at, Mark::Label) {
+            MarkFound::At(s, e) => scan::same(&text[start..end], &line[s..e]),
+            MarkFound::Missing => false,
+        },
+    }
+}
+
+// How the run goes on behind a rule that matched.
+fn after(text: &[u8], start: usize, end: usize, at: usize) -> Mode
+    requires { ⌜ (start ≤ end) × (end ≤ length (now text)) × PairsFrom (part (now text) start end) at ⌝ }
+    ensures { λ r. ⌜ ((ps : List Pair) → Pairs (drop at (part (now (text .entry)) start end)) ps → modeOf (now (text .entry)) r ≡ running.after true (gotoOf ps)) × Sought (now (text .entry)) r ⌝ }
+{
+    match rule_pairs::find_mark(&text[start..end], at, Mark::Goto) {
+        MarkFound::At(s, e) => Mode::Seek(start + s, start + e),
+        MarkFound::Missing => Mode::Next,
+    }
+}
+
+fn run_line(
+    text: &[u8],
+    start: usize,
+    end: usize,
+    dev: &[u8],
+    chain: Chain,
+    t: &mut [u8],
+    standing: Standing,
+) -> LineRan
+    requires { ⌜ LineReady (now text) start end (now dev) chain (now t) standing ⌝ }
+    ensures { λ r. ⌜ LineRuns (now (text .entry)) start end (now (dev .entry)) chain (now (t .entry)) standing (now (t .exit)) r ⌝ }
+{
+    let line = &text[start..end];
+    let at = scan::blank_end(line, 0);
+    if line.len() <= at {
+        return LineRan::On(standing);
+    }
+    if line[at] == b'#' {
+        return LineRan::On(standing);
+    }
+    let mode = standing.mode;
+    if !begins(text, line, at, mode) {
+        return LineRan::On(standing);
+    }
+    let layout = standing.layout;
+    let visited = standing.visited + 1;
+    match step::step(line, at, dev, chain, t, layout) {
+        Stepped::Missed => LineRan::On(Standing {
+            layout,
+            mode: Mode::Next,
+            visited,
+        }),
+        Stepped::Left(left) => LineRan::On(Standing {
+            layout: left,
+            mode: after(text, start, end, at),
+            visited,
+        }),
+        Stepped::Refused(refusal) => LineRan::Refused(refusal),
+    }
+}
+
+// All rules of an accepted text.
+pub fn run_lines(text: &[u8], dev: &[u8], chain: Chain, t: &mut [u8], layout: Layout) -> TextRan
+    requires { ⌜ Accepted (now text) × Ready (now dev) chain (now t) layout ⌝ }
+    ensures { λ r. ⌜ Runs (now (text .entry)) (now (dev .entry)) chain (now (t .entry)) layout (now (t .exit)) r ⌝ }
+{
+    let mut standing = Standing {
+        layout,
+        mode: Mode::Next,
+        visited: 0,
+    };
+    let mut start: usize = 0;
+    let mut number: u32 = 1;
+    while start <= text.len() {
+        let end = scan::byte_end(text, start, 10);
+        match run_line(text, start, end, dev, chain, t, standing) {
+            LineRan::On(next) => {
+                standing = next;
+            }
+            LineRan::Refused(refusal) => return TextRan::Refused(refusal, number),
+        }
+        start = end + 1;
+        number += 1;
+    }
+    let left = standing.layout;
+    TextRan::Ended(left, standing.visited)
+}
