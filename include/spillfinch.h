@@ -88,6 +88,11 @@ void spillfinch_check(const uint8_t *text, size_t text_length, uint32_t answer[S
 void spillfinch_fresh(const uint8_t *device, size_t device_length, uint8_t *target, size_t target_length,
                       uint32_t answer[SPILLFINCH_ANSWER_LENGTH]);
 
+/* Runs a rules text for a device: starts from an outcome record and writes the one that the rules leave. Refusals: 1, 2, 10 to 19, 3, 4, and
+ * 30 to 34 with the line of the rule that was running. */
+void spillfinch_run(const uint8_t *text, size_t text_length, const uint8_t *device, size_t device_length, const uint8_t *outcome,
+                    size_t outcome_length, uint8_t *target, size_t target_length, uint32_t answer[SPILLFINCH_ANSWER_LENGTH]);
+
 /* Writes the run list of an outcome record: each program or builtin, its template substituted with the record's properties and with
  * the device. Refusals: 1, 3, 4, 30, all with line 0. */
 void spillfinch_close(const uint8_t *device, size_t device_length, const uint8_t *outcome, size_t outcome_length, uint8_t *target,

@@ -1,4 +1,4 @@
-/* The library from C: checks two rules texts, and makes the fresh outcome record and the run list of a device. */
+/* The library from C: checks rules texts, and takes a device from its fresh outcome record over a run to its run list. */
 #include <stdio.h>
 #include <string.h>
 
@@ -9,6 +9,9 @@ static const uint8_t device[] = "\x10\x10\xbc\x00\x00\x00\x40"            /* one
                                 "\x10\x07" "ID_MODEL" "counter"           /* key 8 bytes, value 7 */
                                 "\x0a\x86\x00\x00" "/devices/usb1/ttyUSB0" "tty"; /* path 21 bytes, subsystem 3, no driver, no attributes */
 
+static const char rules[] = "KERNEL==\"ttyUSB[0-9]*\", SYMLINK+=\"counter%n\", RUN+=\"tally $env{ID_MODEL}\"\n";
+
+static uint8_t fresh[SPILLFINCH_OUTCOME_ROOM];
 static uint8_t outcome[SPILLFINCH_OUTCOME_ROOM];
 static uint8_t run_list[SPILLFINCH_RUN_LIST_ROOM];
 
@@ -38,13 +41,18 @@ int main(void)
     const size_t device_length = sizeof device - 1;
     uint32_t answer[SPILLFINCH_ANSWER_LENGTH];
 
-    check("check of a rule", "KERNEL==\"ttyUSB[0-9]*\", SYMLINK+=\"counter%n\"\n");
+    check("check of a rule", rules);
     check("check of a jump without its label", "# counters\nKERNEL!=\"tty*\", GOTO=\"end\"\n");
 
-    spillfinch_fresh(device, device_length, outcome, sizeof outcome, answer);
+    spillfinch_fresh(device, device_length, fresh, sizeof fresh, answer);
     show_answer("fresh", answer);
-    show_bytes(outcome, answer[SPILLFINCH_USED]);
+    const size_t fresh_length = answer[SPILLFINCH_USED];
+    show_bytes(fresh, fresh_length);
+
+    spillfinch_run((const uint8_t *)rules, strlen(rules), device, device_length, fresh, fresh_length, outcome, sizeof outcome, answer);
+    show_answer("run", answer);
     const size_t outcome_length = answer[SPILLFINCH_USED];
+    show_bytes(outcome, outcome_length);
 
     spillfinch_close(device, device_length, outcome, outcome_length, run_list, sizeof run_list, answer);
     show_answer("close", answer);
@@ -53,7 +61,7 @@ int main(void)
     spillfinch_close(device, device_length - 1, outcome, outcome_length, run_list, sizeof run_list, answer);
     show_answer("close beside a device record that is cut short", answer);
 
-    spillfinch_fresh(device, device_length, outcome, SPILLFINCH_OUTCOME_ROOM - 1, answer);
+    spillfinch_fresh(device, device_length, fresh, SPILLFINCH_OUTCOME_ROOM - 1, answer);
     show_answer("fresh into a target that is too short", answer);
     return 0;
 }

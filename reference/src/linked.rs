@@ -1,6 +1,6 @@
 //! The engine that is linked in through its C interface.
 
-use crate::compare::{AnswerArray, Engine, Reference};
+use crate::compare::{AnswerArray, Engine};
 
 extern "C" {
     fn spillfinch_check(text: *const u8, text_len: usize, answer: *mut AnswerArray);
@@ -8,6 +8,18 @@ extern "C" {
     fn spillfinch_fresh(
         device: *const u8,
         device_len: usize,
+        target: *mut u8,
+        target_len: usize,
+        answer: *mut AnswerArray,
+    );
+
+    fn spillfinch_run(
+        text: *const u8,
+        text_len: usize,
+        device: *const u8,
+        device_len: usize,
+        outcome: *const u8,
+        outcome_len: usize,
         target: *mut u8,
         target_len: usize,
         answer: *mut AnswerArray,
@@ -54,10 +66,22 @@ impl Engine for Linked {
         answer
     }
 
-    /// The library has no run yet, so the reference's stands here: runs are not compared, but the
-    /// closes of what they leave are.
     fn run(&self, text: &[u8], device: &[u8], outcome: &[u8], target: &mut [u8]) -> AnswerArray {
-        Reference.run(text, device, outcome, target)
+        let mut answer = UNWRITTEN;
+        unsafe {
+            spillfinch_run(
+                text.as_ptr(),
+                text.len(),
+                device.as_ptr(),
+                device.len(),
+                outcome.as_ptr(),
+                outcome.len(),
+                target.as_mut_ptr(),
+                target.len(),
+                &mut answer,
+            );
+        }
+        answer
     }
 
     fn close(&self, device: &[u8], outcome: &[u8], target: &mut [u8]) -> AnswerArray {

@@ -1,4 +1,4 @@
-//! The linked engine against the reference: check, fresh and close. The library has no run yet.
+//! The linked engine against the reference.
 
 use reference::compare::{compare_cases, compare_joins, Finding, Reference};
 use reference::linked::Linked;

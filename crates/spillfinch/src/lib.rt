@@ -6,7 +6,7 @@ ghost use mathlib.Core.Path.{_≡_};
 ghost use mathlib.Core.List.{List, []};
 ghost use lib.ListN.{length};
 ghost use Rattle.answers.specs.Answers.{answered};
-ghost use Rattle.engine.specs.Operations.{fresh as fresh-answer, close as close-answer};
+ghost use Rattle.engine.specs.Operations.{fresh as fresh-answer, run as run-answer, close as close-answer};
 ghost use Rattle.spillfinch.specs.Exports.{numbers, check as check-answer, Gives};
 
 fn put_answer(given: Given, answer: &mut [u32; 8])
@@ -45,6 +45,19 @@ pub extern "C" fn spillfinch_fresh(device: &[u8], target: &mut [u8], answer: &mu
     ensures { λ _. ⌜ Gives (now (answer .exit)) (now (target .exit)) (fresh-answer (now (device .entry)) (length (now (target .entry)))) ⌝ }
 {
     put_answer(fresh::fresh(device, target), answer);
+}
+
+#[no_mangle]
+pub extern "C" fn spillfinch_run(
+    text: &[u8],
+    device: &[u8],
+    outcome: &[u8],
+    target: &mut [u8],
+    answer: &mut [u32; 8],
+)
+    ensures { λ _. ⌜ Gives (now (answer .exit)) (now (target .exit)) (run-answer (now (text .entry)) (now (device .entry)) (now (outcome .entry)) (length (now (target .entry)))) ⌝ }
+{
+    put_answer(run::run(text, device, outcome, target), answer);
 }
 
 #[no_mangle]
