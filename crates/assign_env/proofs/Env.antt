@@ -11,6 +11,7 @@ use lib.Seq.{take-at}
 use Rattle.splice.specs.Moves.{stored}
 use Rattle.link_names.specs.Names.{byteBut}
 use borrow.Author.Tests.{le-leb}
+use Rattle.lists.proofs.Lists.{empty-list}
 use Rattle.lists.specs.Lists.{pick, isEmpty}
 use Rattle.lists.specs.Bytes.{clean, okText}
 use Rattle.lists.specs.Checked.{Checked, ok, _>>=_}
@@ -73,10 +74,6 @@ module _ (v z S C : List ℕ) (g : S ≡ stored z 0 v) where
 
     pub copy-ok : (k : List ℕ) → okText mostKey k ≡ true → length v ≤ mostValue → clean v ≡ true → okProp (property k (take (length v) (C ++ drop (length v) S))) ≡ true
     copy-ok k o m c = rw copy (prop-ok k (cleaned v) o (omega (arith, length-map v cleanByte)) (cleaned-clean v c))
-
-empty-list : (x : List ℕ) → length x ≡ 0 → isEmpty x ≡ true
-empty-list [] h = refl
-empty-list (b ∷ x) h = absurd (omega arith)
 
 some-list : (x : List ℕ) → (length x ≡ 0 → ⊥) → isEmpty x ≡ false
 some-list [] h = absurd (h refl)

@@ -7,6 +7,7 @@ use mathlib.Core.List.{List, [], _∷_}
 use native.Mathlib.Omega.{arith}
 use lib.ListN.{length}
 use borrow.Author.Tests.{le-leb}
+use Rattle.lists.proofs.Lists.{empty-list}
 use Rattle.lists.specs.Lists.{isEmpty}
 use Rattle.lists.specs.Bytes.{clean, okText}
 use Rattle.lists.specs.Checked.{Checked, ok, _>>=_}
@@ -36,10 +37,6 @@ use Rattle.engine.specs.Assign.{isRemove, closing, changeEntry, changeTags, tag
 use Rattle.assign_operators.specs.Begun.{begun}
 use Rattle.assign_operators.proofs.Operators.{begun-tags, begun-runs}
 use Rattle.assign_lists.specs.Lists.{queuedRuns}
-
-empty-list : (x : List ℕ) → length x ≡ 0 → isEmpty x ≡ true
-empty-list [] h = refl
-empty-list (b ∷ x) h = absurd (omega arith)
 
 some-list : (x : List ℕ) → (length x ≡ 0 → ⊥) → isEmpty x ≡ false
 some-list [] h = absurd (h refl)

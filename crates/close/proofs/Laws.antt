@@ -1,18 +1,17 @@
 -- What the close gives back in each case.
 -- Assumes nothing.
 use Prim.Native.Nat.{ℕ, _+_, _-_, _≤_, _<_}
-use mathlib.Core.Path.{_≡_, refl, sym, ap, _∙_, subst}
-use mathlib.Core.Bool.{Bool, true, false}
+use mathlib.Core.Path.{_≡_, refl, sym, ap, _∙_}
+use mathlib.Core.Bool.{false}
 use mathlib.Core.List.{List, [], _++_}
-use mathlib.Core.Option.{Option, none, some}
-use native.Mathlib.Omega.{arith}
+use mathlib.Core.Option.{none, some}
 use borrow.Author.Tests.{le-leb, lt-leb}
 use lib.ListN.{length, replicate}
+use Rattle.lists.proofs.Lists.{is-none}
 use Rattle.lists.specs.Lists.{isSome}
 use Rattle.lists.specs.Checked.{Checked, refused, ok, line}
 use Rattle.lists.specs.Refusal.{Refusal, target-short, device-bad, outcome-bad, substitution-long}
 use Rattle.lists.specs.Sizes.{fullestRunList}
-use Rattle.splice.specs.Moves.{stored, padded}
 use Rattle.splice.proofs.Laws.{clear-padded, append-padded}
 use Rattle.text.specs.Run.{refusal, acceptance}
 use Rattle.device.specs.Device as D
@@ -21,33 +20,14 @@ use Rattle.device_lookup.specs.Lookup.{Chained}
 use Rattle.device_lookup.specs.declared.Chain.{Chain}
 use Rattle.outcome.specs.State as O
 use Rattle.outcome.specs.State.{State}
-use Rattle.outcome_target.specs.Layout.{layoutOf}
 use Rattle.outcome_target.specs.declared.Layout.{Layout}
+use Rattle.outcome_check.proofs.Answers.{sound-state, faulty-state}
 use Rattle.outcome_check.specs.Check.{checkedOf}
-use Rattle.outcome_check.specs.declared.Checked as check
 use Rattle.outcome_check.specs.declared.Checked.the-variants.{Sound, Faulty}
 use Rattle.engine.specs.Operations.{Command, runList, commands, given, decodeFor, closeChecked, close}
 use Rattle.insertion.specs.Append.{Placed}
 use Rattle.run_list.specs.Records.{Both}
 use Rattle.close.specs.Closing.{listed}
-
--- ---- what the checks say
-
-pub is-some : {A : Type 0} (o : Option A) → isSome o ≡ true → (a : A) × (o ≡ some a)
-is-some none h = let z : _≡_ {A = ℕ} 0 1 = cc in absurd (omega arith)
-is-some (some a) h = (a, refl)
-
-is-none : {A : Type 0} (o : Option A) → isSome o ≡ false → o ≡ none
-is-none none h = refl
-is-none (some a) h = let z : _≡_ {A = ℕ} 0 1 = cc in absurd (omega arith)
-
-sound-state : (o : Option State) (lay : Layout) → Sound lay ≡ checkedOf o → (s : State) × (o ≡ some s) × (lay ≡ layoutOf s)
-sound-state none lay e = let z : _≡_ {A = ℕ} 0 1 = cc in absurd (omega arith)
-sound-state (some s) lay e = let f : lay ≡ layoutOf s = cc in (s, refl, f)
-
-faulty-state : (o : Option State) → Faulty ≡ checkedOf o → o ≡ none
-faulty-state none e = refl
-faulty-state (some s) e = let z : _≡_ {A = ℕ} 0 1 = cc in absurd (omega arith)
 
 -- ---- refused before the list is made
 

@@ -1,11 +1,10 @@
 -- The engine meets the laws of the text level, so the demand on joined texts holds of it.
 -- Assumes nothing.
 use Prim.Native.Nat.{ℕ, _≤_}
-use mathlib.Core.Path.{_≡_, refl, sym, _∙_, subst}
+use mathlib.Core.Path.{_≡_, refl}
 use mathlib.Core.Bool.{Bool}
 use mathlib.Core.List.{List, []}
 use mathlib.Core.Option.{some}
-use native.Mathlib.Omega.{arith}
 use lib.ListN.{length}
 use Rattle.lists.specs.Bytes.{Bytes}
 use Rattle.lists.specs.Runs.{span}
@@ -19,14 +18,14 @@ use Rattle.outcome.proofs.RoundTrip.{there, back}
 use Rattle.outcome.proofs.Fits.{fits}
 use Rattle.rules.specs.Pair.{Rule}
 use Rattle.rules.specs.Reading.{readLine}
-use Rattle.text.specs.Engine.{LineRead, skip, fault, rule, Stepped, went}
+use Rattle.text.specs.Engine.{skip, rule, went}
 use Rattle.text.specs.Laws.{Laws}
 use Rattle.text.specs.Demand.{Demand3}
 use Rattle.text.proofs.Demand.{demand3}
 use Rattle.engine.specs.Step.{step}
 use Rattle.engine.specs.Operations.{decodeFor, engine}
 use Rattle.device.proofs.Sound as device
-use Rattle.rules.proofs.Sound.{SoundRule, rule-sound}
+use Rattle.rules.proofs.Sound.{rule-sound}
 use Rattle.engine.proofs.Keeps.{step-good}
 
 -- a state beside a device: both may stand in a record
@@ -62,6 +61,11 @@ engine-laws =
       again = λ {d} {s} g. again d s g;
       fits = λ {d} {s} g. small d s g;
     }
+
+-- what the laws call good, beside a device
+pub engine-good : (d : Device) (s : State) → engine-laws .Good d s → O.Good (length (chain d)) s
+unfolding engine-laws
+engine-good d s g = g .1
 
 -- the demand on joined texts, of this engine
 pub engine-demand3 : Demand3 engine

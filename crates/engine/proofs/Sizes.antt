@@ -1,14 +1,14 @@
 -- Every answer has as many bytes as the target, and no run list is longer than 8,225 bytes.
 -- Assumes nothing.
-use Prim.Native.Nat.{ℕ, suc, _+_, _*_, _-_, _≤_}
-use mathlib.Core.Path.{_≡_, refl, sym, ap, _∙_, subst}
+use Prim.Native.Nat.{ℕ, suc, _-_, _≤_}
+use mathlib.Core.Path.{_≡_, refl, ap, _∙_}
 use mathlib.Core.Bool.{Bool, true, false}
-use mathlib.Core.List.{List, [], _∷_, _++_}
+use mathlib.Core.List.{List, [], _∷_}
 use mathlib.Core.Option.{some}
 use native.Mathlib.Omega.{arith}
 use lib.Dec.{leb}
 use lib.ListN.{length, replicate, length-append, length-replicate}
-use borrow.Author.Tests.{leb-true, le-leb}
+use borrow.Author.Tests.{leb-true}
 use Rattle.lists.specs.Lists.{all, cat}
 use Rattle.lists.specs.Bytes.{Bytes}
 use Rattle.lists.specs.Checked.{Checked, refused, ok, require, found, Holds, Placed, line, onLine}
@@ -16,7 +16,7 @@ use Rattle.lists.specs.Refusal.{Refusal, target-short, device-bad, outcome-bad}
 use Rattle.lists.specs.Sizes.{mostSubstituted, mostRuns, fullestOutcome, fullestRunList}
 use Rattle.lists.proofs.Lists.{cat-size}
 use Rattle.lists.proofs.Tests.{both-and}
-use Rattle.lists.proofs.Checked.{holds-bind, holds-seq, holds-map, holds-require, holds-found, holds-onLine}
+use Rattle.lists.proofs.Checked.{holds-bind, holds-seq, holds-require, holds-found, holds-onLine}
 use Rattle.bits.specs.Fields.{packed}
 use Rattle.bits.proofs.Fields.{length-packed}
 use Rattle.entries.specs.Entry.{Property}
@@ -27,7 +27,6 @@ use Rattle.outcome.specs.State.{State, Run}
 use Rattle.outcome.proofs.RoundTrip.{back}
 use Rattle.outcome.proofs.Fits.{fits}
 use Rattle.outcome.proofs.Fresh.{fresh-good}
-use Rattle.text.specs.Run.{acceptance}
 use Rattle.engine.specs.Substitute.{Source, substituted, within, filled}
 use Rattle.engine.specs.Operations.{decodeFor, given, freshChecked, fresh, Command, commandFields, encCommand, listFields, runList, commands, closeChecked, close}
 
@@ -53,7 +52,7 @@ fresh-length dev room = given-length room (freshChecked dev room) (fresh-fits de
 -- ---- the run list
 
 -- the text of an entry is a substituted one
-abbrev shortText : Command → Bool
+abbrev pub shortText : Command → Bool
 shortText c = leb (length (c .text)) mostSubstituted
 
 filled-short : (spaceless : Bool) (c : Source) (t : List ℕ) → Holds (λ (x : List ℕ). leb (length x) mostSubstituted ≡ true) (filled spaceless c t)
@@ -70,7 +69,7 @@ pub record Made (n : ℕ) (cs : List Command) : Type 0 where
   pub count : length cs ≡ n
   pub each : all shortText cs ≡ true
 
-commands-made : (d : Device) (ps : List Property) (rs : List Run) → Holds (Made (length rs)) (commands d ps rs)
+pub commands-made : (d : Device) (ps : List Property) (rs : List Run) → Holds (Made (length rs)) (commands d ps rs)
 unfolding commands
 commands-made d ps [] = record { count = refl; each = refl }
 commands-made d ps (r ∷ rs) =
@@ -83,7 +82,7 @@ command-size : (c : Command) → shortText c ≡ true → length (encCommand c) 
 command-size c h =
     omega (arith, length-append (packed (commandFields c)) (c .text), length-packed (commandFields c) 2 refl, leb-true (length (c .text)) mostSubstituted h)
 
-list-size : (n : ℕ) (cs : List Command) → Made n cs → n ≤ mostRuns → length (runList cs) ≤ fullestRunList
+pub list-size : (n : ℕ) (cs : List Command) → Made n cs → n ≤ mostRuns → length (runList cs) ≤ fullestRunList
 unfolding runList
 list-size n cs m h =
     let a = cat-size encCommand shortText 514 command-size cs (m .each) in

@@ -1,19 +1,20 @@
 -- The bytes of a fresh record, and what is given back in each case.
 -- Assumes nothing.
 use Prim.Native.Nat.{ℕ, _+_, _-_, _≤_, _<_}
-use mathlib.Core.Path.{_≡_, refl, sym, ap, ap₂, _∙_}
-use mathlib.Core.Bool.{Bool, true, false}
+use mathlib.Core.Path.{_≡_, refl, sym, ap, _∙_}
+use mathlib.Core.Bool.{false}
 use mathlib.Core.List.{List, [], _++_, append-nil}
-use mathlib.Core.Option.{Option, none, some}
+use mathlib.Core.Option.{some}
 use native.Mathlib.Omega.{arith}
 use borrow.Author.Tests.{le-leb, lt-leb}
-use lib.ListN.{length, take, replicate, replicate-append-replicate}
+use lib.ListN.{length, replicate, replicate-append-replicate}
+use Rattle.lists.proofs.Lists.{is-none}
 use Rattle.lists.specs.Lists.{cat, isSome}
 use Rattle.lists.specs.Bytes.{Bytes}
 use Rattle.lists.specs.Checked.{line}
 use Rattle.lists.specs.Refusal.{target-short, device-bad}
 use Rattle.lists.proofs.Moves.{ap-at}
-use Rattle.bits.specs.Bits.{numberAt, putAt, bytesOf, fromBits, toBits}
+use Rattle.bits.specs.Bits.{putAt, bytesOf, fromBits, toBits}
 use Rattle.bits.specs.Fields.{packed}
 use Rattle.splice.specs.Moves.{stored, padded}
 use Rattle.splice.proofs.Laws.{append-padded}
@@ -24,12 +25,12 @@ use Rattle.device.specs.Head as head
 use Rattle.device.specs.Device as device
 use Rattle.device.specs.Device.{Device, chain}
 use Rattle.outcome.specs.Head.{Head, header}
-use Rattle.outcome.specs.State.{State, encode, fresh, headFor, open-all}
+use Rattle.outcome.specs.State.{encode, fresh, headFor, open-all}
 use Rattle.outcome.proofs.Head.{header-length}
 use Rattle.outcome.proofs.Fits.{encode-size, fits}
 use Rattle.outcome.proofs.Fresh.{fresh-good}
 use Rattle.outcome_target.proofs.Edits.{put-header}
-use Rattle.device_head.specs.Read.{headIn, HeadRead}
+use Rattle.device_head.specs.Read.{HeadRead}
 use Rattle.device_head.specs.declared.Head as read
 use Rattle.device_lookup.proofs.Devices.{count-is}
 use Rattle.engine.specs.Operations as operations
@@ -87,14 +88,6 @@ pub head-count : (l : List ℕ) (d : Device) (r : read.Head) → Bytes l → dev
 head-count l d r b e k h = ap (λ (x : head.Head). x .properties) (h .is) ∙ number-first l 7 44 6 k (omega arith) ∙ count-is l d b e
 
 -- ---- what is given back
-
-pub is-some : {A : Type 0} (o : Option A) → isSome o ≡ true → (a : A) × (o ≡ some a)
-is-some none h = let z : _≡_ {A = ℕ} 0 1 = cc in absurd (omega arith)
-is-some (some a) h = (a, refl)
-
-is-none : {A : Type 0} (o : Option A) → isSome o ≡ false → o ≡ none
-is-none none h = refl
-is-none (some a) h = let z : _≡_ {A = ℕ} 0 1 = cc in absurd (omega arith)
 
 module _ (dev : List ℕ) (room : ℕ) where
   pub given-short : room < 17611 → operations.fresh dev room ≡ refusal room (line 0 target-short)

@@ -2,12 +2,13 @@
 -- Assumes nothing.
 use Prim.Native.Nat.{ℕ, suc, _*_, _≤_}
 use mathlib.Core.Path.{_≡_, refl, sym, ap, _∙_}
-use mathlib.Core.Bool.{Bool, true, false, _&&_}
+use mathlib.Core.Bool.{Bool, true, false}
 use mathlib.Core.List.{List, [], _∷_, _++_, map, append-assoc}
 use native.Mathlib.Nat.{mul-suc}
 use native.Mathlib.Omega.{arith}
 use lib.ListN.{length, length-append}
-use Rattle.lists.specs.Lists.{pick, all, reject, cat, All}
+use mathlib.Core.Option.{Option, none, some}
+use Rattle.lists.specs.Lists.{pick, all, reject, cat, All, isSome, isEmpty}
 use Rattle.lists.proofs.Tests.{and-both, both-and}
 
 module _ {A : Type 0} (ok : A → Bool) where
@@ -89,3 +90,21 @@ module _ {A : Type 0} (P : A → Type 0) where
   pub All-each : ((a : A) → P a) → (xs : List A) → All P xs
   All-each f [] = tt
   All-each f (x ∷ xs) = (f x, All-each f xs)
+
+pub all-each : {A : Type 0} (ok : A → Bool) (xs : List A) → all ok xs ≡ true → All (λ (x : A). ok x ≡ true) xs
+all-each ok [] h = tt
+all-each ok (x ∷ xs) h = let (p, q) = and-both (ok x) (all ok xs) h in (p, all-each ok xs q)
+
+-- ---- what is there, and what is empty
+
+pub is-some : {A : Type 0} (o : Option A) → isSome o ≡ true → (a : A) × (o ≡ some a)
+is-some none h = let z : _≡_ {A = ℕ} 0 1 = cc in absurd (omega arith)
+is-some (some a) h = (a, refl)
+
+pub is-none : {A : Type 0} (o : Option A) → isSome o ≡ false → o ≡ none
+is-none none h = refl
+is-none (some a) h = let z : _≡_ {A = ℕ} 0 1 = cc in absurd (omega arith)
+
+pub empty-list : (x : List ℕ) → length x ≡ 0 → isEmpty x ≡ true
+empty-list [] h = refl
+empty-list (b ∷ x) h = absurd (omega arith)

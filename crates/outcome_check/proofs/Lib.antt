@@ -2,3 +2,4 @@ pub mod Runs
 pub mod Owner
 pub mod Parts
 pub mod Heads
+pub mod Answers

@@ -1,13 +1,14 @@
 -- What a run gives back in each case.
 -- Assumes nothing.
 use Prim.Native.Nat.{ℕ, _-_, _≤_, _<_}
-use mathlib.Core.Path.{_≡_, refl, sym, ap, _∙_, subst}
-use mathlib.Core.Bool.{true, false}
+use mathlib.Core.Path.{_≡_, sym, ap, _∙_, subst}
+use mathlib.Core.Bool.{false}
 use mathlib.Core.List.{List}
-use mathlib.Core.Option.{Option, none, some}
+use mathlib.Core.Option.{none, some}
 use native.Mathlib.Omega.{arith}
 use borrow.Author.Tests.{le-leb, lt-leb}
 use lib.ListN.{length, replicate}
+use Rattle.lists.proofs.Lists.{is-none}
 use Rattle.lists.specs.Lists.{isSome}
 use Rattle.lists.specs.Bytes.{Bytes}
 use Rattle.lists.specs.Checked.{Checked, refused, ok, _>>_, Placed, line}
@@ -28,9 +29,9 @@ use Rattle.outcome.specs.State.{State, encode}
 use Rattle.outcome.proofs.RoundTrip.{back}
 use Rattle.outcome.proofs.Fits.{fits}
 use Rattle.outcome_target.specs.Held as target
-use Rattle.outcome_target.specs.Layout.{layoutOf}
 use Rattle.outcome_target.specs.declared.Layout.{Layout}
 use Rattle.outcome_target.proofs.Edits.{layout-end}
+use Rattle.outcome_check.proofs.Answers.{sound-state, faulty-state}
 use Rattle.outcome_check.specs.Check.{checkedOf}
 use Rattle.outcome_check.specs.declared.Checked.the-variants.{Sound, Faulty}
 use Rattle.engine.specs.Operations.{engine, decodeFor, run}
@@ -40,22 +41,6 @@ use Rattle.answers.specs.declared.Given.{Given}
 use Rattle.run.specs.Running.{Held}
 
 -- ---- what the checks say
-
-pub is-some : {A : Type 0} (o : Option A) → isSome o ≡ true → (a : A) × (o ≡ some a)
-is-some none h = let z : _≡_ {A = ℕ} 0 1 = cc in absurd (omega arith)
-is-some (some a) h = (a, refl)
-
-is-none : {A : Type 0} (o : Option A) → isSome o ≡ false → o ≡ none
-is-none none h = refl
-is-none (some a) h = let z : _≡_ {A = ℕ} 0 1 = cc in absurd (omega arith)
-
-sound-state : (o : Option State) (lay : Layout) → Sound lay ≡ checkedOf o → (s : State) × (o ≡ some s) × (lay ≡ layoutOf s)
-sound-state none lay e = let z : _≡_ {A = ℕ} 0 1 = cc in absurd (omega arith)
-sound-state (some s) lay e = let f : lay ≡ layoutOf s = cc in (s, refl, f)
-
-faulty-state : (o : Option State) → Faulty ≡ checkedOf o → o ≡ none
-faulty-state none e = refl
-faulty-state (some s) e = let z : _≡_ {A = ℕ} 0 1 = cc in absurd (omega arith)
 
 pub text-refused : (t : List ℕ) (f : Placed Refusal) → refused f ≡ verdict t → readText reader t ≡ refused f
 text-refused t f e = go (readText reader t) e

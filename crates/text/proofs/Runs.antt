@@ -10,7 +10,7 @@ use Rattle.lists.specs.Bytes.{Bytes}
 use borrow.Author.Tests.{le-leb}
 use Rattle.text.specs.Lines.{lines, newlines}
 use Rattle.lists.specs.Lists.{All}
-use Rattle.lists.specs.Checked.{Checked, refused, ok, _>>=_, Holds, Placed, line}
+use Rattle.lists.specs.Checked.{refused, ok, _>>=_, Holds, line}
 use Rattle.lists.specs.Refusal.{Refusal, number}
 use Rattle.lists.specs.Sizes.{mostText, mostRules, fullestOutcome}
 use Rattle.text.specs.Engine.{Reader, Engine}
@@ -18,7 +18,7 @@ use Rattle.text.specs.Reading.{ruleCount, reads}
 use Rattle.text.specs.Running.{next, Halt, Ran, more, runFrom}
 use Rattle.text.specs.Run.{answer, runChecked, run}
 use Rattle.text.specs.Joined.{join, EndsLine, Joinable, Accepted, Job, texts, Given, given, runAll}
-use Rattle.text.specs.Rules.{rulesIn, rulesOf}
+use Rattle.text.specs.Rules.{rulesOf}
 use Rattle.text.specs.Laws.{Laws}
 use Rattle.lists.proofs.Lists.{All-map}
 use Rattle.text.proofs.Lines.{shift}
@@ -27,7 +27,7 @@ use Rattle.text.proofs.Accept.{to-parts, join-accepted}
 use Rattle.text.proofs.Running.{lower, more-zero, lower-zero, more-lower, run-append, run-shift}
 use Rattle.text.proofs.Sound.{Sound, run-sound, lines-read}
 
-refusal-number : (f : Refusal) → (k : ℕ) × (number f ≡ suc k)
+pub refusal-number : (f : Refusal) → (k : ℕ) × (number f ≡ suc k)
 refusal-number Refusal.target-short = (0, refl)
 refusal-number Refusal.text-long = (1, refl)
 refusal-number Refusal.line-bad = (9, refl)

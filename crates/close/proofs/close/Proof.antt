@@ -1,12 +1,13 @@
 -- `close::close` meets its contract.
 -- Assumes nothing.
+use Rattle.lists.proofs.Lists.{is-some}
 use Prim.Native.Nat.{ℕ, _≤_}
 use mathlib.Core.Path.{_≡_, sym, ap, _∙_}
 use native.Mathlib.Omega.{arith}
 use borrow.Author.Tests.{not-true, not-false}
 use borrow.Author.Needs.{needs}
 use lib.ListN.{length, replicate}
-use Rattle.close.proofs.Laws.{is-some, close-short, close-device, close-outcome, close-both, close-listed}
+use Rattle.close.proofs.Laws.{close-short, close-device, close-outcome, close-both, close-listed}
 use Rattle.close.specs.Closing.{listed}
 use Rattle.answers.specs.Answers.{answered}
 use Rattle.engine.specs.Operations.{commands, given}

@@ -1,6 +1,7 @@
 -- `fresh::fresh` meets its contract.
 -- Assumes nothing.
-use Rattle.fresh.proofs.Laws.{is-some, given-short, given-faulty, given-made, made-fits}
+use Rattle.lists.proofs.Lists.{is-some}
+use Rattle.fresh.proofs.Laws.{given-short, given-faulty, given-made, made-fits}
 use Rattle.answers.specs.Answers.{answered}
 use Rattle.outcome.specs.State.{encode, fresh}
 use Rattle.device.specs.Device.{decode}

@@ -1,8 +1,8 @@
 -- `run::run_read` meets its contract.
 -- Assumes nothing.
-use Rattle.run.proofs.Laws.{is-some, run-device, run-outcome, run-whole, both-held}
+use Rattle.lists.proofs.Lists.{is-some}
+use Rattle.run.proofs.Laws.{run-device, run-outcome, run-whole, both-held}
 use Rattle.device.specs.Device.{decode}
-use Rattle.run.proofs.Laws.{is-some, run-device, run-outcome, run-whole, both-held}
 use Rattle.answers.specs.Answers.{answered}
 use lib.ListN.{length}
 use borrow.Author.Tests.{not-true, not-false}
