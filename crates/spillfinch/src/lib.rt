@@ -6,8 +6,8 @@ ghost use mathlib.Core.Path.{_≡_};
 ghost use mathlib.Core.List.{List, []};
 ghost use lib.ListN.{length};
 ghost use Rattle.answers.specs.Answers.{answered};
-ghost use Rattle.engine.specs.Operations.{fresh as fresh-answer, run as run-answer, close as close-answer};
-ghost use Rattle.spillfinch.specs.Exports.{numbers, check as check-answer, Gives};
+ghost use Rattle.engine.specs.Operations.{fresh as fresh-answer, close as close-answer};
+ghost use Rattle.spillfinch.specs.Exports.{numbers, check as check-answer, Gives, CheckGives, RunGives};
 
 fn put_answer(given: Given, answer: &mut [u32; 8])
     ensures { λ _. ⌜ now (answer .exit) ≡ numbers (answered given []) ⌝ }
@@ -35,7 +35,7 @@ fn check(text: &[u8]) -> Given
 
 #[no_mangle]
 pub extern "C" fn spillfinch_check(text: &[u8], answer: &mut [u32; 8])
-    ensures { λ _. ⌜ now (answer .exit) ≡ numbers (check-answer (now (text .entry))) ⌝ }
+    ensures { λ _. ⌜ CheckGives (now (text .entry)) (now (answer .exit)) ⌝ }
 {
     put_answer(check(text), answer);
 }
@@ -55,7 +55,7 @@ pub extern "C" fn spillfinch_run(
     target: &mut [u8],
     answer: &mut [u32; 8],
 )
-    ensures { λ _. ⌜ Gives (now (answer .exit)) (now (target .exit)) (run-answer (now (text .entry)) (now (device .entry)) (now (outcome .entry)) (length (now (target .entry)))) ⌝ }
+    ensures { λ _. ⌜ RunGives (now (text .entry)) (now (device .entry)) (now (outcome .entry)) (length (now (target .entry))) (now (answer .exit)) (now (target .exit)) ⌝ }
 {
     put_answer(run::run(text, device, outcome, target), answer);
 }

@@ -1,0 +1,146 @@
+-- The demand on joined texts holds of what the exported functions write.
+-- Assumes nothing.
+use Prim.Native.Nat.{ℕ, zero, suc, _+_, _≤_}
+use mathlib.Core.Path.{_≡_, refl, sym, ap, _∙_, subst}
+use mathlib.Core.List.{List, [], _∷_}
+use native.Mathlib.Omega.{arith}
+use lib.ListN.{length, take}
+use Rattle.lists.specs.Lists.{All}
+use Rattle.lists.specs.Checked as checked
+use Rattle.lists.specs.Checked.{refused, ok, _>>_, Placed, line}
+use Rattle.lists.specs.Refusal.{Refusal}
+use Rattle.lists.specs.Sizes.{fullestOutcome}
+use Rattle.lists.proofs.Lists.{All-map}
+use Rattle.text.specs.Lines.{newlines}
+use Rattle.text.specs.Reading.{readText}
+use Rattle.text.specs.Run.{Answer}
+use Rattle.text.specs.Joined as joined
+use Rattle.text.specs.Joined.{join, Joinable, Accepted, Given, Job, texts, given, onward, runAll, cuts, NoCrossing, jumps}
+use Rattle.text.specs.Demand as text
+use Rattle.text.proofs.Runs.{refusal-number}
+use Rattle.rules.specs.Pair.{Rule}
+use Rattle.rules.specs.Reading.{reader}
+use Rattle.engine.specs.Operations as operations
+use Rattle.engine.specs.Operations.{engine, run}
+use Rattle.engine.proofs.Laws.{engine-demand3}
+use Rattle.spillfinch.specs.Exports.{numbers, check, Gives}
+use Rattle.spillfinch.specs.Joined.{Checked, numberIn, lineIn, visitedIn, Call, back, Ran, followed, InTurn, together, Fit, Sound, Demand3}
+
+-- ---- checks
+
+-- a check that gives the number 0 read a text
+number-accepted : (c : checked.Checked (Placed Refusal) (List (Placed Rule))) → operations.given 0 (c >> ok []) .number ≡ 0 → (rs : List (Placed Rule)) × (c ≡ ok rs)
+number-accepted (refused (line n f)) e = let (k, p) = refusal-number f in absurd (omega (arith, sym p ∙ e))
+number-accepted (ok rs) e = (rs, refl)
+
+checked-accepted : (t : List ℕ) → Checked t → Accepted engine t
+checked-accepted t (w, g, z) = number-accepted (readText reader t) (sym (ap numberIn g) ∙ z)
+
+accepted-checked : (t : List ℕ) → Accepted engine t → Checked t
+accepted-checked t (rs, e) = (numbers (check t), refl, rw e refl)
+
+-- ---- calls
+
+-- texts with the rooms that their calls had; the room of a text that was not run does not matter
+abbrev jobsOf : List (List ℕ) → List Call → List Job
+jobsOf [] cs = []
+jobsOf (t ∷ ts) [] = record { text = t; room = fullestOutcome } ∷ jobsOf ts []
+jobsOf (t ∷ ts) (c ∷ cs) = record { text = t; room = length (c .target) } ∷ jobsOf ts cs
+
+jobs-texts : (ts : List (List ℕ)) (cs : List Call) → texts (jobsOf ts cs) ≡ ts
+jobs-texts [] cs = refl
+jobs-texts (t ∷ ts) [] = ap (λ (xs : List (List ℕ)). t ∷ xs) (jobs-texts ts [])
+jobs-texts (t ∷ ts) (c ∷ cs) = ap (λ (xs : List (List ℕ)). t ∷ xs) (jobs-texts ts cs)
+
+abbrev Roomy : List Job → Type 0
+Roomy js = All (λ (j : Job). fullestOutcome ≤ j .room) js
+
+none-roomy : (ts : List (List ℕ)) → Roomy (jobsOf ts [])
+none-roomy [] = tt
+none-roomy (t ∷ ts) = (omega arith, none-roomy ts)
+
+-- behind an accepted call, and behind a refused one
+by-turn : {A B P : Type 0} (k : ℕ) → followed k A B → (A → P) → (B → P) → P
+by-turn zero f a b = a f
+by-turn (suc k) f a b = b f
+
+onward-turn : (A B : Type 0) (k : ℕ) (x y z : Given) → followed k A B → (A → x ≡ y) → onward engine k x z ≡ onward engine k y z
+onward-turn A B zero x y z f a = a f
+onward-turn A B (suc k) x y z f a = refl
+
+module _ (dev : List ℕ) where
+  jobs-roomy : (out : List ℕ) (ts : List (List ℕ)) (cs : List Call) → InTurn dev out ts cs → Roomy (jobsOf ts cs)
+  jobs-roomy out [] cs i = tt
+  jobs-roomy out (t ∷ ts) [] i = none-roomy (t ∷ ts)
+  jobs-roomy out (t ∷ ts) (c ∷ cs) (e, r, f) = (
+    r .room,
+    by-turn (numberIn (c .written)) f (λ g. jobs-roomy (back c .left) ts cs g)
+        (λ g. subst (λ (xs : List Call). Roomy (jobsOf ts xs)) (sym g) (none-roomy ts)),
+  )
+
+  -- what a run gives back, read from what its call writes
+  abbrev next : (ℕ → List ℕ → Given) → ℕ → Answer → Given
+  next others n a =
+      onward engine (a .number) (others (a .visited) (take (a .used) (a .bytes)))
+      (record { number = a .number; line = n + a .line; visited = 0; used = 0; left = [] })
+
+  written-next : (others : ℕ → List ℕ → Given) (n : ℕ) (a : Answer) (c : Call) → Gives (c .written) (c .target) a
+      → next others n a
+      ≡ onward engine (numberIn (c .written)) (others (visitedIn (c .written)) (back c .left))
+      (record { number = numberIn (c .written); line = n + lineIn (c .written); visited = 0; used = 0; left = [] })
+  written-next others n a c (w, b) = rw (w, b) refl
+
+  calls-together : (v n : ℕ) (out : List ℕ) (ts : List (List ℕ)) (cs : List Call) → InTurn dev out ts cs
+      → runAll engine dev v n out (jobsOf ts cs) ≡ together v n out cs
+  unfolding runAll
+  calls-together v n out [] [] i = refl
+  calls-together v n out [] (c ∷ cs) i = absurd i
+  calls-together v n out (t ∷ ts) [] i = absurd i
+  calls-together v n out (t ∷ ts) (c ∷ cs) (e, r, f) =
+      let others : ℕ → List ℕ → Given = λ u x. runAll engine dev (v + u) (n + newlines (c .text)) x (jobsOf ts cs) in
+      rw (← e)
+      (written-next others n (run (c .text) dev out (length (c .target))) c (r .gives)
+      ∙ onward-turn (InTurn dev (back c .left) ts cs) (cs ≡ []) (numberIn (c .written)) _ _ _ f
+      (λ g. calls-together (v + visitedIn (c .written)) (n + newlines (c .text)) (back c .left) ts cs g))
+
+-- ---- the demand
+
+-- what one call gives back
+given-back : (a : Answer) (c : Call) → Gives (c .written) (c .target) a → back c ≡ given a
+given-back a c (w, b) = rw (w, b) refl
+
+call-back : (dev out : List ℕ) (c : Call) (t : List ℕ) → c .text ≡ t → Ran dev out c → back c ≡ given (run t dev out (length (c .target)))
+call-back dev out c t e r = rw (← e) (given-back (run (c .text) dev out (length (c .target))) c (r .gives))
+
+fit-text : (ts : List (List ℕ)) → Fit ts → text.Fit engine ts
+fit-text ts f =
+    record { joinable = f .joinable; accepted = All-map Checked (Accepted engine) checked-accepted ts (f .accepted); bytes = f .bytes; rules = f .rules }
+
+join-run : (ts : List (List ℕ)) → Fit ts → (dev out : List ℕ) → Sound dev out → (cs : List Call) → InTurn dev out ts cs
+    → (c : Call) → c .text ≡ join ts → Ran dev out c → back c ≡ together 0 0 out cs
+join-run ts f dev out s cs i c e r =
+    let q : texts (jobsOf ts cs) ≡ ts = jobs-texts ts cs in
+    call-back dev out c (join (texts (jobsOf ts cs))) (e ∙ ap join (sym q)) r
+    ∙ engine-demand3 .join-run (jobsOf ts cs) (subst (text.Fit engine) (sym q) (fit-text ts f)) dev out (s .bytes) (s .read) (s .held)
+    (jobs-roomy dev out ts cs i) (length (c .target)) (r .room)
+    ∙ calls-together dev 0 0 out ts cs i
+
+cut-run : (t : List ℕ) (rs : List (Placed Rule)) → readText reader t ≡ ok rs → (ps : List (List ℕ)) → Joinable ps → join ps ≡ t
+    → NoCrossing (cuts 0 ps) (jumps engine rs) → (dev out : List ℕ) → Sound dev out → (cs : List Call) → InTurn dev out ps cs
+    → (c : Call) → c .text ≡ t → Ran dev out c → back c ≡ together 0 0 out cs
+cut-run t rs g ps j p k dev out s cs i c e r =
+    let q : texts (jobsOf ps cs) ≡ ps = jobs-texts ps cs in
+    call-back dev out c t e r
+    ∙ engine-demand3 .cut-run t rs g (jobsOf ps cs) (subst Joinable (sym q) j) (ap join q ∙ p)
+    (subst (λ (xs : List (List ℕ)). NoCrossing (cuts 0 xs) (jumps engine rs)) (sym q) k) dev out (s .bytes) (s .read) (s .held)
+    (jobs-roomy dev out ps cs i) (length (c .target)) (r .room)
+    ∙ calls-together dev 0 0 out ps cs i
+
+pub calls-demand3 : Demand3
+calls-demand3 = record {
+  join-checked = λ ts f. accepted-checked (join ts) (engine-demand3 .join-accepted ts (fit-text ts f));
+  join-run = join-run;
+  cut-checked = λ t rs e ps j p. let (to, from) = engine-demand3 .cut-accepted t rs e ps j p in
+      (λ a. to (All-map Checked (Accepted engine) checked-accepted ps a), λ k. All-map (Accepted engine) Checked accepted-checked ps (from k));
+  cut-run = cut-run;
+}

@@ -1,0 +1,119 @@
+-- Document 01, Joined texts, of the exported functions: what their calls write for texts, for their join and for the pieces of a text.
+-- Assumes nothing.
+use Prim.Native.Nat.{ℕ, zero, suc, _+_, _≤_}
+use mathlib.Core.Path.{_≡_}
+use mathlib.Core.Logic.{_↔_}
+use mathlib.Core.List.{List, [], _∷_}
+use mathlib.Core.Option.{some}
+use lib.ListN.{length, take, getD}
+use Rattle.lists.specs.Lists.{All}
+use Rattle.lists.specs.Bytes.{Bytes}
+use Rattle.lists.specs.Checked.{ok, Placed}
+use Rattle.lists.specs.Sizes.{mostText, mostRules, fullestOutcome}
+use Rattle.text.specs.Lines.{newlines}
+use Rattle.text.specs.Reading.{ruleCount, reads, readText}
+use Rattle.text.specs.Joined.{join, Joinable, Given, onward, cuts, NoCrossing, jumps}
+use Rattle.rules.specs.Pair.{Rule}
+use Rattle.rules.specs.Reading.{reader}
+use Rattle.device.specs.Device as D
+use Rattle.device.specs.Device.{Device}
+use Rattle.outcome.specs.State.{State}
+use Rattle.engine.specs.Operations.{engine, decodeFor}
+use Rattle.spillfinch.specs.Exports.{CheckGives, RunGives}
+
+-- ---- calls, by what they are lent and what they write
+
+-- the numbers of an answer, by their places in it
+abbrev pub numberIn : List ℕ → ℕ
+numberIn written = getD written 0 0
+
+abbrev pub lineIn : List ℕ → ℕ
+lineIn written = getD written 1 0
+
+abbrev pub visitedIn : List ℕ → ℕ
+visitedIn written = getD written 2 0
+
+abbrev pub usedIn : List ℕ → ℕ
+usedIn written = getD written 3 0
+
+-- a call of `spillfinch_check` that accepts the text
+abbrev pub Checked : List ℕ → Type 0
+Checked text = (written : List ℕ) × CheckGives text written × (numberIn written ≡ 0)
+
+-- a call of `spillfinch_run`: its text, what it writes to the answer and to the target
+pub record Call : Type 0 where
+  pub text : List ℕ
+  pub written : List ℕ
+  pub target : List ℕ
+
+-- what it gives back: the numbers, and the target cut at the used length
+abbrev pub back : Call → Given
+back c =
+    record {
+      number = numberIn (c .written);
+      line = lineIn (c .written);
+      visited = visitedIn (c .written);
+      used = usedIn (c .written);
+      left = take (usedIn (c .written)) (c .target);
+    }
+
+-- beside a device record, from an outcome record, with full room
+pub record Ran (dev out : List ℕ) (c : Call) : Type 0 where
+  pub room : fullestOutcome ≤ length (c .target)
+  pub gives : RunGives (c .text) dev out (length (c .target)) (c .written) (c .target)
+
+-- ---- calls one after another
+
+-- an accepted call is followed by the others; a refused one is the last
+abbrev pub followed : ℕ → Type 0 → Type 0 → Type 0
+followed zero others last = others
+followed (suc k) others last = last
+
+-- a call for each text, each from what the one before left; none behind a refused one
+abbrev pub InTurn : List ℕ → List ℕ → List (List ℕ) → List Call → Type 0
+InTurn dev out [] [] = Unit {0}
+InTurn dev out [] (c ∷ cs) = ⊥
+InTurn dev out (t ∷ ts) [] = ⊥
+InTurn dev out (t ∷ ts) (c ∷ cs) =
+    (c .text ≡ t) × Ran dev out c × followed (numberIn (c .written)) (InTurn dev (back c .left) ts cs) (cs ≡ [])
+
+-- what they give together: what the last one gave, with the visits of all, or its refusal with its line counted on;
+-- v rules visited and n newlines before
+abbrev pub together : ℕ → ℕ → List ℕ → List Call → Given
+together v n out [] = record { number = 0; line = 0; visited = v; used = length out; left = out }
+together v n out (c ∷ cs) =
+    onward engine (numberIn (c .written))
+    (together (v + visitedIn (c .written)) (n + newlines (c .text)) (back c .left) cs)
+    (record { number = numberIn (c .written); line = n + lineIn (c .written); visited = 0; used = 0; left = [] })
+
+-- ---- the demand
+
+-- texts that may be joined: each is accepted by itself, line ends where they meet, and the join is within the sizes of a text
+pub record Fit (ts : List (List ℕ)) : Type 0 where
+  pub joinable : Joinable ts
+  pub accepted : All Checked ts
+  pub bytes : length (join ts) ≤ mostText
+  pub rules : ruleCount (reads reader (join ts)) ≤ mostRules
+
+-- an accepted outcome record beside an accepted device record
+pub record Sound (dev out : List ℕ) : Type 0 where
+  pub device : Device
+  pub state : State
+  pub bytes : Bytes out
+  pub read : D.decode dev ≡ some device
+  pub held : decodeFor device out ≡ some state
+
+pub record Demand3 : Type 0 where
+  -- the check accepts the join of accepted texts
+  pub join-checked : (ts : List (List ℕ)) → Fit ts → Checked (join ts)
+  -- one call for the join gives what the calls for its texts one after another give together
+  pub join-run : (ts : List (List ℕ)) → Fit ts → (dev out : List ℕ) → Sound dev out → (cs : List Call) → InTurn dev out ts cs
+      → (c : Call) → c .text ≡ join ts → Ran dev out c → back c ≡ together 0 0 out cs
+  -- the check accepts all pieces of an accepted text if and only if no jump, taken or not, crosses a cut
+  pub cut-checked : (t : List ℕ) (rs : List (Placed Rule)) → readText reader t ≡ ok rs
+      → (ps : List (List ℕ)) → Joinable ps → join ps ≡ t → All Checked ps ↔ NoCrossing (cuts 0 ps) (jumps engine rs)
+  -- and then the calls for its pieces give together what one call for the text gives
+  pub cut-run : (t : List ℕ) (rs : List (Placed Rule)) → readText reader t ≡ ok rs
+      → (ps : List (List ℕ)) → Joinable ps → join ps ≡ t → NoCrossing (cuts 0 ps) (jumps engine rs)
+      → (dev out : List ℕ) → Sound dev out → (cs : List Call) → InTurn dev out ps cs
+      → (c : Call) → c .text ≡ t → Ran dev out c → back c ≡ together 0 0 out cs
