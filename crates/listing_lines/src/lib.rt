@@ -10,7 +10,7 @@ ghost use lib.ListN.{length};
 ghost use Rattle.lists.specs.Bytes.{between};
 ghost use Rattle.template.specs.Decimal.{decimal};
 ghost use Rattle.engine.specs.Listing.{hex, shownByte, escaped, signed, fourOctal, lineOf, setLine};
-ghost use Rattle.listing_lines.specs.Behind.{Within, Behind};
+ghost use Rattle.listing_lines.specs.Behind.{Within, Behind, refusalLine};
 
 // ---- texts as they are
 
@@ -191,4 +191,16 @@ pub fn put_mode_line(out: &mut [u8], front: Put, word: &[u8], mode: u32) -> Put
     let worded = put_word(out, front, word);
     let numbered = put_octal(out, worded, mode);
     put_byte(out, numbered, b'\n')
+}
+
+// The only line of a listing that is refused.
+pub fn put_refusal_line(out: &mut [u8], front: Put, number: u32, line: u32) -> Put
+    requires { ⌜ Within (length (now out)) front ⌝ }
+    ensures { λ r. ⌜ Within (length (now (out .exit))) r × Behind (refusalLine number line) (now (out .entry)) front r (now (out .exit)) ⌝ }
+{
+    let worded = put_text(out, front, b"refused ");
+    let numbered = put_decimal(out, worded, number);
+    let lined = put_text(out, numbered, b" line ");
+    let placed = put_decimal(out, lined, line);
+    put_byte(out, placed, b'\n')
 }

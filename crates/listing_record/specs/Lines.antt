@@ -1,15 +1,15 @@
--- The lines of the lists, the properties and the priority of the state whose record a target holds.
+-- The lines of the state whose record a target holds.
 -- Assumes nothing.
 use Prim.Native.Nat.{ℕ}
 use mathlib.Core.List.{List, _∷_, _++_}
 use Rattle.lists.specs.Lists.{cat}
 use Rattle.entries.specs.Entry.{Property}
-use Rattle.engine.specs.Listing.{escaped, signed, lineOf}
+use Rattle.lists.specs.Quoted.{bytes}
+use Rattle.template.specs.Decimal.{decimal}
+use Rattle.engine.specs.Listing.{escaped, signed, lineOf, modeLine, setLine}
 use Rattle.outcome.specs.State.{State}
 use Rattle.outcome_target.specs.Held.{Held}
-use Rattle.outcome_target.specs.Texts.{textsIn}
 use Rattle.outcome_target.specs.declared.Layout.{Layout}
-use Rattle.outcome_target.specs.declared.Texts.{Texts}
 use Rattle.insertion.specs.declared.Put.{Put}
 use Rattle.listing_lines.specs.Behind.{Behind}
 
@@ -21,11 +21,23 @@ textLines word xs = cat (λ (x : List ℕ). lineOf word (escaped x)) xs
 abbrev pub propertyLines : List ℕ → List Property → List ℕ
 propertyLines word ps = cat (λ (p : Property). lineOf word (escaped (p .key) ++ (61 ∷ escaped (p .value)))) ps
 
-abbrev pub TextsBehind : Texts → List ℕ → List ℕ → Layout → List ℕ → Put → Put → List ℕ → Type 0
-TextsBehind list word t lay o front r o₁ = (n : ℕ) (s : State) → Held n t lay s → Behind (textLines word (textsIn list s)) o front r o₁
+-- the visited count, and what a state has one of
+abbrev pub settingLines : ℕ → State → List ℕ
+unfolding bytes
+settingLines visited s =
+    lineOf (bytes "visited") (decimal visited)
+    ++ (lineOf (bytes "priority") (signed (s .priority))
+    ++ (modeLine (s .mode) ++ (setLine (bytes "owner") (s .owner) ++ setLine (bytes "group") (s .group))))
 
-abbrev pub PropertiesBehind : List ℕ → List ℕ → Layout → List ℕ → Put → Put → List ℕ → Type 0
-PropertiesBehind word t lay o front r o₁ = (n : ℕ) (s : State) → Held n t lay s → Behind (propertyLines word (s .properties)) o front r o₁
+-- links, properties, tags
+abbrev pub listLines : State → List ℕ
+unfolding bytes
+listLines s = textLines (bytes "link") (s .links) ++ (propertyLines (bytes "env") (s .properties) ++ textLines (bytes "tag") (s .tags))
 
-abbrev pub PriorityBehind : List ℕ → List ℕ → Layout → List ℕ → Put → Put → List ℕ → Type 0
-PriorityBehind word t lay o front r o₁ = (n : ℕ) (s : State) → Held n t lay s → Behind (lineOf word (signed (s .priority))) o front r o₁
+-- all but the commands
+abbrev pub recordLines : ℕ → State → List ℕ
+recordLines visited s = settingLines visited s ++ listLines s
+
+-- lines of the state whose record the target t holds, written behind what is written so far
+abbrev pub StateBehind : (State → List ℕ) → List ℕ → Layout → List ℕ → Put → Put → List ℕ → Type 0
+StateBehind lines t lay o front r o₁ = (n : ℕ) (s : State) → Held n t lay s → Behind (lines s) o front r o₁

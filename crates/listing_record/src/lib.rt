@@ -1,4 +1,4 @@
-// The lines of the listing for the lists, the properties and the priority of the outcome record in the target.
+// The lines of the listing for the outcome record in the target.
 
 use insertion::Put;
 use outcome_target::Layout;
@@ -6,38 +6,94 @@ use outcome_target::Section;
 use outcome_target::Texts;
 use rows::Kind;
 ghost use lib.ListN.{length};
+ghost use Rattle.lists.specs.Quoted.{bytes};
 ghost use Rattle.outcome_target.specs.Held.{Holds};
 ghost use Rattle.listing_lines.specs.Behind.{Within};
-ghost use Rattle.listing_record.specs.Lines.{TextsBehind, PropertiesBehind, PriorityBehind};
+ghost use Rattle.engine.specs.Listing.{signed, lineOf, modeLine, setLine};
+ghost use Rattle.outcome_target.specs.Texts.{textsIn};
+ghost use Rattle.listing_record.specs.Lines.{StateBehind, textLines, propertyLines, settingLines, listLines, recordLines};
 
 // The links or the tags.
-pub fn put_texts(
-    out: &mut [u8],
-    front: Put,
-    word: &[u8],
-    t: &[u8],
-    layout: Layout,
-    list: Texts,
-) -> Put
+fn put_texts(out: &mut [u8], front: Put, word: &[u8], t: &[u8], layout: Layout, list: Texts) -> Put
     requires { ⌜ Within (length (now out)) front × Holds (now t) layout ⌝ }
-    ensures { λ r. ⌜ Within (length (now (out .exit))) r × TextsBehind list (now (word .entry)) (now (t .entry)) layout (now (out .entry)) front r (now (out .exit)) ⌝ }
+    ensures { λ r. ⌜ Within (length (now (out .exit))) r × StateBehind (λ s. textLines (now (word .entry)) (textsIn list s)) (now (t .entry)) layout (now (out .entry)) front r (now (out .exit)) ⌝ }
 {
     let row = outcome_readers::row_of(t, layout, outcome_target::section_of(list));
     listing_rows::put_entries(out, front, word, Kind::Text, t, row.at, row.count)
 }
 
-pub fn put_properties(out: &mut [u8], front: Put, word: &[u8], t: &[u8], layout: Layout) -> Put
+fn put_properties(out: &mut [u8], front: Put, word: &[u8], t: &[u8], layout: Layout) -> Put
     requires { ⌜ Within (length (now out)) front × Holds (now t) layout ⌝ }
-    ensures { λ r. ⌜ Within (length (now (out .exit))) r × PropertiesBehind (now (word .entry)) (now (t .entry)) layout (now (out .entry)) front r (now (out .exit)) ⌝ }
+    ensures { λ r. ⌜ Within (length (now (out .exit))) r × StateBehind (λ s. propertyLines (now (word .entry)) (s .properties)) (now (t .entry)) layout (now (out .entry)) front r (now (out .exit)) ⌝ }
 {
     let row = outcome_readers::row_of(t, layout, Section::Properties);
     listing_rows::put_entries(out, front, word, Kind::Property, t, row.at, row.count)
 }
 
-pub fn put_priority(out: &mut [u8], front: Put, word: &[u8], t: &[u8], layout: Layout) -> Put
+fn put_priority(out: &mut [u8], front: Put, word: &[u8], t: &[u8], layout: Layout) -> Put
     requires { ⌜ Within (length (now out)) front × Holds (now t) layout ⌝ }
-    ensures { λ r. ⌜ Within (length (now (out .exit))) r × PriorityBehind (now (word .entry)) (now (t .entry)) layout (now (out .entry)) front r (now (out .exit)) ⌝ }
+    ensures { λ r. ⌜ Within (length (now (out .exit))) r × StateBehind (λ s. lineOf (now (word .entry)) (signed (s .priority))) (now (t .entry)) layout (now (out .entry)) front r (now (out .exit)) ⌝ }
 {
     let priority = outcome_target::field(t, 35, 32);
     listing_lines::put_signed_line(out, front, word, priority as u32)
+}
+
+// No line for a mode that is not set.
+fn put_mode(out: &mut [u8], front: Put, t: &[u8], layout: Layout) -> Put
+    requires { ⌜ Within (length (now out)) front × Holds (now t) layout ⌝ }
+    ensures { λ r. ⌜ Within (length (now (out .exit))) r × StateBehind (λ s. modeLine (s .mode)) (now (t .entry)) layout (now (out .entry)) front r (now (out .exit)) ⌝ }
+{
+    let set = outcome_target::field(t, 22, 1);
+    if set == 0 {
+        return front;
+    }
+    let mode = outcome_target::field(t, 23, 12);
+    listing_lines::put_mode_line(out, front, b"mode", mode as u32)
+}
+
+fn put_owner(out: &mut [u8], front: Put, t: &[u8], layout: Layout) -> Put
+    requires { ⌜ Within (length (now out)) front × Holds (now t) layout ⌝ }
+    ensures { λ r. ⌜ Within (length (now (out .exit))) r × StateBehind (λ s. setLine (bytes "owner") (s .owner)) (now (t .entry)) layout (now (out .entry)) front r (now (out .exit)) ⌝ }
+{
+    let start = 11;
+    let end = start + outcome_target::field(t, 10, 6);
+    listing_lines::put_set_line(out, front, b"owner", &t[start..end])
+}
+
+fn put_group(out: &mut [u8], front: Put, t: &[u8], layout: Layout) -> Put
+    requires { ⌜ Within (length (now out)) front × Holds (now t) layout ⌝ }
+    ensures { λ r. ⌜ Within (length (now (out .exit))) r × StateBehind (λ s. setLine (bytes "group") (s .group)) (now (t .entry)) layout (now (out .entry)) front r (now (out .exit)) ⌝ }
+{
+    let start = 11 + outcome_target::field(t, 10, 6);
+    let end = layout.links;
+    listing_lines::put_set_line(out, front, b"group", &t[start..end])
+}
+
+// The visited count of the run that left the record, then what the record has one of.
+fn put_settings(out: &mut [u8], front: Put, visited: u32, t: &[u8], layout: Layout) -> Put
+    requires { ⌜ Within (length (now out)) front × Holds (now t) layout ⌝ }
+    ensures { λ r. ⌜ Within (length (now (out .exit))) r × StateBehind (λ s. settingLines visited s) (now (t .entry)) layout (now (out .entry)) front r (now (out .exit)) ⌝ }
+{
+    let visits = listing_lines::put_number_line(out, front, b"visited", visited);
+    let priority = put_priority(out, visits, b"priority", t, layout);
+    let mode = put_mode(out, priority, t, layout);
+    let owner = put_owner(out, mode, t, layout);
+    put_group(out, owner, t, layout)
+}
+
+fn put_lists(out: &mut [u8], front: Put, t: &[u8], layout: Layout) -> Put
+    requires { ⌜ Within (length (now out)) front × Holds (now t) layout ⌝ }
+    ensures { λ r. ⌜ Within (length (now (out .exit))) r × StateBehind (listLines) (now (t .entry)) layout (now (out .entry)) front r (now (out .exit)) ⌝ }
+{
+    let links = put_texts(out, front, b"link", t, layout, Texts::Links);
+    let properties = put_properties(out, links, b"env", t, layout);
+    put_texts(out, properties, b"tag", t, layout, Texts::Tags)
+}
+
+pub fn put_record(out: &mut [u8], front: Put, visited: u32, t: &[u8], layout: Layout) -> Put
+    requires { ⌜ Within (length (now out)) front × Holds (now t) layout ⌝ }
+    ensures { λ r. ⌜ Within (length (now (out .exit))) r × StateBehind (λ s. recordLines visited s) (now (t .entry)) layout (now (out .entry)) front r (now (out .exit)) ⌝ }
+{
+    let settings = put_settings(out, front, visited, t, layout);
+    put_lists(out, settings, t, layout)
 }
