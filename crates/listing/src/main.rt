@@ -1,0 +1,92 @@
+// Prints the listing of a rules file for a recorded device: listing RULES DEVICE [OUTCOME]. DEVICE and OUTCOME are packed records; without
+// OUTCOME the run starts from the device's fresh record.
+
+use insertion::Put;
+use libc::STDERR_FILENO;
+use libc::STDOUT_FILENO;
+ghost use Rattle.io.specs.Counts.{Counts};
+
+// Whether a file was read, and how many bytes of the buffer it takes.
+struct FileRead {
+    ok: bool,
+    len: usize,
+}
+
+// What fits of the file that an argument names. A file that cannot be read is named on standard error.
+fn read_file(i: usize, buf: &mut [u8]) -> FileRead
+    ensures { λ r. ⌜ Counts (r .len) (now (buf .exit)) ⌝ }
+{
+    let mut path = io::buffer();
+    let length = os::arg(i, &mut path);
+    if os::errno() != 0 {
+        os::fail(b"file name");
+        return FileRead { ok: false, len: 0 };
+    }
+    let fd = os::open_read(&path[..length]);
+    if fd < 0 {
+        os::fail(&path[..length]);
+        return FileRead { ok: false, len: 0 };
+    }
+    let len = io::read_full(fd, buf);
+    // A read that ended at a failure fails again.
+    let mut next = [0u8; 1];
+    let more = libc::read(fd, &mut next);
+    if more < 0 {
+        os::fail(&path[..length]);
+    }
+    libc::close(fd);
+    FileRead { ok: 0 <= more, len }
+}
+
+fn say(listing: Put, out: &[u8]) {
+    match listing {
+        Put::Done(n) => if n <= out.len() {
+            if !io::write_all(STDOUT_FILENO, &out[..n]) {
+                os::fail(b"standard output");
+            }
+        },
+        Put::Full => {
+            io::write_all(STDERR_FILENO, b"the listing is too long\n");
+        }
+    }
+}
+
+fn main() {
+    let count = os::arg_count();
+    if count < 3 || 4 < count {
+        io::write_all(STDERR_FILENO, b"usage: listing RULES DEVICE [OUTCOME]\n");
+        return;
+    }
+    // One byte more than may be accepted of each.
+    let mut text: [u8; 32769] = [0; 32769];
+    let mut device: [u8; 16385] = [0; 16385];
+    let mut outcome: [u8; 17612] = [0; 17612];
+    let mut out: [u8; 98304] = [0; 98304];
+    let rules = read_file(1, &mut text);
+    if !rules.ok {
+        return;
+    }
+    let recorded = read_file(2, &mut device);
+    if !recorded.ok {
+        return;
+    }
+    let text_end = rules.len;
+    let device_end = recorded.len;
+    if count == 3 {
+        let listing = listing_run::list(&text[..text_end], &device[..device_end], &mut out);
+        say(listing, &out);
+        return;
+    }
+    let start = read_file(3, &mut outcome);
+    if !start.ok {
+        return;
+    }
+    let outcome_end = start.len;
+    let listing = listing_run::list_from(
+        &text[..text_end],
+        &device[..device_end],
+        &outcome[..outcome_end],
+        &mut out,
+    );
+    say(listing, &out);
+}

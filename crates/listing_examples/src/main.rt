@@ -1,0 +1,100 @@
+// Prints the listings of rules texts that were judged by hand: for one device from its fresh record, then from an outcome record, then for
+// faulty records.
+
+use insertion::Put;
+use libc::STDOUT_FILENO;
+
+// ttyUSB0 of subsystem tty, node 188:0, and its parent 1-2 of driver usb with attribute serial=RC-0417.
+const DEVICE: [u8; 89] =
+    *b"\x11\x10\xbc\x00\x00\x00\x00\x10\x86\x00\x00/devices/usb1/1-2/1-2:1.0/ttyUSB0tty\x08\x86\x18@/devices/usb1/1-2usbusb\x0c\x07serialRC-0417";
+
+// Owner u, mode 0600, priority 5, link old, property K=V, tag g, program x.
+const OUTCOME: [u8; 25] =
+    *b"\x10\x01\x020\x00\x00\x00\x00\xa1\x04!u\x03old\x02\x01KV\x01g\x00\x02x";
+
+fn say(word: &[u8]) {
+    io::write_all(STDOUT_FILENO, word);
+}
+
+fn say_listing(name: &[u8], listing: Put, out: &[u8]) {
+    say(b"# ");
+    say(name);
+    say(b"\n");
+    match listing {
+        Put::Done(n) => if n <= out.len() {
+            say(&out[..n]);
+        },
+        Put::Full => say(b"full\n"),
+    }
+}
+
+// From the fresh record of a device.
+fn show(name: &[u8], text: &[u8], device: &[u8]) {
+    let mut out: [u8; 4096] = [0; 4096];
+    let listing = listing_run::list(text, device, &mut out);
+    say_listing(name, listing, &out);
+}
+
+fn show_from(name: &[u8], text: &[u8], outcome: &[u8]) {
+    let mut out: [u8; 4096] = [0; 4096];
+    let listing = listing_run::list_from(text, &DEVICE, outcome, &mut out);
+    say_listing(name, listing, &out);
+}
+
+fn main() {
+    show(
+        b"one counter",
+        b"KERNEL==\"ttyUSB[0-9]*\", ATTRS{serial}==\"RC-0417\", SYMLINK+=\"rope/trip%n\", MODE=\"0660\", GROUP=\"dialout\"",
+        &DEVICE,
+    );
+    show(b"no rules", b"", &DEVICE);
+    show(
+        b"a jump over a rule",
+        b"KERNEL==\"tty*\", GOTO=\"end\"\x0aTAG+=\"skipped\"\x0a# comment\x0aLABEL=\"end\", TAG+=\"reached\"\x0a",
+        &DEVICE,
+    );
+    show(
+        b"runs of both types",
+        b"ENV{STEP}=\"1\", RUN+=\"/bin/a $env{STEP}\", RUN{builtin}+=\"kmod %k\", RUN+=\"%b\"\x0aENV{STEP}=\"2\"\x0aATTRS{serial}==\"RC-0417\", RUN{program}+=\"%b $driver\"\x0a",
+        &DEVICE,
+    );
+    show(
+        b"bytes that are not printed",
+        b"ENV{Q}=\"a\x09b~\x7f\\ \xc3\xa9\", TAG+=\"x\x01 y\"",
+        &DEVICE,
+    );
+    show(
+        b"all settings",
+        b"OPTIONS+=\"link_priority=-2147483648\", OWNER=\"root\", GROUP=\"adm\", MODE=\"7\", SYMLINK=\"a b\", TAG+=\"t\"",
+        &DEVICE,
+    );
+    show(
+        b"a jump without its label",
+        b"\x0a\x0a# jump\x0aKERNEL==\"a\", GOTO=\"end\"\x0a",
+        &DEVICE,
+    );
+    show(
+        b"an unknown key",
+        b"KERNEL==\"a\"\x0aNAME=\"x\"\x0a",
+        &DEVICE,
+    );
+    show(
+        b"a link that leaves its directory",
+        b"KERNEL==\"none\", SYMLINK+=\"/x\"\x0a\x0aSYMLINK+=\"../x\"",
+        &DEVICE,
+    );
+    show(b"a mode that is none", b"MODE=\"888\"", &DEVICE);
+    show(
+        b"a command that is too long",
+        b"RUN+=\"%p%p%p%p%p%p%p%p%p%p%p%p%p%p%p%p\"",
+        &DEVICE,
+    );
+    show_from(b"from a record", b"SYMLINK+=\"new\", ENV{K}=\"\"", &OUTCOME);
+    show(b"a faulty device", b"TAG+=\"t\"", &DEVICE[..88]);
+    show_from(b"a faulty record", b"TAG+=\"t\"", &OUTCOME[..24]);
+    show(
+        b"a faulty text and a faulty device",
+        b"TAG+=\"t\"x",
+        &DEVICE[..88],
+    );
+}
