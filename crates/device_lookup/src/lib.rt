@@ -175,7 +175,7 @@ pub fn properties(rec: &[u8]) -> &[u8]
 }
 
 // The place behind the device that begins at a place.
-fn member_end(rec: &[u8], at: usize) -> usize
+pub fn member_end(rec: &[u8], at: usize) -> usize
     requires { ⌜ Standing (now rec) at ⌝ }
     ensures { λ r. ⌜ OfMember (now (rec .entry)) at (λ m. r ≡ at + length (encMember m)) ⌝ }
 {

@@ -1,0 +1,4 @@
+pub mod Reading
+pub mod ByKey
+pub mod Made
+pub mod Chain

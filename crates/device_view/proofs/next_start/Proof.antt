@@ -1,0 +1,20 @@
+-- `device_view::next_start` meets its contract.
+-- Assumes nothing.
+use borrow.Author.Needs.{needs}
+use Rattle.lists.specs.Bytes.{Bytes}
+use Rattle.device_view.proofs.Chain.{place-lies, parent-stands}
+use Rattle.device_view.proofs.next_start.Statement.{statement}
+use Rattle.device_view.proofs.next_start.Tie as tie
+
+member-end-requires : tie.Need-member-end-requires
+member-end-requires c κs = search needs
+
+returns : tie.Need-returns
+returns c = λ d e n m x p g.
+    let a = c .before .before .args in
+    let rec = a .rec .now in
+    let b : Bytes rec = λ i. c .before .shared-slice-known .given i .fits in
+    parent-stands rec d b e n (a .at) (c .member-end .result) m x p (c .member-end .ensures m (place-lies rec d b e n (a .at) m p)) g
+
+pub next-start-spec : {M : Type 1} → statement M
+next-start-spec = tie.close (tie.spec member-end-requires returns)
