@@ -25,7 +25,7 @@ use denote.Laws.{Is, shows}
 use denote.Plain.{uint-makes}
 use denote.Builtin.{u8, usize, SliceRefOf}
 use denote.Ref.{RefT, now}
-use denote.Signature.{Slot, Signature, plain, namedLft}
+use denote.Signature.{Slot, plain, namedLft}
 use denote.Slice.{sliceVal, sliceTy, ShrSlice, slice-vals, shr-slice-tells, shr-slice-lawful, shr-slice-copy}
 use denote.Steps.{owned, peeks, heard, nothing}
 use denote.Struct.Declared.{Declared}

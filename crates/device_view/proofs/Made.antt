@@ -1,8 +1,8 @@
--- A function on a record, an offset and a key that makes a view in a local and calls a method of it with the key: one walk, for each such method and result.
+-- A function on a record and an offset that makes a view in a local and calls a method of it: one walk, for each such method and result.
 -- The machine value that `new` returns is stored and passed on as it is. In a local of a body MIR erases the lifetime of the view's type, so the value is shown to have the type at `erased`.
--- A `&[u8]` is Copy, so what the record and the key own is had twice: once for the exit, and once for the calls.
+-- A `&[u8]` is Copy, so what the record owns is had twice: once for the exit, and once for the calls.
 -- Assumes nothing.
-use mathlib.Core.Path.{_≡_, refl, sym, subst}
+use mathlib.Core.Path.{refl}
 use Prim.Native.Nat.{ℕ, _<_, _^_}
 use mathlib.Core.List.{List, [], _∷_}
 use lib.Dec.{T as Holds}
@@ -18,7 +18,7 @@ use prog.Wp.{Heap, Calls, Loops, WpFn, Tables}
 use ghost.Atoms.{Atoms, sem}
 use contract.Lifetimes.{Lfts}
 use contract.Monad.{Fun, fact}
-use types.Kit.{Given, ‵, raw, _⊛_, ⋆, some, later, _$_, _∵_, !, qed, by, move, drop, use1, use2, use3, split, join, pick, fsplit, fjoin, suffices, frame, await, done}
+use types.Kit.{Given, ‵, raw, _⊛_, ⋆, some, later, _$_, _∵_, !, qed, by, move, use1, use2, split, pick, fsplit, fjoin, suffices, frame, await, done}
 use types.Run.{look, init, forget, stop, from, load, and-then, no-more, land, returns, enter, alloc1, alloc0, params1, pass1, pass0, free1, free0}
 use sound.WpLaws.{FmC, fmOf, WpFn-mono}
 use denote.RattleType.{RattleType, owns}
@@ -30,10 +30,10 @@ use denote.Signature.{Slot, plain}
 use denote.Slice.{sliceVal, sliceTy, ShrSlice, slice-vals, shr-slice-tells, shr-slice-lawful, shr-slice-copy}
 use denote.Steps.{owned, peeks, heard, nothing}
 use denote.Struct.Laws as LL
-use denote.Triple.Statement.{Contract, Triple}
+use denote.Triple.Statement.{Triple}
 use denote.Triple.Call.{calls-at}
 use denote.Triple.Entry.{Vals, onEntry}
-use denote.Triple.Spec.{Meets, tripleOf}
+use denote.Triple.Spec.{Meets}
 use denote.Triple.Walked.{says, needs, Stays, stay-none, stay-none-slice, walkOf, goes-none, goes-none-slice, Walks, ends-at, walked, walk-meets}
 use denote.Exit.{yes}
 use denote.Triple.Clauses.{closing, ensured, lasts}
@@ -43,168 +43,124 @@ use Rattle.device_view.proofs.DeviceView as T
 use Rattle.device_view.proofs.DeviceView.Laws as T′
 use Rattle.device_view.proofs.DeviceView.new as new
 use Rattle.device_view.proofs.DeviceView.new.Symbol.{name as #new}
-use Rattle.device_view.proofs.ByKey.{B, of-view, of-record, view-says, record-says, OfView}
+use Rattle.device_view.proofs.Making.{Is-made, of-made, to-made, New, to-new, asked-new, new-said}
+use Rattle.device_view.proofs.Reading.{B, of-view, of-record, view-says, record-says, OfView}
 
 -- the MIR of a function with a result of the type τ, which calls `new` and #method
 abbrev pub function : Name → Ty → Fn
 function #method τ =
     record {
-      lifetimes = 2;
+      lifetimes = 1;
       outlives = [];
-      params = 3;
-      locals = local τ valueLocal
-          ∷ local (sliceTy (tyRef (named 0) imm (tyInt w8))) valueLocal
-          ∷ local (tyInt w64) valueLocal
-          ∷ local (sliceTy (tyRef (named 1) imm (tyInt w8))) valueLocal
-          ∷ local (T′.mir erased) valueLocal
-          ∷ [];
+      params = 2;
+      locals = local τ valueLocal ∷ local (sliceTy (tyRef (named 0) imm (tyInt w8))) valueLocal ∷ local (tyInt w64) valueLocal ∷ local (T′.mir erased) valueLocal ∷ [];
       body = seq
-          (call #new (copy (place 1 []) ∷ copy (place 2 []) ∷ []) (place 4 []))
-          (seq (call #method (copy (place 4 []) ∷ copy (place 3 []) ∷ []) (place 0 [])) return);
+          (call #new (copy (place 1 []) ∷ copy (place 2 []) ∷ []) (place 3 []))
+          (seq (call #method (copy (place 3 []) ∷ []) (place 0 [])) return);
     }
 
-module _ {M : Type 1} (𝓤 : URA M) (H : Heap 𝓤) (A : Atoms 𝓤) (mem : Memory → SProp 𝓤) (run : Routine → Fun 𝓤) where
-  -- the contract of `new`
-  abbrev pub New : Contract 𝓤
-  New = tripleOf 𝓤 H A new.signature (new.spec 𝓤 H A mem run)
-
--- the result Y, of which something is said at the record's bytes, the offset and the key's bytes
-module _ (Y : Slot 2) (Said : (κs : Lfts 2) → List ℕ → ℕ → List ℕ → Y .row κs .Denot → Type 0) where
+-- the result Y, of which something is said at the record's bytes and the offset
+module _ (Y : Slot 1) (Said : (κs : Lfts 1) → List ℕ → ℕ → Y .row κs .Denot → Type 0) where
   abbrev stayed : Stays (of-record Y Said .signature .params) (of-record Y Said .kept)
-  stayed = (stay-none-slice (0 ∷ []) tt (plain (λ _. u8)) yes, (stay-none (λ _. usize) yes, (stay-none-slice (1 ∷ []) tt (plain (λ _. u8)) yes, tt)))
+  stayed = (stay-none-slice (0 ∷ []) tt (plain (λ _. u8)) yes, (stay-none (λ _. usize) yes, tt))
 
-  module _ {M : Type 1} (𝓤 : URA M) (H : Heap 𝓤) (A : Atoms 𝓤) (W : Given 𝓤 H A) (mem : Memory → SProp 𝓤) (run : Routine → Fun 𝓤) (κ κ′ : Lft) (q q′ : Share) (s k : RefT (List ℕ)) (n : ℕ) (fits : n < 2 ^ 64) (ok : Standing (now s) n) where
-    abbrev κs : Lfts 2
-    κs = (κ, (κ′, tt))
-
-    -- the machine values of the record and of the key
+  module _ {M : Type 1} (𝓤 : URA M) (H : Heap 𝓤) (A : Atoms 𝓤) (W : Given 𝓤 H A) (mem : Memory → SProp 𝓤) (run : Routine → Fun 𝓤) (κ : Lft) (q : Share) (s : RefT (List ℕ)) (n : ℕ) (fits : n < 2 ^ 64) (ok : Standing (now s) n) where
+    -- the machine value of the record
     abbrev v : Val
     v = sliceVal (s .ptr) (length (s .now))
 
-    abbrev vk : Val
-    vk = sliceVal (k .ptr) (length (k .now))
-
-    abbrev given-to : Vals (of-record Y Said .signature) κs
-    given-to = (v ∷ [], (vint w64 n ∷ [], (vk ∷ [], tt)))
+    abbrev given-to : Vals (of-record Y Said .signature) (κ, tt)
+    given-to = (v ∷ [], (vint w64 n ∷ [], tt))
 
     -- the view's type as a local of a body has it
     abbrev αᵉ : NamedLft
     αᵉ = record { mir = erased; lft = κ }
 
     abbrev Post : Val → SProp 𝓤
-    Post = walkOf 𝓤 H A (of-record Y Said) stayed (record-says Y Said 𝓤) .post ((κs, (q, (q′, tt)), tt, (s, (n, (k, tt))), given-to), tt)
+    Post = walkOf 𝓤 H A (of-record Y Said) stayed (record-says Y Said 𝓤) .post (((κ, tt), (q, tt), tt, (s, (n, tt)), given-to), tt)
 
-    -- what the record owns, what the key owns, and what all parameters own together
+    -- what the record owns, and what both parameters own together
     abbrev Rec : Fml
     Rec = ShrSlice (named 0) κ u8 .own s (v ∷ [])
 
-    abbrev Key : Fml
-    Key = ShrSlice (named 1) κ′ u8 .own k (vk ∷ [])
-
     abbrev Held : Fml
-    Held = owns (ShrSlice (named 0) κ u8 ∷ usize ∷ ShrSlice (named 1) κ′ u8 ∷ []) (s, (n, (k, tt))) given-to
+    Held = owns (ShrSlice (named 0) κ u8 ∷ usize ∷ []) (s, (n, tt)) given-to
 
     abbrev R : RattleType
-    R = Y .row κs
+    R = Y .row (κ, tt)
 
-    -- the call of `new`: what it is passed, what it asks, and what is known of its result
-    abbrev to-new : New 𝓤 H A mem run .Ghost
-    to-new = (((κ, tt), (q, tt), tt, (s, (n, tt)), (v ∷ [], (vint w64 n ∷ [], tt))), tt)
+    -- the call of `new`, beside what is kept
+    abbrev to : New 𝓤 H A mem run .Ghost
+    to = to-new 𝓤 H A mem run W κ q s n
 
-    asked-new : ent 𝓤 (onEntry 𝓤 H A new.signature (κ, tt) (q, tt) (s, (n, tt)) (v ∷ [], (vint w64 n ∷ [], tt))) (New 𝓤 H A mem run .pre to-new)
-    asked-new = qed W ((‵ (flft κ q) ⊛ ‵ ftrue) ∷ ‵ (owns (ShrSlice (named 0) κ u8 ∷ usize ∷ []) (s, (n, tt)) (v ∷ [], (vint w64 n ∷ [], tt))) ∷ []) ∵ join ! $ frame ! $ done !
-
-    goes-new : ent 𝓤 (onEntry 𝓤 H A (of-record Y Said .signature) κs (q, (q′, tt)) (s, (n, (k, tt))) given-to)
-        (sep 𝓤 (New 𝓤 H A mem run .pre to-new) (sep 𝓤 (sep 𝓤 (sem 𝓤 H A (flft κ′ q′)) (sem 𝓤 H A ftrue)) (sep 𝓤 (sem 𝓤 H A Key) (sem 𝓤 H A Held))))
+    goes-new : ent 𝓤 (onEntry 𝓤 H A (of-record Y Said .signature) (κ, tt) (q, tt) (s, (n, tt)) given-to) (sep 𝓤 (New 𝓤 H A mem run .pre to) (sem 𝓤 H A Held))
     goes-new =
-        qed W ((‵ (flft κ q) ⊛ ‵ (flft κ′ q′) ⊛ ‵ ftrue) ∷ ‵ Held ∷ []) ∵
-        move ! (1 ∷ []) $ fsplit ! $ use1 W (‵ Rec ⊛ ‵ Rec) (shr-slice-copy 𝓤 H A W (named 0) κ u8 .twice s (v ∷ [])) $ split ! $ move ! (2 ∷ []) $ fsplit ! $ move ! (1 ∷ []) $ fsplit ! $
-        use1 W (‵ Key ⊛ ‵ Key) (shr-slice-copy 𝓤 H A W (named 1) κ′ u8 .twice k (vk ∷ [])) $ split ! $
-        -- [what the key owns, twice; true; what the number owns; what the record owns, twice; the tokens]: one of each is put together for the exit
-        move ! (0 ∷ 2 ∷ []) $ fjoin ! $ move ! (2 ∷ 0 ∷ []) $ fjoin ! $ move ! (2 ∷ 0 ∷ []) $ fjoin ! $
-        -- [what is kept; what the key owns; what the record owns; the tokens]
-        move ! (2 ∷ []) $ nothing ! $ owned ! usize (Is usize) (uint-makes 𝓤 H A W w64) n _ (refl, fits) $ fjoin ! $ move ! (1 ∷ 0 ∷ []) $ fjoin ! $
-        move ! (3 ∷ []) $ split ! $ nothing ! $ move ! (1 ∷ 0 ∷ []) $ join ! $ move ! (0 ∷ 2 ∷ []) $ use2 W (raw (New 𝓤 H A mem run .pre to-new)) asked-new $
-        frame ! $ frame ! $ move ! (1 ∷ []) $ frame ! $ done !
-
-    abbrev Is-made : DeviceView → Type 0
-    Is-made r = (r .rec ≡ s) × (r .at ≡ n)
-
-    new-said : (r : DeviceView) → ent 𝓤 (ensured 𝓤 H A new.ended (new.clauses 𝓤 H A mem run) (κ, tt) (s, (n, tt)) tt r) (fact 𝓤 (Is-made r))
-    new-said r = exE 𝓤 _ (λ ws. snd∗ 𝓤 (sem 𝓤 H A (lasts new.ended (κ, tt) (s, (n, tt)) ws)) (fact 𝓤 (Is-made r)))
+        qed W ((‵ (flft κ q) ⊛ ‵ ftrue) ∷ ‵ Held ∷ []) ∵
+        move ! (1 ∷ []) $ fsplit ! $ use1 W (‵ Rec ⊛ ‵ Rec) (shr-slice-copy 𝓤 H A W (named 0) κ u8 .twice s (v ∷ [])) $ split ! $ move ! (0 ∷ 2 ∷ []) $ fjoin ! $
+        -- [what is kept; what the record owns; the token]
+        move ! (1 ∷ []) $ nothing ! $ owned ! usize (Is usize) (uint-makes 𝓤 H A W w64) n _ (refl, fits) $ fjoin ! $ move ! (1 ∷ 0 ∷ []) $ fjoin ! $
+        move ! (2 ∷ 0 ∷ []) $ use2 W (raw (New 𝓤 H A mem run .pre to)) (asked-new 𝓤 H A mem run W κ q s n) $ frame ! $ done !
 
     -- the call of the method, at the view r with the machine value u
     abbrev to-method : DeviceView → Val → OfView Y Said 𝓤 H A .Ghost
-    to-method r u = ((κs, (q, (q′, tt)), tt, (r, (k, tt)), (u ∷ [], (vk ∷ [], tt))), tt)
+    to-method r u = (((κ, tt), (q, tt), tt, (r, tt), (u ∷ [], tt)), tt)
 
     abbrev Is-said : DeviceView → R .Denot → Type 0
-    Is-said r t = Said κs (now (r .rec)) (r .at) (now k) t
+    Is-said r t = Said (κ, tt) (now (r .rec)) (r .at) t
 
-    stands : (r : DeviceView) → Is-made r → Standing (now (r .rec)) (r .at)
-    stands r e = subst (λ (x : RefT (List ℕ)). Standing (now x) (r .at)) (sym (e .0)) (subst (λ (i : ℕ). Standing (now s) i) (sym (e .1)) ok)
+    asked-method : (r : DeviceView) (u : Val) → Is-made s n r → ent 𝓤 (onEntry 𝓤 H A (of-view Y Said .signature) (κ, tt) (q, tt) (r, tt) (u ∷ [], tt)) (OfView Y Said 𝓤 H A .pre (to-method r u))
+    asked-method r u e = qed W ((‵ (flft κ q) ⊛ ‵ ftrue) ∷ ‵ (owns (B (κ, tt) ∷ []) (r, tt) (u ∷ [], tt)) ∷ []) ∵ says ! (to-made Standing s n r e ok) $ done !
 
-    asked-method : (r : DeviceView) (u : Val) → Is-made r → ent 𝓤 (onEntry 𝓤 H A (of-view Y Said .signature) κs (q, (q′, tt)) (r, (k, tt)) (u ∷ [], (vk ∷ [], tt))) (OfView Y Said 𝓤 H A .pre (to-method r u))
-    asked-method r u e = qed W ((‵ (flft κ q) ⊛ ‵ (flft κ′ q′) ⊛ ‵ ftrue) ∷ ‵ (owns (B κs ∷ ShrSlice (named 1) κ′ u8 ∷ []) (r, (k, tt)) (u ∷ [], (vk ∷ [], tt))) ∷ []) ∵ says ! (stands r e) $ done !
-
-    goes-method : (r : DeviceView) (u : Val) → Is-made r
-        → ent 𝓤 (⋆ 𝓤 H A (‵ (B κs .own r (u ∷ [])) ∷ (‵ (flft κ q) ⊛ ‵ ftrue) ∷ ((‵ (flft κ′ q′) ⊛ ‵ ftrue) ⊛ (‵ Key ⊛ ‵ Held)) ∷ [])) (sep 𝓤 (OfView Y Said 𝓤 H A .pre (to-method r u)) (sem 𝓤 H A Held))
+    goes-method : (r : DeviceView) (u : Val) → Is-made s n r → ent 𝓤 (⋆ 𝓤 H A (‵ (B (κ, tt) .own r (u ∷ [])) ∷ (‵ (flft κ q) ⊛ ‵ ftrue) ∷ [])) (OfView Y Said 𝓤 H A .pre (to-method r u))
     goes-method r u e =
-        qed W (‵ (B κs .own r (u ∷ [])) ∷ (‵ (flft κ q) ⊛ ‵ ftrue) ∷ ((‵ (flft κ′ q′) ⊛ ‵ ftrue) ⊛ (‵ Key ⊛ ‵ Held)) ∷ []) ∵
-        move ! (2 ∷ []) $ split ! $ move ! (1 ∷ []) $ split ! $ nothing ! $ move ! (1 ∷ 0 ∷ []) $ fjoin ! $ move ! (3 ∷ 0 ∷ []) $ fjoin ! $
-        -- [what the view and the key own; what is kept; the second token; the first]
-        move ! (3 ∷ []) $ split ! $ move ! (1 ∷ []) $ drop ! $ move ! (0 ∷ 3 ∷ []) $ join ! $ use2 W (raw (OfView Y Said 𝓤 H A .pre (to-method r u))) (asked-method r u e) $ frame ! $ done !
+        qed W (‵ (B (κ, tt) .own r (u ∷ [])) ∷ (‵ (flft κ q) ⊛ ‵ ftrue) ∷ []) ∵ nothing ! $ move ! (1 ∷ 0 ∷ []) $ fjoin ! $ move ! (1 ∷ 0 ∷ []) $ by ! (asked-method r u e)
 
-    method-said : (r : DeviceView) (t : R .Denot) → ent 𝓤 (ensured 𝓤 H A (of-view Y Said) (view-says Y Said 𝓤) κs (r, (k, tt)) tt t) (fact 𝓤 (Is-said r t))
-    method-said r t = exE 𝓤 _ (λ ws. snd∗ 𝓤 (sem 𝓤 H A (lasts (of-view Y Said) κs (r, (k, tt)) ws)) (fact 𝓤 (Is-said r t)))
+    method-said : (r : DeviceView) (t : R .Denot) → ent 𝓤 (ensured 𝓤 H A (of-view Y Said) (view-says Y Said 𝓤) (κ, tt) (r, tt) tt t) (fact 𝓤 (Is-said r t))
+    method-said r t = exE 𝓤 _ (λ ws. snd∗ 𝓤 (sem 𝓤 H A (lasts (of-view Y Said) (κ, tt) (r, tt) ws)) (fact 𝓤 (Is-said r t)))
 
-    -- what the method says of the view is what is to be said of the record and the offset
-    says-of : (r : DeviceView) (t : R .Denot) → Is-made r → Is-said r t → Said κs (now s) n (now k) t
-    says-of r t e f = subst (λ (x : RefT (List ℕ)). Said κs (now x) n (now k) t) (e .0) (subst (λ (i : ℕ). Said κs (now (r .rec)) i (now k) t) (e .1) f)
-
-    exits : (t : R .Denot) (u : Val) → Said κs (now s) n (now k) t → ent 𝓤 (⋆ 𝓤 H A (‵ (R .own t (u ∷ [])) ∷ (‵ (flft κ q) ⊛ ‵ (flft κ′ q′) ⊛ ‵ ftrue) ∷ ‵ Held ∷ [])) (Post u)
+    exits : (t : R .Denot) (u : Val) → Said (κ, tt) (now s) n t → ent 𝓤 (⋆ 𝓤 H A (‵ (R .own t (u ∷ [])) ∷ (‵ (flft κ q) ⊛ ‵ ftrue) ∷ ‵ Held ∷ [])) (Post u)
     exits t u e =
-        qed W (‵ (R .own t (u ∷ [])) ∷ (‵ (flft κ q) ⊛ ‵ (flft κ′ q′) ⊛ ‵ ftrue) ∷ ‵ Held ∷ []) ∵
-        suffices ! _ (ends-at 𝓤 H A (of-record Y Said) stayed (record-says Y Said 𝓤) W ((κs, (q, (q′, tt)), tt, (s, (n, (k, tt))), given-to), tt) u t (tt, (tt, (tt, tt))) (tt, (tt, (tt, tt)))) $ says ! e $
+        qed W (‵ (R .own t (u ∷ [])) ∷ (‵ (flft κ q) ⊛ ‵ ftrue) ∷ ‵ Held ∷ []) ∵
+        suffices ! _ (ends-at 𝓤 H A (of-record Y Said) stayed (record-says Y Said 𝓤) W (((κ, tt), (q, tt), tt, (s, (n, tt)), given-to), tt) u t (tt, (tt, tt)) (tt, (tt, tt))) $ says ! e $
         move ! (1 ∷ []) $ frame ! $ move ! (1 ∷ []) $ frame ! $ done !
 
     module _ (#method : Name) (τ : Ty) (typed : (t : R .Denot) (u : Val) → Is R t (u ∷ []) → Holds (hasTy τ u) × WT u) (C : Calls 𝓤 H) (Λ : Loops 𝓤 H) (fm : FmC 𝓤 H (W .laws) C)
         (known-new : Triple 𝓤 (C #new) (New 𝓤 H A mem run)) (known : Triple 𝓤 (C #method) (OfView Y Said 𝓤 H A)) where
-      walk : Is (ShrSlice (named 0) κ u8) s (v ∷ []) → Is (ShrSlice (named 1) κ′ u8) k (vk ∷ [])
-          → ent 𝓤 (onEntry 𝓤 H A (of-record Y Said .signature) κs (q, (q′, tt)) (s, (n, (k, tt))) given-to) (WpFn 𝓤 H C Λ (function #method τ) (v ∷ vint w64 n ∷ vk ∷ []) Post)
-      walk p p′ =
-          qed W (raw (onEntry 𝓤 H A (of-record Y Said .signature) κs (q, (q′, tt)) (s, (n, (k, tt))) given-to) ∷ []) ∵ enter ! C Λ (function #method τ) (v ∷ vint w64 n ∷ vk ∷ []) _ $
-          alloc1 ! (λ l₀. alloc1 ! (λ l₁. alloc1 ! (λ l₂. alloc1 ! (λ l₃. alloc1 ! (λ l₄. alloc0 ! $ params1 ! $
-          pass1 ! (init ! 6 refl (shr-slice-lawful 𝓤 H A W (named 0) κ u8 .typed s (v ∷ []) p .0)) $ pass1 ! (init ! 4 refl (tt, record { fits = fits })) $ pass1 ! (init ! 2 refl (shr-slice-lawful 𝓤 H A W (named 1) κ′ u8 .typed k (vk ∷ []) p′ .0)) $ pass0 ! $
-          move ! (10 ∷ []) $ use1 W (raw (New 𝓤 H A mem run .pre to-new) ⊛ ((‵ (flft κ′ q′) ⊛ ‵ ftrue) ⊛ (‵ Key ⊛ ‵ Held))) goes-new $ split ! $
-          calls-at ! fm (New 𝓤 H A mem run) known-new to-new (and-then ! (load ! (from ! (stop !)) (look ! 8 refl)) (and-then ! (load ! (from ! (stop !)) (look ! 6 refl)) (no-more !))) (λ u.
-          use1 W (later (some (λ (r : DeviceView). ((‵ (flft κ q) ⊛ ‵ ftrue) ⊛ ‵ (B κs .own r (u ∷ []))) ⊛ raw (ensured 𝓤 H A new.ended (new.clauses 𝓤 H A mem run) (κ, tt) (s, (n, tt)) tt r)))) (id⊢ 𝓤 _) $ await ! tt $ pick ! (λ r.
-          split ! $ move ! (1 ∷ []) $ use1 W (raw (fact 𝓤 (Is-made r))) (new-said r) $ heard ! (Is-made r) (λ e. split ! $ move ! (1 ∷ []) $
-          -- [what the view owns; the first token; the rest; room for _4; …; _3; …; _2; …; _1; …; room for _0; …]
-          peeks ! (B κs) (Is (B κs)) (shows 𝓤 H A (B κs)) r (u ∷ []) (λ is.
+      walk : Is (ShrSlice (named 0) κ u8) s (v ∷ []) → ent 𝓤 (onEntry 𝓤 H A (of-record Y Said .signature) (κ, tt) (q, tt) (s, (n, tt)) given-to) (WpFn 𝓤 H C Λ (function #method τ) (v ∷ vint w64 n ∷ []) Post)
+      walk p =
+          qed W (raw (onEntry 𝓤 H A (of-record Y Said .signature) (κ, tt) (q, tt) (s, (n, tt)) given-to) ∷ []) ∵ enter ! C Λ (function #method τ) (v ∷ vint w64 n ∷ []) _ $
+          alloc1 ! (λ l₀. alloc1 ! (λ l₁. alloc1 ! (λ l₂. alloc1 ! (λ l₃. alloc0 ! $ params1 ! $
+          pass1 ! (init ! 4 refl (shr-slice-lawful 𝓤 H A W (named 0) κ u8 .typed s (v ∷ []) p .0)) $ pass1 ! (init ! 2 refl (tt, record { fits = fits })) $ pass0 ! $
+          move ! (8 ∷ []) $ use1 W (raw (New 𝓤 H A mem run .pre to) ⊛ ‵ Held) goes-new $ split ! $
+          calls-at ! fm (New 𝓤 H A mem run) known-new to (and-then ! (load ! (from ! (stop !)) (look ! 6 refl)) (and-then ! (load ! (from ! (stop !)) (look ! 4 refl)) (no-more !))) (λ u.
+          use1 W (later (some (λ (r : DeviceView). ((‵ (flft κ q) ⊛ ‵ ftrue) ⊛ ‵ (B (κ, tt) .own r (u ∷ []))) ⊛ raw (ensured 𝓤 H A new.ended (new.clauses 𝓤 H A mem run) (κ, tt) (s, (n, tt)) tt r)))) (id⊢ 𝓤 _) $ await ! tt $ pick ! (λ r.
+          split ! $ move ! (1 ∷ []) $ use1 W (raw (fact 𝓤 (Is-made s n r))) (new-said 𝓤 H A mem run W κ q s n r) $ heard ! (Is-made s n r) (λ e. split ! $ move ! (1 ∷ []) $
+          -- [what the view owns; the token; what is kept; room for _3; …; _2; …; _1; …; room for _0; …]
+          peeks ! (B (κ, tt)) (Is (B (κ, tt))) (shows 𝓤 H A (B (κ, tt))) r (u ∷ []) (λ is.
           land ! (from ! (stop !)) (init ! 3 refl (LL.lawful (T.the-type αᵉ) (T′.the-laws αᵉ) 𝓤 H A W .typed r _ is .0)) $
-          use3 W (raw (OfView Y Said 𝓤 H A .pre (to-method r u)) ⊛ ‵ Held) (goes-method r u e) $ split ! $
-          calls-at ! fm (OfView Y Said 𝓤 H A) known (to-method r u) (and-then ! (load ! (from ! (stop !)) (look ! 2 refl)) (and-then ! (load ! (from ! (stop !)) (look ! 4 refl)) (no-more !))) (λ u′.
-          use1 W (later (some (λ (t : R .Denot). ((‵ (flft κ q) ⊛ ‵ (flft κ′ q′) ⊛ ‵ ftrue) ⊛ ‵ (R .own t (u′ ∷ []))) ⊛ raw (ensured 𝓤 H A (of-view Y Said) (view-says Y Said 𝓤) κs (r, (k, tt)) tt t)))) (id⊢ 𝓤 _) $ await ! tt $ pick ! (λ t.
+          use2 W (raw (OfView Y Said 𝓤 H A .pre (to-method r u))) (goes-method r u e) $
+          calls-at ! fm (OfView Y Said 𝓤 H A) known (to-method r u) (and-then ! (load ! (from ! (stop !)) (look ! 2 refl)) (no-more !)) (λ u′.
+          use1 W (later (some (λ (t : R .Denot). ((‵ (flft κ q) ⊛ ‵ ftrue) ⊛ ‵ (R .own t (u′ ∷ []))) ⊛ raw (ensured 𝓤 H A (of-view Y Said) (view-says Y Said 𝓤) (κ, tt) (r, tt) tt t)))) (id⊢ 𝓤 _) $ await ! tt $ pick ! (λ t.
           split ! $ move ! (1 ∷ []) $ use1 W (raw (fact 𝓤 (Is-said r t))) (method-said r t) $ heard ! (Is-said r t) (λ f. split ! $ move ! (1 ∷ []) $
-          -- [the result; the tokens; what is kept; _4; …; _3; …; _2; …; _1; …; room for _0; …]
+          -- [the result; the token; what is kept; _3; …; _2; …; _1; …; room for _0; …]
           peeks ! R (Is R) (shows 𝓤 H A R) t (u′ ∷ []) (λ is′.
-          land ! (from ! (stop !)) (init ! 11 refl (typed t u′ is′)) $
-          returns ! (look ! 11 refl) $ forget ! 3 refl $ forget ! 5 refl $ forget ! 7 refl $ forget ! 9 refl $ forget ! 11 refl $
-          move ! (11 ∷ 12 ∷ []) $ free1 ! $ move ! (9 ∷ 10 ∷ []) $ free1 ! $ move ! (7 ∷ 8 ∷ []) $ free1 ! $ move ! (5 ∷ 6 ∷ []) $ free1 ! $ move ! (3 ∷ 4 ∷ []) $ free1 ! $ free0 ! $ by ! (exits t u′ (says-of r t e f)))))))))))))))
+          land ! (from ! (stop !)) (init ! 9 refl (typed t u′ is′)) $
+          returns ! (look ! 9 refl) $ forget ! 3 refl $ forget ! 5 refl $ forget ! 7 refl $ forget ! 9 refl $
+          move ! (9 ∷ 10 ∷ []) $ free1 ! $ move ! (7 ∷ 8 ∷ []) $ free1 ! $ move ! (5 ∷ 6 ∷ []) $ free1 ! $ move ! (3 ∷ 4 ∷ []) $ free1 ! $ free0 ! $ by ! (exits t u′ (of-made (λ l i. Said (κ, tt) l i t) s n r e f))))))))))))))
 
   -- the function meets its contract where `new` and the method meet theirs
   module _ {M : Type 1} (𝓤 : URA M) (H : Heap 𝓤) (A : Atoms 𝓤) (W : Given 𝓤 H A) (mem : Memory → SProp 𝓤) (run : Routine → Fun 𝓤) (#method : Name) (τ : Ty)
-      (typed : (κs : Lfts 2) (t : Y .row κs .Denot) (u : Val) → Is (Y .row κs) t (u ∷ []) → Holds (hasTy τ u) × WT u) where
+      (typed : (κs : Lfts 1) (t : Y .row κs .Denot) (u : Val) → Is (Y .row κs) t (u ∷ []) → Holds (hasTy τ u) × WT u) where
     walks : (C : Calls 𝓤 H) (Λ : Loops 𝓤 H) → FmC 𝓤 H (W .laws) C → Triple 𝓤 (C #new) (New 𝓤 H A mem run) → Triple 𝓤 (C #method) (OfView Y Said 𝓤 H A)
         → Walks 𝓤 H A (of-record Y Said) stayed (WpFn 𝓤 H C Λ (function #method τ)) (record-says Y Said 𝓤)
     walks C Λ fm known-new known =
-        walked 𝓤 H A (of-record Y Said) stayed (record-says Y Said 𝓤) (WpFn 𝓤 H C Λ (function #method τ)) (λ κs. (slice-vals, (uint-vals w64, (slice-vals, tt)))) (λ κs. (shr-slice-tells (named 0) (κs .0) u8, (uint-tells w64, (shr-slice-tells (named 1) (κs .1 .0) u8, tt))))
+        walked 𝓤 H A (of-record Y Said) stayed (record-says Y Said 𝓤) (WpFn 𝓤 H C Λ (function #method τ)) (λ κs. (slice-vals, (uint-vals w64, tt))) (λ κs. (shr-slice-tells (named 0) (κs .0) u8, (uint-tells w64, tt)))
         (λ κs qs bounds a g are. needs 𝓤 _ _
-        (λ ok. walk 𝓤 H A W mem run (κs .0) (κs .1 .0) (qs .0) (qs .1 .0) (a .0) (a .1 .1 .0) (a .1 .0) (are .1 .0 .1) ok #method τ (typed κs) C Λ fm known-new known (are .0) (are .1 .1 .0)))
+        (λ ok. walk 𝓤 H A W mem run (κs .0) (qs .0) (a .0) (a .1 .0) (are .1 .0 .1) ok #method τ (typed κs) C Λ fm known-new known (are .0)))
 
     pub meets : (𝓣 : Tables 𝓤 H) → Triple 𝓤 (𝓣 .C #new) (New 𝓤 H A mem run) → Triple 𝓤 (𝓣 .C #method) (OfView Y Said 𝓤 H A)
         → Meets 𝓤 H A (of-record Y Said .signature) (WpFn 𝓤 H (𝓣 .C) (𝓣 .Λ) (function #method τ)) (closing 𝓤 H A (of-record Y Said) (record-says Y Said 𝓤))
     meets 𝓣 known-new known =
         walk-meets 𝓤 H A (of-record Y Said) stayed W
-        (goes-none-slice 𝓤 H A W 2 (0 ∷ []) tt (plain (λ _. u8)) yes, (goes-none 𝓤 H A W 2 (λ _. usize) yes (λ κs x f. refl), (goes-none-slice 𝓤 H A W 2 (1 ∷ []) tt (plain (λ _. u8)) yes, tt))) (record-says Y Said 𝓤)
+        (goes-none-slice 𝓤 H A W 1 (0 ∷ []) tt (plain (λ _. u8)) yes, (goes-none 𝓤 H A W 1 (λ _. usize) yes (λ κs x f. refl), tt)) (record-says Y Said 𝓤)
         (WpFn 𝓤 H (𝓣 .C) (𝓣 .Λ) (function #method τ)) (WpFn-mono 𝓤 H (W .laws) 𝓣 (function #method τ)) (walks (𝓣 .C) (𝓣 .Λ) (fmOf 𝓤 H (W .laws) 𝓣) known-new known)

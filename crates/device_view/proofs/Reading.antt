@@ -16,7 +16,7 @@ use prog.Wp.{Heap, Calls, Loops, WpFn, Tables}
 use ghost.Atoms.{Atoms, sem}
 use contract.Lifetimes.{Lfts}
 use contract.Monad.{fact}
-use types.Kit.{Given, ‵, raw, _⊛_, given, ⋆, some, later, _$_, _∵_, !, qed, by, move, drop, use1, use2, split, join, learn, pick, fsplit, fjoin, suffices, frame, await, done}
+use types.Kit.{Given, ‵, raw, _⊛_, given, ⋆, some, later, _$_, _∵_, !, qed, by, move, drop, use1, use2, split, learn, pick, fsplit, fjoin, suffices, frame, await, done}
 use types.Part.{whole, sub, look-in}
 use types.Run.{look, init, forget, stop, fld, from, load, of-opd, and-then, no-more, assigns, land, returns, enter, alloc1, alloc0, params1, pass1, pass0, free1, free0}
 use sound.WpLaws.{FmC, fmOf, WpFn-mono}
@@ -25,7 +25,7 @@ use denote.Laws.{Is, shows}
 use denote.Plain.{uint-makes}
 use denote.Builtin.{u8, usize, SliceRefOf}
 use denote.Ref.{RefT, now}
-use denote.Signature.{Slot, Signature, plain, namedLft}
+use denote.Signature.{Slot, plain, namedLft}
 use denote.Slice.{sliceVal, sliceTy, ShrSlice, shr-slice-lawful}
 use denote.Steps.{owned, peeks, heard, nothing}
 use denote.Struct.Declared.{Declared}
@@ -90,6 +90,9 @@ module _ (Y : Slot 1) (Said : (κs : Lfts 1) → List ℕ → ℕ → Y .row κs
           requires = λ g. fact 𝓤 (Standing (now (a .0)) (a .1 .0));
           ensures = λ g r e. fact 𝓤 (Said κs (now (a .0)) (a .1 .0) r);
         }
+
+    abbrev pub OfView : (H : Heap 𝓤) → Atoms 𝓤 → Contract 𝓤
+    OfView H A = tripleOf 𝓤 H A (of-view .signature) (closing 𝓤 H A of-view view-says)
 
     abbrev pub OfRecord : (H : Heap 𝓤) → Atoms 𝓤 → Contract 𝓤
     OfRecord H A = tripleOf 𝓤 H A (of-record .signature) (closing 𝓤 H A of-record record-says)
@@ -194,11 +197,8 @@ Text = SliceRefOf (0 ∷ []) tt (plain (λ _. u8)) (λ _. tt)
 abbrev pub TextIs : (Member → List ℕ) → (κs : Lfts 1) → List ℕ → ℕ → RefT (List ℕ) → Type 0
 TextIs f κs l at r = OfMember l at (λ m. now r ≡ f m)
 
-abbrev pub Texts : (Member → List ℕ) → {M : Type 1} (𝓤 : URA M) (H : Heap 𝓤) → Atoms 𝓤 → Contract 𝓤
-Texts f = OfRecord Text (TextIs f)
+abbrev pub text-type : Ty
+text-type = sliceTy (tyRef (named 0) imm (tyInt w8))
 
-pub text-meets : (f : Member → List ℕ) {M : Type 1} (𝓤 : URA M) (H : Heap 𝓤) (A : Atoms 𝓤) (W : Given 𝓤 H A) (#callee : Name) (𝓣 : Tables 𝓤 H)
-    → Triple 𝓤 (𝓣 .C #callee) (Texts f 𝓤 H A)
-    → Meets 𝓤 H A (of-view Text (TextIs f) .signature) (WpFn 𝓤 H (𝓣 .C) (𝓣 .Λ) (method #callee (sliceTy (tyRef (named 0) imm (tyInt w8))))) (closing 𝓤 H A (of-view Text (TextIs f)) (view-says Text (TextIs f) 𝓤))
-text-meets f 𝓤 H A W #callee 𝓣 known =
-    meets Text (TextIs f) 𝓤 H A W #callee (sliceTy (tyRef (named 0) imm (tyInt w8))) (λ κs r u is. shr-slice-lawful 𝓤 H A W (named 0) (κs .0) u8 .typed r (u ∷ []) is .0) 𝓣 known
+pub text-typed : {M : Type 1} (𝓤 : URA M) (H : Heap 𝓤) (A : Atoms 𝓤) → Given 𝓤 H A → (κs : Lfts 1) (r : RefT (List ℕ)) (u : Val) → Is (Text .row κs) r (u ∷ []) → Holds (hasTy text-type u) × WT u
+text-typed 𝓤 H A W κs r u is = shr-slice-lawful 𝓤 H A W (named 0) (κs .0) u8 .typed r (u ∷ []) is .0

@@ -108,9 +108,43 @@ impl<'a> DeviceView<'a> {
     }
 }
 
-// ---- for callers that have a record and numbers
+// ---- for callers that have a record and an offset or a place: each makes a view and reads it
 
-// An attribute of the device that begins at an offset.
+pub fn path_at(rec: &[u8], at: usize) -> &[u8]
+    requires { ⌜ Standing (now rec) at ⌝ }
+    ensures { λ r. ⌜ OfMember (now (rec .entry)) at (λ m. now r ≡ m .path) ⌝ }
+{
+    DeviceView::new(rec, at).path()
+}
+
+pub fn name_at(rec: &[u8], at: usize) -> &[u8]
+    requires { ⌜ Standing (now rec) at ⌝ }
+    ensures { λ r. ⌜ OfMember (now (rec .entry)) at (λ m. now r ≡ nameOf m) ⌝ }
+{
+    DeviceView::new(rec, at).name()
+}
+
+pub fn subsystem_at(rec: &[u8], at: usize) -> &[u8]
+    requires { ⌜ Standing (now rec) at ⌝ }
+    ensures { λ r. ⌜ OfMember (now (rec .entry)) at (λ m. now r ≡ m .subsystem) ⌝ }
+{
+    DeviceView::new(rec, at).subsystem()
+}
+
+pub fn driver_at(rec: &[u8], at: usize) -> &[u8]
+    requires { ⌜ Standing (now rec) at ⌝ }
+    ensures { λ r. ⌜ OfMember (now (rec .entry)) at (λ m. now r ≡ m .driver) ⌝ }
+{
+    DeviceView::new(rec, at).driver()
+}
+
+pub fn find_attribute_at<'a, 'b>(rec: &'a [u8], at: usize, key: &'b [u8]) -> Value
+    requires { ⌜ Standing (now rec) at ⌝ }
+    ensures { λ r. ⌜ OfMember (now (rec .entry)) at (λ m. Says (now (rec .entry)) r (attrOf (now (key .entry)) m)) × Within r (length (now (rec .entry))) ⌝ }
+{
+    DeviceView::new(rec, at).find_attribute(key)
+}
+
 pub fn attribute_at<'a, 'b>(rec: &'a [u8], at: usize, key: &'b [u8]) -> &'a [u8]
     requires { ⌜ Standing (now rec) at ⌝ }
     ensures { λ r. ⌜ OfMember (now (rec .entry)) at (λ m. now r ≡ orEmpty (attrOf (now (key .entry)) m)) ⌝ }

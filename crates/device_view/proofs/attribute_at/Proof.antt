@@ -16,7 +16,8 @@ use Rattle.entries.specs.Entry.{orEmpty}
 use Rattle.device.specs.Device.{attrOf}
 use Rattle.device_lookup.specs.Lookup.{OfMember}
 use Rattle.device_view.proofs.ByKey.{OfView}
-use Rattle.device_view.proofs.Made.{New, meets}
+use Rattle.device_view.proofs.Making.{New}
+use Rattle.device_view.proofs.MadeByKey.{meets}
 use Rattle.device_view.proofs.DeviceView.new.Symbol as new
 use Rattle.device_view.proofs.DeviceView.new.Met as new-thm
 use Rattle.device_view.proofs.DeviceView.attribute.Symbol as method
