@@ -32,22 +32,22 @@ pub fn part_holds(
     ensures { λ r. ⌜ OfMember (now (dev .entry)) at (λ m. r ≡ partHolds part (operatorOf operator) (now (argument .entry)) (now (pattern .entry)) m) ⌝ }
 {
     match part {
-        Part::Path => match_values::value_holds(operator, pattern, device_lookup::path(dev, at)),
-        Part::Name => match_values::value_holds(operator, pattern, device_lookup::name(dev, at)),
+        Part::Path => match_values::value_holds(operator, pattern, device_view::path_at(dev, at)),
+        Part::Name => match_values::value_holds(operator, pattern, device_view::name_at(dev, at)),
         Part::Subsystem => match_values::value_holds(
             operator,
             pattern,
-            device_lookup::subsystem(dev, at),
+            device_view::subsystem_at(dev, at),
         ),
         Part::Driver => match_values::value_holds(
             operator,
             pattern,
-            device_lookup::driver(dev, at),
+            device_view::driver_at(dev, at),
         ),
         Part::Attribute => match_values::attribute_holds(
             operator,
             pattern,
-            device_lookup::attribute(dev, at, argument),
+            device_view::attribute_at(dev, at, argument),
         ),
     }
 }

@@ -72,7 +72,7 @@ fn put_number(dev: &[u8], at: usize, spaceless: bool, out: &mut [u8], used: usiz
     requires { ⌜ Standing (now dev) at × (used ≤ length (now out)) ⌝ }
     ensures { λ r. ⌜ OfMember (now (dev .entry)) at (λ m. Appended (asked spaceless (endDigits (nameOf m))) (now (out .entry)) used r (now (out .exit))) ⌝ }
 {
-    let name = device_lookup::name(dev, at);
+    let name = device_view::name_at(dev, at);
     let start = scan::digits_start(name);
     insertion::put_text(out, used, &name[start..], spaceless)
 }
@@ -83,7 +83,7 @@ fn put_id(dev: &[u8], matched: Matched, spaceless: bool, out: &mut [u8], used: u
     ensures { λ r. ⌜ OfMatched (now (dev .entry)) matched (λ o. Appended (asked spaceless (ofMatched o nameOf)) (now (out .entry)) used r (now (out .exit))) ⌝ }
 {
     match matched {
-        Matched::At(at) => insertion::put_text(out, used, device_lookup::name(dev, at), spaceless),
+        Matched::At(at) => insertion::put_text(out, used, device_view::name_at(dev, at), spaceless),
         Matched::Nothing => Put::Done(used),
     }
 }
@@ -97,7 +97,7 @@ fn put_driver(dev: &[u8], matched: Matched, spaceless: bool, out: &mut [u8], use
         Matched::At(at) => insertion::put_text(
             out,
             used,
-            device_lookup::driver(dev, at),
+            device_view::driver_at(dev, at),
             spaceless,
         ),
         Matched::Nothing => Put::Done(used),
@@ -127,7 +127,7 @@ fn put_parent_attribute(
 {
     match matched {
         Matched::At(at) => put_trimmed(
-            device_lookup::attribute(dev, at, key),
+            device_view::attribute_at(dev, at, key),
             spaceless,
             out,
             used,
@@ -149,7 +149,7 @@ fn put_attribute(
     requires { ⌜ Standing (now dev) event × MatchedStands (now dev) matched × (used ≤ length (now out)) ⌝ }
     ensures { λ r. ⌜ OfMember (now (dev .entry)) event (λ m. OfMatched (now (dev .entry)) matched (λ o. Appended (asked spaceless (trim (orEmpty (firstOf (attrOf (now (key .entry)) m) (attrAt (now (key .entry)) o))))) (now (out .entry)) used r (now (out .exit)))) ⌝ }
 {
-    match device_lookup::find_attribute(dev, event, key) {
+    match device_view::find_attribute_at(dev, event, key) {
         Value::At(start, len) => put_trimmed(&dev[start..start + len], spaceless, out, used),
         Value::Missing => put_parent_attribute(dev, matched, key, spaceless, out, used),
     }
@@ -201,12 +201,17 @@ fn put_piece(
     let matched = from.matched;
     match p {
         Piece::Written(b) => insertion::put_byte(out, used, b),
-        Piece::Kernel => insertion::put_text(out, used, device_lookup::name(dev, event), spaceless),
+        Piece::Kernel => insertion::put_text(
+            out,
+            used,
+            device_view::name_at(dev, event),
+            spaceless,
+        ),
         Piece::Number => put_number(dev, event, spaceless, out, used),
         Piece::Devpath => insertion::put_text(
             out,
             used,
-            device_lookup::path(dev, event),
+            device_view::path_at(dev, event),
             spaceless,
         ),
         Piece::Id => put_id(dev, matched, spaceless, out, used),

@@ -14,8 +14,8 @@ use Rattle.lists.specs.Runs.{trim}
 use Rattle.substitution.proofs.put_attribute.Statement.{statement}
 use Rattle.substitution.proofs.put_attribute.Tie as tie
 
-find-attribute-requires : tie.Need-find-attribute-requires
-find-attribute-requires c κs = search needs
+find-attribute-at-requires : tie.Need-find-attribute-at-requires
+find-attribute-at-requires c κs = search needs
 
 enum-known-start : tie.Need-enum-known-start
 enum-known-start c = search needs
@@ -23,7 +23,7 @@ enum-known-start c = search needs
 add-put-trimmed : tie.Need-add-put-trimmed
 add-put-trimmed c =
     let start = c .before .start in
-    let w : Within (At (start .given .0 .0) (start .given .0 .1 .0)) (length (c .before .before .before .before .before .before .before .args .dev .now)) = rw (start .given .1) at (c .before .before .before .find-attribute .ensures .1) in
+    let w : Within (At (start .given .0 .0) (start .given .0 .1 .0)) (length (c .before .before .before .before .before .before .before .args .dev .now)) = rw (start .given .1) at (c .before .before .before .find-attribute-at .ensures .1) in
     omega arith
 
 sub-put-trimmed : tie.Need-sub-put-trimmed
@@ -35,7 +35,7 @@ part-put-trimmed-start c = search needs
 part-put-trimmed-end : tie.Need-part-put-trimmed-end
 part-put-trimmed-end c =
     let start = c .before .start in
-    let w : Within (At (start .given .0 .0) (start .given .0 .1 .0)) (length (c .before .before .before .before .before .before .before .args .dev .now)) = rw (start .given .1) at (c .before .before .before .find-attribute .ensures .1) in
+    let w : Within (At (start .given .0 .0) (start .given .0 .1 .0)) (length (c .before .before .before .before .before .before .before .args .dev .now)) = rw (start .given .1) at (c .before .before .before .find-attribute-at .ensures .1) in
     omega arith
 
 put-trimmed-requires : tie.Need-put-trimmed-requires
@@ -58,7 +58,7 @@ returns c =
     λ m h o k.
     let v = start .given .0 .0 in
     let n = start .given .0 .1 .0 in
-    let w : Says (args .dev .now) (At v n) (attrOf (args .key .now) m) = rw (start .given .1) at (c .before .before .before .before .before .before .before .before .find-attribute .ensures .0 m h) in
+    let w : Says (args .dev .now) (At v n) (attrOf (args .key .now) m) = rw (start .given .1) at (c .before .before .before .before .before .before .before .before .find-attribute-at .ensures .0 m h) in
     appended-same (args .spaceless) _ (trim (orEmpty (firstOf (attrOf (args .key .now) m) (attrAt (args .key .now) o)))) (args .out .now) (args .used) (put-trimmed .result) _ (ap trim (sized-part (args .dev .now) v n ∙ attribute-here (args .dev .now) (args .key .now) m o v n w)) (put-trimmed .ensures)
 
 same-length-2 : tie.Need-same-length-2
@@ -69,14 +69,14 @@ returns-2 c =
     let args = c .before .before .before .before .before .before .before .before .before .before .args in
     let put-parent-attribute = c .before .before .put-parent-attribute in
     λ m h o k.
-    let w : Says (args .dev .now) Missing (attrOf (args .key .now) m) = rw (c .before .before .before .before .enum-told .given .1) at (c .before .before .before .before .before .before .find-attribute .ensures .0 m h) in
+    let w : Says (args .dev .now) Missing (attrOf (args .key .now) m) = rw (c .before .before .before .before .enum-told .given .1) at (c .before .before .before .before .before .before .find-attribute-at .ensures .0 m h) in
     appended-same (args .spaceless) _ (trim (orEmpty (firstOf (attrOf (args .key .now) m) (attrAt (args .key .now) o)))) (args .out .now) (args .used) (put-parent-attribute .result) _ (ap trim (attribute-there (args .key .now) m o w)) (put-parent-attribute .ensures o k)
 
 pub put-attribute-spec : {M : Type 1} → statement M
 put-attribute-spec =
     tie.close
     (tie.spec
-    find-attribute-requires
+    find-attribute-at-requires
     enum-known-start
     add-put-trimmed
     sub-put-trimmed

@@ -12,8 +12,8 @@ use Rattle.substitution.proofs.put_driver.Tie as tie
 enum-known-matched : tie.Need-enum-known-matched
 enum-known-matched c = search needs
 
-driver-requires : tie.Need-driver-requires
-driver-requires c κs =
+driver-at-requires : tie.Need-driver-at-requires
+driver-at-requires c κs =
     let matched = c .before .before .matched in
     let w : MatchedStands (c .before .before .before .before .before .before .args .dev .now) (At (matched .given .0 .0)) = rw (matched .given .1) at (c .before .before .before .before .before .before .pre .0) in
     w
@@ -34,7 +34,7 @@ returns c =
     let put-text = c .before .before .put-text in
     λ o h.
     let w : MatchedIs (args .dev .now) (At (matched .given .0 .0)) o = rw (matched .given .1) at h in
-    appended-same (args .spaceless) _ (ofMatched o (λ n. n .driver)) (args .out .now) (args .used) (put-text .result) _ (c .before .before .before .driver .ensures (w .0) (w .2) ∙ matched-text (λ n. n .driver) o (w .0) (w .1)) (put-text .ensures)
+    appended-same (args .spaceless) _ (ofMatched o (λ n. n .driver)) (args .out .now) (args .used) (put-text .result) _ (c .before .before .before .driver-at .ensures (w .0) (w .2) ∙ matched-text (λ n. n .driver) o (w .0) (w .1)) (put-text .ensures)
 
 returns-2 : tie.Need-returns-2
 returns-2 c =
@@ -48,7 +48,7 @@ put-driver-spec =
     tie.close
     (tie.spec
     enum-known-matched
-    driver-requires
+    driver-at-requires
     put-text-requires
     enum-told
     same-length

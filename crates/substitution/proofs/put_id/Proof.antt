@@ -13,8 +13,8 @@ use Rattle.substitution.proofs.put_id.Tie as tie
 enum-known-matched : tie.Need-enum-known-matched
 enum-known-matched c = search needs
 
-name-requires : tie.Need-name-requires
-name-requires c κs =
+name-at-requires : tie.Need-name-at-requires
+name-at-requires c κs =
     let matched = c .before .before .matched in
     let w : MatchedStands (c .before .before .before .before .before .before .args .dev .now) (At (matched .given .0 .0)) = rw (matched .given .1) at (c .before .before .before .before .before .before .pre .0) in
     w
@@ -35,7 +35,7 @@ returns c =
     let put-text = c .before .before .put-text in
     λ o h.
     let w : MatchedIs (args .dev .now) (At (matched .given .0 .0)) o = rw (matched .given .1) at h in
-    appended-same (args .spaceless) _ (ofMatched o nameOf) (args .out .now) (args .used) (put-text .result) _ (c .before .before .before .name .ensures (w .0) (w .2) ∙ matched-text nameOf o (w .0) (w .1)) (put-text .ensures)
+    appended-same (args .spaceless) _ (ofMatched o nameOf) (args .out .now) (args .used) (put-text .result) _ (c .before .before .before .name-at .ensures (w .0) (w .2) ∙ matched-text nameOf o (w .0) (w .1)) (put-text .ensures)
 
 returns-2 : tie.Need-returns-2
 returns-2 c =
@@ -49,7 +49,7 @@ put-id-spec =
     tie.close
     (tie.spec
     enum-known-matched
-    name-requires
+    name-at-requires
     put-text-requires
     enum-told
     same-length

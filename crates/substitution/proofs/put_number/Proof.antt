@@ -9,8 +9,8 @@ use Rattle.lists.specs.Runs.{endDigits}
 use Rattle.substitution.proofs.put_number.Statement.{statement}
 use Rattle.substitution.proofs.put_number.Tie as tie
 
-name-requires : tie.Need-name-requires
-name-requires c κs = search needs
+name-at-requires : tie.Need-name-at-requires
+name-at-requires c κs = search needs
 
 digits-start-requires : tie.Need-digits-start-requires
 digits-start-requires c κs = search needs
@@ -33,7 +33,7 @@ same-length c = search needs
 returns : tie.Need-returns
 returns c =
     let args = c .before .before .before .before .before .before .before .before .before .args in
-    let name = c .before .before .before .before .before .before .name in
+    let name = c .before .before .before .before .before .before .name-at in
     let digits-start = c .before .before .before .before .before .digits-start in
     let put-text = c .before .before .put-text in
     λ m h. appended-same (args .spaceless) _ (endDigits (nameOf m)) (args .out .now) (args .used) (put-text .result) _ (end-part (name .result .now) (length (name .result .now)) (digits-start .result) refl ∙ digits-start .ensures .1 ∙ ap endDigits (name .ensures m h)) (put-text .ensures)
@@ -42,7 +42,7 @@ pub put-number-spec : {M : Type 1} → statement M
 put-number-spec =
     tie.close
     (tie.spec
-    name-requires
+    name-at-requires
     digits-start-requires
     sub-put-text
     part-put-text-start

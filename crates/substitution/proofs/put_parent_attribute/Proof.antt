@@ -14,8 +14,8 @@ use Rattle.substitution.proofs.put_parent_attribute.Tie as tie
 enum-known-matched : tie.Need-enum-known-matched
 enum-known-matched c = search needs
 
-attribute-requires : tie.Need-attribute-requires
-attribute-requires c κs =
+attribute-at-requires : tie.Need-attribute-at-requires
+attribute-at-requires c κs =
     let matched = c .before .matched in
     let w : MatchedStands (c .before .before .before .before .before .before .args .dev .now) (At (matched .given .0 .0)) = rw (matched .given .1) at (c .before .before .before .before .before .before .pre .0) in
     w
@@ -36,7 +36,7 @@ returns c =
     let put-trimmed = c .before .before .put-trimmed in
     λ o h.
     let w : MatchedIs (args .dev .now) (At (matched .given .0 .0)) o = rw (matched .given .1) at h in
-    appended-same (args .spaceless) _ (trim (orEmpty (attrAt (args .key .now) o))) (args .out .now) (args .used) (put-trimmed .result) _ (ap trim (c .before .before .before .before .attribute .ensures (w .0) (w .2) ∙ attribute-matched (args .key .now) o (w .0) (w .1))) (put-trimmed .ensures)
+    appended-same (args .spaceless) _ (trim (orEmpty (attrAt (args .key .now) o))) (args .out .now) (args .used) (put-trimmed .result) _ (ap trim (c .before .before .before .before .attribute-at .ensures (w .0) (w .2) ∙ attribute-matched (args .key .now) o (w .0) (w .1))) (put-trimmed .ensures)
 
 returns-2 : tie.Need-returns-2
 returns-2 c =
@@ -50,7 +50,7 @@ put-parent-attribute-spec =
     tie.close
     (tie.spec
     enum-known-matched
-    attribute-requires
+    attribute-at-requires
     put-trimmed-requires
     enum-told
     same-length

@@ -29,8 +29,8 @@ put-byte-requires c κs = search needs
 enum-told : tie.Need-enum-told
 enum-told c = search needs
 
-name-requires : tie.Need-name-requires
-name-requires c κs =
+name-at-requires : tie.Need-name-at-requires
+name-at-requires c κs =
     let args = c .before .before .before .before .before .before .before .args in
     let pre = c .before .before .before .before .before .before .before .pre in
     source-event (args .dev .now) (args .rec .now) (λ i. c .before .before .before .before .before .shared-slice-known2 .given i .fits) (args .from) (pre .1 .0) (pre .1 .1)
@@ -50,8 +50,8 @@ put-number-requires c κs =
 enum-told-3 : tie.Need-enum-told-3
 enum-told-3 c = search needs
 
-path-requires : tie.Need-path-requires
-path-requires c κs =
+path-at-requires : tie.Need-path-at-requires
+path-at-requires c κs =
     let args = c .before .before .before .before .before .before .before .args in
     let pre = c .before .before .before .before .before .before .before .pre in
     source-event (args .dev .now) (args .rec .now) (λ i. c .before .before .before .before .before .shared-slice-known2 .given i .fits) (args .from) (pre .1 .0) (pre .1 .1)
@@ -180,7 +180,7 @@ unfolding inserted
 returns-2 c =
     let args = c .before .before .before .before .before .before .before .before .before .before .before .args in
     let put-text = c .before .before .put-text in
-    λ s h. piece-inserted (args .spaceless) s (args .template .now) (args .p) T.kernel _ (args .out .now) (args .used) (put-text .result) _ (ap (λ (y : Piece). meaning y (args .template .now)) (c .before .before .before .before .before .enum-told .given .1)) refl (c .before .before .before .name .ensures (s .device .event) (h .event)) (put-text .ensures)
+    λ s h. piece-inserted (args .spaceless) s (args .template .now) (args .p) T.kernel _ (args .out .now) (args .used) (put-text .result) _ (ap (λ (y : Piece). meaning y (args .template .now)) (c .before .before .before .before .before .enum-told .given .1)) refl (c .before .before .before .name-at .ensures (s .device .event) (h .event)) (put-text .ensures)
 
 same-length-3 : tie.Need-same-length-3
 same-length-3 c = search needs
@@ -200,7 +200,7 @@ unfolding inserted
 returns-4 c =
     let args = c .before .before .before .before .before .before .before .before .before .before .before .args in
     let put-text2 = c .before .before .put-text2 in
-    λ s h. piece-inserted (args .spaceless) s (args .template .now) (args .p) T.devpath _ (args .out .now) (args .used) (put-text2 .result) _ (ap (λ (y : Piece). meaning y (args .template .now)) (c .before .before .before .before .before .enum-told3 .given .1)) refl (c .before .before .before .path .ensures (s .device .event) (h .event)) (put-text2 .ensures)
+    λ s h. piece-inserted (args .spaceless) s (args .template .now) (args .p) T.devpath _ (args .out .now) (args .used) (put-text2 .result) _ (ap (λ (y : Piece). meaning y (args .template .now)) (c .before .before .before .before .before .enum-told3 .given .1)) refl (c .before .before .before .path-at .ensures (s .device .event) (h .event)) (put-text2 .ensures)
 
 same-length-5 : tie.Need-same-length-5
 same-length-5 c = search needs
@@ -289,12 +289,12 @@ put-piece-spec =
     enum-known-p
     put-byte-requires
     enum-told
-    name-requires
+    name-at-requires
     put-text-requires
     enum-told-2
     put-number-requires
     enum-told-3
-    path-requires
+    path-at-requires
     put-text-requires-2
     enum-told-4
     put-id-requires
