@@ -61,39 +61,39 @@ function #method τ =
 
 -- the result Y, of which something is said at the record's bytes and the offset
 module _ (Y : Slot 1) (Said : (κs : Lfts 1) → List ℕ → ℕ → Y .row κs .Denot → Type 0) where
-  abbrev stayed : Stays (of-record Y Said .signature .params) (of-record Y Said .kept)
+  abbrev pub stayed : Stays (of-record Y Said .signature .params) (of-record Y Said .kept)
   stayed = (stay-none-slice (0 ∷ []) tt (plain (λ _. u8)) yes, (stay-none (λ _. usize) yes, tt))
 
   module _ {M : Type 1} (𝓤 : URA M) (H : Heap 𝓤) (A : Atoms 𝓤) (W : Given 𝓤 H A) (mem : Memory → SProp 𝓤) (run : Routine → Fun 𝓤) (κ : Lft) (q : Share) (s : RefT (List ℕ)) (n : ℕ) (fits : n < 2 ^ 64) (ok : Standing (now s) n) where
     -- the machine value of the record
-    abbrev v : Val
+    abbrev pub v : Val
     v = sliceVal (s .ptr) (length (s .now))
 
-    abbrev given-to : Vals (of-record Y Said .signature) (κ, tt)
+    abbrev pub given-to : Vals (of-record Y Said .signature) (κ, tt)
     given-to = (v ∷ [], (vint w64 n ∷ [], tt))
 
     -- the view's type as a local of a body has it
-    abbrev αᵉ : NamedLft
+    abbrev pub αᵉ : NamedLft
     αᵉ = record { mir = erased; lft = κ }
 
-    abbrev Post : Val → SProp 𝓤
+    abbrev pub Post : Val → SProp 𝓤
     Post = walkOf 𝓤 H A (of-record Y Said) stayed (record-says Y Said 𝓤) .post (((κ, tt), (q, tt), tt, (s, (n, tt)), given-to), tt)
 
     -- what the record owns, and what both parameters own together
-    abbrev Rec : Fml
+    abbrev pub Rec : Fml
     Rec = ShrSlice (named 0) κ u8 .own s (v ∷ [])
 
-    abbrev Held : Fml
+    abbrev pub Held : Fml
     Held = owns (ShrSlice (named 0) κ u8 ∷ usize ∷ []) (s, (n, tt)) given-to
 
-    abbrev R : RattleType
+    abbrev pub R : RattleType
     R = Y .row (κ, tt)
 
     -- the call of `new`, beside what is kept
-    abbrev to : New 𝓤 H A mem run .Ghost
+    abbrev pub to : New 𝓤 H A mem run .Ghost
     to = to-new 𝓤 H A mem run W κ q s n
 
-    goes-new : ent 𝓤 (onEntry 𝓤 H A (of-record Y Said .signature) (κ, tt) (q, tt) (s, (n, tt)) given-to) (sep 𝓤 (New 𝓤 H A mem run .pre to) (sem 𝓤 H A Held))
+    pub goes-new : ent 𝓤 (onEntry 𝓤 H A (of-record Y Said .signature) (κ, tt) (q, tt) (s, (n, tt)) given-to) (sep 𝓤 (New 𝓤 H A mem run .pre to) (sem 𝓤 H A Held))
     goes-new =
         qed W ((‵ (flft κ q) ⊛ ‵ ftrue) ∷ ‵ Held ∷ []) ∵
         move ! (1 ∷ []) $ fsplit ! $ use1 W (‵ Rec ⊛ ‵ Rec) (shr-slice-copy 𝓤 H A W (named 0) κ u8 .twice s (v ∷ [])) $ split ! $ move ! (0 ∷ 2 ∷ []) $ fjoin ! $
@@ -118,7 +118,7 @@ module _ (Y : Slot 1) (Said : (κs : Lfts 1) → List ℕ → ℕ → Y .row κs
     method-said : (r : DeviceView) (t : R .Denot) → ent 𝓤 (ensured 𝓤 H A (of-view Y Said) (view-says Y Said 𝓤) (κ, tt) (r, tt) tt t) (fact 𝓤 (Is-said r t))
     method-said r t = exE 𝓤 _ (λ ws. snd∗ 𝓤 (sem 𝓤 H A (lasts (of-view Y Said) (κ, tt) (r, tt) ws)) (fact 𝓤 (Is-said r t)))
 
-    exits : (t : R .Denot) (u : Val) → Said (κ, tt) (now s) n t → ent 𝓤 (⋆ 𝓤 H A (‵ (R .own t (u ∷ [])) ∷ (‵ (flft κ q) ⊛ ‵ ftrue) ∷ ‵ Held ∷ [])) (Post u)
+    pub exits : (t : R .Denot) (u : Val) → Said (κ, tt) (now s) n t → ent 𝓤 (⋆ 𝓤 H A (‵ (R .own t (u ∷ [])) ∷ (‵ (flft κ q) ⊛ ‵ ftrue) ∷ ‵ Held ∷ [])) (Post u)
     exits t u e =
         qed W (‵ (R .own t (u ∷ [])) ∷ (‵ (flft κ q) ⊛ ‵ ftrue) ∷ ‵ Held ∷ []) ∵
         suffices ! _ (ends-at 𝓤 H A (of-record Y Said) stayed (record-says Y Said 𝓤) W (((κ, tt), (q, tt), tt, (s, (n, tt)), given-to), tt) u t (tt, (tt, tt)) (tt, (tt, tt))) $ says ! e $

@@ -152,6 +152,21 @@ pub fn attribute_at<'a, 'b>(rec: &'a [u8], at: usize, key: &'b [u8]) -> &'a [u8]
     DeviceView::new(rec, at).attribute(key)
 }
 
+pub fn has_parent_at(rec: &[u8], at: usize) -> bool
+    requires { ⌜ Standing (now rec) at ⌝ }
+    ensures { λ r. ⌜ HasParent (now (rec .entry)) at r ⌝ }
+{
+    DeviceView::new(rec, at).has_parent()
+}
+
+// Where the parent begins, for a device that has one.
+pub fn parent_at(rec: &[u8], at: usize) -> usize
+    requires { ⌜ Standing (now rec) at ⌝ }
+    ensures { λ r. ⌜ ParentAt (now (rec .entry)) at r ⌝ }
+{
+    DeviceView::new(rec, at).parent().at
+}
+
 // Where the device at a place of the chain begins; the event device has place 1.
 fn start_of(chain: Chain, place: usize) -> usize
     requires { ⌜ (1 ≤ place) × (place ≤ mostChain) ⌝ }
