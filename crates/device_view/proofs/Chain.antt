@@ -7,7 +7,7 @@ use mathlib.Core.Option.{some, Option·none-ne-some, Option·some-injective}
 use native.Mathlib.Omega.{arith}
 use lib.Dec.{ltb}
 use lib.ListN.{length, drop, getD, length-append, length-drop}
-use lib.Seq.{drop-at, drop-drop}
+use lib.Seq.{drop-at, drop-drop, getD-take}
 use borrow.Author.Tests.{lt-ltb, le-ltb}
 use Rattle.lists.specs.Lists.{cat, nth}
 use Rattle.lists.specs.Bytes.{Bytes}
@@ -16,6 +16,8 @@ use Rattle.device.specs.Device.{Member, Device, chain, memberAt, encMember, dec
 use Rattle.device.specs.Places.{startsFrom, starts, Lies}
 use Rattle.device.proofs.Places.{chain-bytes, lies}
 use Rattle.device_head.proofs.Lying.{member-length, lies-within}
+use Rattle.device_lookup.specs.Lookup.{Chained}
+use Rattle.device_lookup.specs.declared.Chain.{Chain}
 use Rattle.device_lookup.proofs.Devices.{record-short}
 use Rattle.device_view.specs.View.{startAt, AtPlace, Stands}
 
@@ -58,6 +60,15 @@ module _ (l : List ℕ) (d : Device) (b : Bytes l) (e : decode l ≡ some d) whe
   pub place-lies : (n at : ℕ) (m : Member) → AtPlace d n at m → Lies l at m
   place-lies zero at m p = absurd (Option·none-ne-some m (p .member))
   place-lies (suc k) at m p = subst (λ (i : ℕ). Lies l i m) (nth-getD (starts d) k at (p .start)) (lies l d b e k m (p .member))
+
+  -- the event device begins where the chain says
+  pub event-stands : (r : Chain) → Chained d r → Stands l d 1 (getD (r .at) 0 0) (d .event)
+  event-stands r c =
+      let a : AtPlace d 1 (getD (r .at) 0 0) (d .event) =
+      record { member = refl; start = ap some (ap (λ (x : List ℕ). getD x 0 0) (sym (c .at)) ∙ getD-take (r .len) (r .at) 0 0 (omega (arith, c .len))) }
+      in
+      let h : Lies l (getD (r .at) 0 0) (d .event) = place-lies 1 (getD (r .at) 0 0) (d .event) a in
+      record { place = a; lies = h; standing = record { member = d .event; lies = h; short = record-short l d b e } }
 
   -- the parent begins where the device ends
   pub parent-stands : (n at r : ℕ) (m x : Member) → AtPlace d n at m → r ≡ at + length (encMember m) → memberAt (suc n) d ≡ some x → Stands l d (suc n) r x
