@@ -10,11 +10,12 @@ member-end-requires : tie.Need-member-end-requires
 member-end-requires c κs = search needs
 
 returns : tie.Need-returns
-returns c = λ d e n m x p g.
+returns c =
     let a = c .before .before .args in
     let rec = a .rec .now in
     let b : Bytes rec = λ i. c .before .shared-slice-known .given i .fits in
-    parent-stands rec d b e n (a .at) (c .member-end .result) m x p (c .member-end .ensures m (place-lies rec d b e n (a .at) m p)) g
+    let f = c .member-end in
+    (f .ensures, λ d e n m x p g. parent-stands rec d b e n (a .at) (f .result) m x p (f .ensures m (place-lies rec d b e n (a .at) m p)) g)
 
 pub next-start-spec : {M : Type 1} → statement M
 next-start-spec = tie.close (tie.spec member-end-requires returns)

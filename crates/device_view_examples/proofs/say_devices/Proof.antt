@@ -71,7 +71,7 @@ loop-again c = λ d e.
     let (p, g) = nth-there (chain d) (l .place) (further (c .before) d e) in
     let k : suc (l .place) ≡ l .place + 1 = omega arith in
     let rec = c .before .before .before .before .before .before .before .args .rec .now in
-    (p, subst (λ (n : ℕ). Stands rec d n (c .parent-at .result) p) k (c .parent-at .ensures d e (l .place) m p (w .place) g))
+    (p, subst (λ (n : ℕ). Stands rec d n (c .parent-at .result) p) k (c .parent-at .ensures .1 d e (l .place) m p (w .place) g))
 
 pub say-devices-spec : {M : Type 1} → statement M
 say-devices-spec = tie.close (tie.spec Inv-loop μ-loop array-read-at loop-holds say-device-requires has-parent-at-requires returns parent-at-requires add-place loop-less loop-again)
