@@ -284,7 +284,7 @@ fn say_verdict(name: &[u8], want: &[u8], n: usize) {
     } else {
         say(name);
         say(b" goes apart behind ");
-        say_common(want, std::num::wrapping_sub_usize(n, APART));
+        say_common(want, n % APART);
     }
     say(b"\n");
 }
