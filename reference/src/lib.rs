@@ -25,6 +25,7 @@ pub mod run_list;
 pub mod sizes;
 pub mod template;
 pub mod text_form;
+pub mod workloads;
 
 pub use device::Device;
 pub use listing::listing;

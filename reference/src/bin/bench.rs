@@ -1,0 +1,225 @@
+//! Measures the linked engine beside the reference, in one process.
+
+use std::env;
+use std::ffi::{c_char, c_int, CStr};
+use std::hint::black_box;
+use std::process::ExitCode;
+use std::time::Instant;
+
+use reference::compare::{run_reply, Engine, Reference};
+use reference::linked::Linked;
+use reference::workloads::{counter, family, workloads, Workload};
+use reference::{sizes, Outcome};
+
+const USAGE: &str = "usage: bench
+       bench list                       name, bytes, rules and the daemon's instructions of each text
+       bench count ENGINE TEXT TIMES    run a text so often with an engine, linked or reference";
+
+/// How often each text is run by each engine, in turns; the best time of all counts.
+const RUNS: usize = 400;
+
+fn main() -> ExitCode {
+    let arguments: Vec<String> = env::args().skip(1).collect();
+    let words: Vec<&str> = arguments.iter().map(String::as_str).collect();
+    let done = match words[..] {
+        [] => {
+            show_texts();
+            show_growth();
+            show_glob();
+            Some(())
+        }
+        ["list"] => {
+            list();
+            Some(())
+        }
+        ["count", engine, text, times] => count(engine, text, times),
+        _ => None,
+    };
+    if done.is_none() {
+        eprintln!("{USAGE}");
+        return ExitCode::from(2);
+    }
+    ExitCode::SUCCESS
+}
+
+// ---- a run
+
+/// What a run is given beside its text. The target is reused; an engine writes all of it.
+struct Bench {
+    device: Vec<u8>,
+    outcome: Vec<u8>,
+    target: Vec<u8>,
+}
+
+impl Bench {
+    /// The counter, with its fresh record and these tags in it.
+    fn new(tags: &[&CStr]) -> Bench {
+        let device = counter();
+        let outcome = Outcome {
+            tags: tags.iter().map(|tag| tag.to_bytes().to_vec()).collect(),
+            ..Outcome::fresh(&device)
+        };
+        Bench {
+            device: device.encode(),
+            outcome: outcome.encode(),
+            target: vec![0; sizes::OUTCOME_TARGET],
+        }
+    }
+
+    /// Runs a text and gives the nanoseconds that it took.
+    fn run(&mut self, engine: &dyn Engine, text: &[u8]) -> f64 {
+        let start = Instant::now();
+        let answer = engine.run(
+            black_box(text),
+            &self.device,
+            &self.outcome,
+            &mut self.target,
+        );
+        let time = start.elapsed();
+        assert_eq!(answer[0], 0, "an accepted text");
+        time.as_nanos() as f64
+    }
+
+    fn assert_engines_agree(&self, text: &[u8]) {
+        let [ours, reference] = [&Linked as &dyn Engine, &Reference]
+            .map(|engine| run_reply(engine, text, &self.device, &self.outcome, self.target.len()));
+        assert_eq!(ours, reference);
+    }
+}
+
+/// The best times of the runs that are taken in turns, `RUNS` of each.
+fn best<const N: usize>(mut run: impl FnMut(usize) -> f64) -> [f64; N] {
+    let mut best = [f64::INFINITY; N];
+    for _ in 0..RUNS {
+        for (which, best) in best.iter_mut().enumerate() {
+            *best = best.min(run(which));
+        }
+    }
+    best
+}
+
+/// The best times of the linked engine and of the reference.
+fn times_of_both(text: &[u8]) -> [f64; 2] {
+    let mut bench = Bench::new(&[]);
+    bench.assert_engines_agree(text);
+    best(|which| match which {
+        0 => bench.run(&Linked, text),
+        _ => bench.run(&Reference, text),
+    })
+}
+
+// ---- texts
+
+fn all_workloads() -> impl Iterator<Item = Workload> {
+    workloads().into_iter().chain(family())
+}
+
+fn list() {
+    for workload in all_workloads() {
+        let daemon = workload.daemon_instructions;
+        println!(
+            "{} {} {} {}",
+            workload.name,
+            workload.text.len(),
+            workload.rules(),
+            daemon.map_or(String::from("-"), |instructions| instructions.to_string()),
+        );
+    }
+}
+
+fn count(engine: &str, text: &str, times: &str) -> Option<()> {
+    let engine: &dyn Engine = match engine {
+        "linked" => &Linked,
+        "reference" => &Reference,
+        _ => return None,
+    };
+    let workload = all_workloads().find(|workload| workload.name == text)?;
+    let times: usize = times.parse().ok()?;
+    let mut bench = Bench::new(&[]);
+    for _ in 0..times {
+        bench.run(engine, &workload.text);
+    }
+    Some(())
+}
+
+fn show_texts() {
+    println!(
+        "{:14} {:>6} {:>6} {:>9} {:>8} {:>8} {:>13} {:>8}",
+        "text", "bytes", "rules", "us a run", "ns/rule", "ns/byte", "reference us", "ratio"
+    );
+    for workload in all_workloads() {
+        let [ours, reference] = times_of_both(&workload.text);
+        println!(
+            "{:14} {:6} {:6} {:9.1} {:8.1} {:8.2} {:13.1} {:8.2}",
+            workload.name,
+            workload.text.len(),
+            workload.rules(),
+            ours / 1e3,
+            ours / workload.rules() as f64,
+            ours / workload.text.len() as f64,
+            reference / 1e3,
+            ours / reference,
+        );
+    }
+}
+
+fn show_growth() {
+    println!("\ntime with size, each against the size before");
+    let mut before: Option<f64> = None;
+    for workload in family() {
+        let [ours, _] = times_of_both(&workload.text);
+        let growth = before.map_or(String::new(), |before| format!("{:.2}", ours / before));
+        println!("{:14} {:9.1} us {growth:>6}", workload.name, ours / 1e3);
+        before = Some(ours);
+    }
+}
+
+// ---- one pattern
+
+const PATTERN: &CStr = c"ttyUSB[0-9]*";
+const NAME: &CStr = c"ttyUSB17";
+
+extern "C" {
+    fn fnmatch(pattern: *const c_char, string: *const c_char, flags: c_int) -> c_int;
+}
+
+/// The matcher alone is not exported, so its time is a difference. A rule with one match, of TAG
+/// by `==`, is run on records without a tag and with one that the pattern matches: the second
+/// calls the matcher once more, and its rule goes on. With `!=` the rule of the first goes on
+/// instead, so the mean of both differences is the time of one call, with the step over a list
+/// that leads to it.
+fn show_glob() {
+    let rules = sizes::RULES as f64;
+    let text = |operator: &str| {
+        let pattern = PATTERN.to_string_lossy();
+        format!("TAG{operator}\"{pattern}\"\n").repeat(sizes::RULES)
+    };
+    let (equal, unequal) = (text("=="), text("!="));
+    let (mut without, mut with) = (Bench::new(&[]), Bench::new(&[NAME]));
+    let [equal_without, equal_with, unequal_without, unequal_with, libc] =
+        best(|which| match which {
+            0 => without.run(&Linked, equal.as_bytes()),
+            1 => with.run(&Linked, equal.as_bytes()),
+            2 => without.run(&Linked, unequal.as_bytes()),
+            3 => with.run(&Linked, unequal.as_bytes()),
+            _ => fnmatch_calls(sizes::RULES),
+        });
+    let ours = (equal_with - equal_without + unequal_with - unequal_without) / 2.0 / rules;
+    let libc = libc / rules;
+    println!(
+        "\n{} on {}: {ours:.1} ns, fnmatch {libc:.1} ns, ratio {:.2}",
+        PATTERN.to_string_lossy(),
+        NAME.to_string_lossy(),
+        ours / libc,
+    );
+}
+
+fn fnmatch_calls(times: usize) -> f64 {
+    let start = Instant::now();
+    for _ in 0..times {
+        // Both are strings with a NUL at the end, and fnmatch only reads them.
+        let answer = unsafe { fnmatch(black_box(PATTERN.as_ptr()), black_box(NAME.as_ptr()), 0) };
+        assert_eq!(answer, 0, "a match");
+    }
+    start.elapsed().as_nanos() as f64
+}

@@ -1,0 +1,198 @@
+//! The texts that the benchmark runs, and the device that it runs them on.
+
+use crate::device::Device;
+use crate::sizes;
+use crate::text_form::parse_device;
+
+pub struct Workload {
+    pub name: &'static str,
+    pub text: Vec<u8>,
+    /// The instructions that systemd 252 takes to read the text and to apply its rules.
+    pub daemon_instructions: Option<u64>,
+}
+
+impl Workload {
+    pub fn rules(&self) -> usize {
+        self.text.iter().filter(|&&byte| byte == b'\n').count()
+    }
+}
+
+/// A counter on a serial port, with a chain of 4 devices.
+pub fn counter() -> Device {
+    let form = include_bytes!("../../examples/devices/counter.device");
+    parse_device(form).expect("the form describes a sound device")
+}
+
+/// The texts with what the daemon takes on them, then the jumps.
+pub fn workloads() -> Vec<Workload> {
+    vec![
+        plain_miss(),
+        plain_hit(),
+        plain_three(),
+        parents_miss(),
+        glob_miss(),
+        site(),
+        jumps_far(),
+        jumps_alike(),
+        jumps_over(),
+    ]
+}
+
+/// One family of texts at 8, 16 and 32 KB. Each rule has 64 bytes.
+pub fn family() -> Vec<Workload> {
+    [("site_8k", 128), ("site_16k", 256), ("site_32k", 512)]
+        .into_iter()
+        .map(|(name, rules)| Workload {
+            name,
+            text: text_of(rules, |i| {
+                format!(r#"KERNEL=="ttyUSB[0-9]*",ATTRS{{serial}}=="RC-{i:04}",SYMLINK+="t{i:03}""#)
+            }),
+            daemon_instructions: None,
+        })
+        .collect()
+}
+
+fn text_of(rules: usize, rule: impl Fn(usize) -> String) -> Vec<u8> {
+    (0..rules)
+        .flat_map(|i| (rule(i) + "\n").into_bytes())
+        .collect()
+}
+
+fn full_text(name: &'static str, daemon: u64, rule: impl Fn(usize) -> String) -> Workload {
+    Workload {
+        name,
+        text: text_of(sizes::RULES, rule),
+        daemon_instructions: Some(daemon),
+    }
+}
+
+/// One plain comparison a rule; none holds.
+fn plain_miss() -> Workload {
+    full_text("plain_miss", 5_275_000, |i| {
+        format!(r#"KERNEL=="ttyACM{i:03}", SYMLINK+="rope/t{i:03}""#)
+    })
+}
+
+/// One plain comparison a rule; all hold, and a property is rewritten each time.
+fn plain_hit() -> Workload {
+    full_text("plain_hit", 6_390_000, |i| {
+        format!(r#"KERNEL=="ttyUSB0", ENV{{STEP}}="{i:03}""#)
+    })
+}
+
+/// Three plain comparisons a rule; the first two hold, the third does not.
+fn plain_three() -> Workload {
+    full_text("plain_three", 7_778_000, |i| {
+        format!(r#"SUBSYSTEM=="tty",KERNEL=="ttyUSB0",ACTION=="{i:03}",TAG+="t""#)
+    })
+}
+
+/// A plain comparison of a parent's attribute, tried at all 4 devices; none holds.
+fn parents_miss() -> Workload {
+    full_text("parents_miss", 7_770_000, |i| {
+        format!(r#"ATTRS{{serial}}=="RC-{i:04}x", SYMLINK+="rope/t%n""#)
+    })
+}
+
+/// Patterns with a set and a star; none holds.
+fn glob_miss() -> Workload {
+    full_text("glob_miss", 5_577_000, |i| {
+        format!(r#"KERNEL=="tty[A-R]*{i:03}", SYMLINK+="rope/t%n""#)
+    })
+}
+
+/// A site's file: a pattern, a parent's attribute and a link; one rule of all holds.
+fn site() -> Workload {
+    full_text("site", 9_410_000, |i| {
+        format!(r#"KERNEL=="ttyUSB*",ATTRS{{serial}}=="RC-{i:04}",SYMLINK+="t{i}""#)
+    })
+}
+
+/// 256 jumps that are not taken, then their labels, the first jump's last.
+fn jumps_far() -> Workload {
+    let half = sizes::RULES / 2;
+    let label = |i| format!("rope_counter_station_{i:04}");
+    jumps(
+        "jumps_far",
+        text_of(sizes::RULES, |i| {
+            if i < half {
+                format!(r#"KERNEL=="x",GOTO="{}""#, label(i))
+            } else {
+                format!(r#"KERNEL=="t*",LABEL="{}""#, label(sizes::RULES - 1 - i))
+            }
+        }),
+    )
+}
+
+/// 128 jumps that are not taken, all to the last of 128 labels that begin alike and have one hash.
+fn jumps_alike() -> Workload {
+    let half: usize = 128;
+    let label = |i: usize| {
+        let block = |bit: usize| BLOCKS_OF_ONE_HASH[i >> bit & 1];
+        let blocks: String = (0..7).rev().map(block).collect();
+        format!("{:_<66}{blocks}", "rope")
+    };
+    jumps(
+        "jumps_alike",
+        text_of(2 * half, |i| {
+            if i < half {
+                format!(r#"TAG=="x",GOTO="{}""#, label(half - 1))
+            } else {
+                format!(r#"LABEL="{}""#, label(i - half))
+            }
+        }),
+    )
+}
+
+/// One jump that is taken, over 510 rules, to the last.
+fn jumps_over() -> Workload {
+    jumps(
+        "jumps_over",
+        text_of(sizes::RULES, |i| match i {
+            0 => String::from(r#"GOTO="end""#),
+            511 => String::from(r#"LABEL="end",TAG+="t""#),
+            _ => format!(r#"KERNEL=="ttyUSB*",ATTRS{{serial}}=="RC-{i:04}",SYMLINK+="t{i}""#),
+        }),
+    )
+}
+
+fn jumps(name: &'static str, text: Vec<u8>) -> Workload {
+    Workload {
+        name,
+        text,
+        daemon_instructions: None,
+    }
+}
+
+/// The hash of labels (crate `jumps`) does not tell these apart, wherever they stand in a name.
+const BLOCKS_OF_ONE_HASH: [&str; 2] = ["qhtxcgf", "kmygxnq"];
+
+#[cfg(test)]
+mod tests {
+    use super::*;
+
+    #[test]
+    fn blocks_have_one_hash() {
+        let [zero, one] = BLOCKS_OF_ONE_HASH.map(|block| {
+            block.bytes().fold(0u32, |hash, byte| {
+                hash.wrapping_mul(16_777_619).wrapping_add(byte.into())
+            })
+        });
+        assert_eq!(zero, one);
+    }
+
+    #[test]
+    fn texts_are_accepted() {
+        for Workload { name, text, .. } in workloads().into_iter().chain(family()) {
+            assert_eq!(crate::check(&text).number, 0, "{name}");
+        }
+    }
+
+    #[test]
+    fn lengths_are_those_of_the_figures() {
+        let lengths: Vec<usize> = workloads().iter().map(|w| w.text.len()).take(6).collect();
+        assert_eq!(lengths, [21_504, 17_920, 29_696, 24_064, 22_528, 30_098]);
+        let lengths: Vec<usize> = family().iter().map(|w| w.text.len()).collect();
+        assert_eq!(lengths, [8_192, 16_384, 32_768]);
+    }
+}
