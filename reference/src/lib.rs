@@ -11,8 +11,6 @@ pub mod generate;
 pub mod joined;
 pub mod key;
 pub mod link;
-#[cfg(feature = "linked")]
-pub mod linked;
 pub mod listing;
 pub mod operations;
 pub mod outcome;
@@ -25,7 +23,6 @@ pub mod run_list;
 pub mod sizes;
 pub mod template;
 pub mod text_form;
-pub mod workloads;
 
 pub use device::Device;
 pub use listing::listing;

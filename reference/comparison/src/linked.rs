@@ -1,6 +1,6 @@
 //! The engine that is linked in through its C interface.
 
-use crate::compare::{AnswerArray, Engine};
+use reference::compare::{AnswerArray, Engine};
 
 extern "C" {
     fn spillfinch_check(text: *const u8, text_len: usize, answer: *mut AnswerArray);

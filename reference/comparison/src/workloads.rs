@@ -1,8 +1,8 @@
 //! The texts that the benchmark runs, and the device that it runs them on.
 
-use crate::device::Device;
-use crate::sizes;
-use crate::text_form::parse_device;
+use reference::device::Device;
+use reference::sizes;
+use reference::text_form::parse_device;
 
 pub struct Workload {
     pub name: &'static str,
@@ -19,7 +19,7 @@ impl Workload {
 
 /// A counter on a serial port, with a chain of 4 devices.
 pub fn counter() -> Device {
-    let form = include_bytes!("../../examples/devices/counter.device");
+    let form = include_bytes!("../../../examples/devices/counter.device");
     parse_device(form).expect("the form describes a sound device")
 }
 
@@ -184,7 +184,7 @@ mod tests {
     #[test]
     fn texts_are_accepted() {
         for Workload { name, text, .. } in workloads().into_iter().chain(family()) {
-            assert_eq!(crate::check(&text).number, 0, "{name}");
+            assert_eq!(reference::check(&text).number, 0, "{name}");
         }
     }
 

@@ -5,9 +5,9 @@ use std::path::{Path, PathBuf};
 use std::process::ExitCode;
 use std::time::{Duration, Instant, SystemTime, UNIX_EPOCH};
 
+use comparison::Linked;
 use reference::compare::{compare_cases, compare_joins, write_case, Finding, Reference};
 use reference::coverage::Coverage;
-use reference::linked::Linked;
 
 const CASES_AT_ONCE: u64 = 2_000;
 const JOINS_AT_ONCE: u64 = 200;

@@ -1,16 +1,13 @@
-//! With the feature `linked`, links the static library `spillfinch`.
+//! Links the static library `spillfinch`.
 
 use std::env;
 use std::path::Path;
 
-const DEFAULT_DIRECTORY: &str = "../target/staticlib";
+const DEFAULT_DIRECTORY: &str = "../../target/staticlib";
 
 fn main() {
     println!("cargo:rerun-if-changed=build.rs");
     println!("cargo:rerun-if-env-changed=SPILLFINCH_LIB_DIR");
-    if env::var_os("CARGO_FEATURE_LINKED").is_none() {
-        return;
-    }
     let package = env::var("CARGO_MANIFEST_DIR").expect("cargo sets CARGO_MANIFEST_DIR");
     let directory =
         env::var("SPILLFINCH_LIB_DIR").unwrap_or_else(|_| String::from(DEFAULT_DIRECTORY));

@@ -6,9 +6,9 @@ use std::hint::black_box;
 use std::process::ExitCode;
 use std::time::Instant;
 
+use comparison::workloads::{counter, family, workloads, Workload};
+use comparison::Linked;
 use reference::compare::{run_reply, Engine, Reference};
-use reference::linked::Linked;
-use reference::workloads::{counter, family, workloads, Workload};
 use reference::{sizes, Outcome};
 
 const USAGE: &str = "usage: bench

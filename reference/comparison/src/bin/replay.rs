@@ -4,6 +4,7 @@ use std::env;
 use std::path::Path;
 use std::process::ExitCode;
 
+use comparison::Linked;
 use reference::compare::{
     first_difference, read_case, replies, Engine, Operation, Reference, Reply,
 };
@@ -31,7 +32,7 @@ fn main() -> ExitCode {
     let mut answered = Vec::new();
     for (name, engine) in engines() {
         println!("== {name}");
-        let replies = replies(&*engine, &case);
+        let replies = replies(engine, &case);
         show_replies(&case, &replies);
         answered.push(replies);
     }
@@ -45,18 +46,8 @@ fn main() -> ExitCode {
     ExitCode::SUCCESS
 }
 
-#[cfg(not(feature = "linked"))]
-fn engines() -> Vec<(&'static str, Box<dyn Engine>)> {
-    vec![("reference", Box::new(Reference))]
-}
-
-#[cfg(feature = "linked")]
-fn engines() -> Vec<(&'static str, Box<dyn Engine>)> {
-    use reference::linked::Linked;
-    vec![
-        ("reference", Box::new(Reference)),
-        ("linked", Box::new(Linked)),
-    ]
+fn engines() -> [(&'static str, &'static dyn Engine); 2] {
+    [("reference", &Reference), ("linked", &Linked)]
 }
 
 fn show_case(case: &Case) {

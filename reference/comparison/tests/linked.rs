@@ -1,7 +1,7 @@
 //! The linked engine against the reference.
 
+use comparison::Linked;
 use reference::compare::{compare_cases, compare_joins, Finding, Reference};
-use reference::linked::Linked;
 
 const CASES: u64 = 200_000;
 const JOIN_LISTS: u64 = 20_000;

@@ -1,0 +1,6 @@
+//! The compiled engine, linked in, beside the reference.
+
+pub mod linked;
+pub mod workloads;
+
+pub use linked::Linked;
