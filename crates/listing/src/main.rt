@@ -41,7 +41,7 @@ fn read_file(i: usize, buf: &mut [u8]) -> FileRead
 fn say(listing: Put, out: &[u8]) {
     match listing {
         Put::Done(n) => if n <= out.len() {
-            if !io::write_all(STDOUT_FILENO, &out[..n]) {
+            if !io::write_all(STDOUT_FILENO, &out[0..n]) {
                 os::fail(b"standard output");
             }
         },

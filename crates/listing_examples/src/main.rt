@@ -22,7 +22,7 @@ fn say_listing(name: &[u8], listing: Put, out: &[u8]) {
     say(b"\n");
     match listing {
         Put::Done(n) => if n <= out.len() {
-            say(&out[..n]);
+            say(&out[0..n]);
         },
         Put::Full => say(b"full\n"),
     }
