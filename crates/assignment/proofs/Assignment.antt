@@ -26,12 +26,13 @@ use Rattle.engine.specs.Assign as assign
 use Rattle.engine.specs.Assign.{assigned, assignPair, assignAll}
 use Rattle.engine.specs.Step.{begun}
 use Rattle.records.specs.Records.{Denotes, Ready}
-use Rattle.records.specs.declared.Change.the-variants as change
 use Rattle.assign_env.specs.declared.Escape.the-variants.{Unset}
 use Rattle.assign_key.specs.Keys.{FitsKey, workOf, WorkSays}
 use Rattle.assign_key.specs.declared.Work.{Work}
 use Rattle.assign_key.specs.declared.Assigned.{Assigned}
 use Rattle.assign_key.specs.declared.Assigned.the-variants as answer
+use Rattle.rule_pairs.specs.declared.MarkFound.{MarkFound}
+use Rattle.assignment.specs.declared.Done.the-variants as done
 use Rattle.assignment.specs.Assignment.{Assignable, Assignables, RuleFrom, Readable, PairAssigned, AllSays}
 
 -- ---- one pair
@@ -147,9 +148,9 @@ module _ (line : List ℕ) (at : ℕ) (t₀ dev : List ℕ) (places : Chain) (pl
       }
 
       pub pairs-end : (w′ : Work) → x ≡ answer.Left w′ → length line ≤ r .next → (ps₀ : List rules.Pair) → Pairs (drop at line) ps₀
-          → (d : Device) (s₀ : State) → Denotes dev places t₀ lay₀ d s₀ → AllSays (length (chain d)) t′ (change.Left (w′ .layout)) (assignAll d place ps₀ (begun s₀))
+          → (d : Device) (s₀ : State) → Denotes dev places t₀ lay₀ d s₀ → (jump : MarkFound) → AllSays (length (chain d)) t′ (done.Left (w′ .layout) jump) (assignAll d place ps₀ (begun s₀))
       unfolding assignAll
-      pairs-end w′ q n ps₀ p d s₀ h =
+      pairs-end w′ q n ps₀ p d s₀ h jump =
           let (ps, s, b, z, e) = g .going ps₀ p d s₀ h in
           let o = one line i r k ps b in
           let (s′, f, v) = subst (λ (x : Assigned). WorkSays (length (chain d)) t′ x (assignPair d place (pairOf line r) (workOf s (w .escape)))) q (c d s z) in (

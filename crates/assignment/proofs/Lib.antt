@@ -1,2 +1,3 @@
 pub mod Assignment
 pub mod Sound
+pub mod Jumps

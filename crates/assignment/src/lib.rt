@@ -5,7 +5,7 @@ ghost use Prim.Native.Nat.{ℕ, _≤_};
 ghost use Rattle.keys.specs.Table.{operatorOf};
 ghost use Rattle.rules.specs.Key as rules;
 ghost use Rattle.records.specs.Records.{Ready};
-ghost use Rattle.assignment.specs.Assignment.{RuleFrom, Readable, PairAssigned, AllAssigned};
+ghost use Rattle.assignment.specs.Assignment.{RuleFrom, Readable, PairAssigned, AllAssigned, noteJump, JumpOf};
 use assign_env::Escape;
 use assign_key::Assigned;
 use assign_key::Work;
@@ -14,7 +14,14 @@ use keys::Key;
 use keys::Operator;
 use outcome_target::Layout;
 use pairs::Pair;
-use records::Change;
+use refusals::Refusal;
+use rule_pairs::MarkFound;
+
+// What a rule leaves: a layout, with where the name of its GOTO is written in its line; or it is refused.
+pub enum Done {
+    Left(Layout, MarkFound),
+    Refused(Refusal),
+}
 
 fn is_match(operator: Operator) -> bool
     ensures { λ r. ⌜ r ≡ rules.isMatch (operatorOf operator) ⌝ }
@@ -97,6 +104,23 @@ fn assign_pair(
     assign_value(line, pair, t, work, dev, chain, place)
 }
 
+// The GOTO: one that was found before, or this pair if it is one.
+fn note_jump(pair: Pair, jump: MarkFound) -> MarkFound
+    ensures { λ r. ⌜ r ≡ noteJump pair jump ⌝ }
+{
+    match jump {
+        MarkFound::At(s, e) => MarkFound::At(s, e),
+        MarkFound::Missing => {
+            let key = pair.key;
+            if rule_pairs::key_number(key) == 18 {
+                MarkFound::At(pair.start, pair.end)
+            } else {
+                MarkFound::Missing
+            }
+        }
+    }
+}
+
 // All pairs from a place of the line on.
 pub fn assign_all(
     line: &[u8],
@@ -106,27 +130,29 @@ pub fn assign_all(
     dev: &[u8],
     chain: Chain,
     place: usize,
-) -> Change
+) -> Done
     requires { ⌜ RuleFrom (now line) at × Ready (now dev) chain (now t) layout × (place ≤ chain .len) ⌝ }
-    ensures { λ r. ⌜ AllAssigned (now (line .entry)) at (now (dev .entry)) chain place (now (t .entry)) layout (now (t .exit)) r ⌝ }
+    ensures { λ r. ⌜ AllAssigned (now (line .entry)) at (now (dev .entry)) chain place (now (t .entry)) layout (now (t .exit)) r × JumpOf (now (line .entry)) at r ⌝ }
 {
     let mut work = Work {
         layout,
         escape: Escape::Unset,
     };
     let mut i = at;
+    let mut jump = MarkFound::Missing;
     loop {
         let pair = rule_pairs::pair_at(line, i);
         match assign_pair(line, pair, t, work, dev, chain, place) {
             Assigned::Left(next) => {
                 work = next;
             }
-            Assigned::Refused(refusal) => return Change::Refused(refusal),
+            Assigned::Refused(refusal) => return Done::Refused(refusal),
         }
+        jump = note_jump(pair, jump);
         let behind = pair.next;
         if line.len() <= behind {
             let left = work.layout;
-            return Change::Left(left);
+            return Done::Left(left, jump);
         }
         i = behind + 1;
     }

@@ -109,7 +109,7 @@ fn is_label(
         return false;
     }
     let e = jumps[at + 1];
-    scan::same(&text[start..end], &text[s..e])
+    scan::same_long(&text[start..end], &text[s..e])
 }
 
 // Whether a rule that stands in the table has the label that is written from start to end.

@@ -12,6 +12,8 @@ use Rattle.lists.specs.Bytes.{holds}
 use Rattle.lists.specs.Runs.{spanAt}
 use Rattle.lists.proofs.Runs.{place-in, place-stop, place-end, span-ge, span-le}
 use Rattle.scan.specs.Ends.{isNot}
+use Rattle.scan.specs.Groups.{AboveFrom}
+use Rattle.scan.proofs.Groups.{above-climb}
 use Rattle.pairs.specs.Answers.{part}
 use Rattle.pairs.proofs.Parts.{part-cons, part-none}
 use Rattle.lines.specs.Answers.{CleanLine}
@@ -71,3 +73,7 @@ module _ (t : List ℕ) (at i : ℕ) (s : Scans t at i) where
     scan-nul e =
         let n : getD t i 0 ≡ 10 → ⊥ = λ q. omega arith in
         sym (s .nul) ∙ byte-first n ∙ rw e
+
+-- whole groups of bytes above newline
+pub scan-groups : (t : List ℕ) (at i : ℕ) → at ≤ i → i ≤ length t → AboveFrom t at i → Scans t at i
+scan-groups t at i h w f = above-climb (Scans t at) t at i f (λ k a l b s. scan-other t at k s (omega arith) (λ e. omega arith) (λ e. omega arith)) (scan-begins t at (omega arith)) h

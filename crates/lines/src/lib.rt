@@ -29,7 +29,7 @@ pub fn line_end(text: &[u8], at: usize) -> LineEnd
     requires { ⌜ at ≤ length (now text) ⌝ }
     ensures { λ r. ⌜ EndsAt (now (text .entry)) at r ⌝ }
 {
-    let mut i = at;
+    let mut i = scan::line_groups(text, at);
     while i < text.len() {
         let b = text[i];
         if b'\n' < b {

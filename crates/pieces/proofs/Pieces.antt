@@ -1,16 +1,20 @@
 -- What is read at a place, and the pieces of a template from there on.
 -- Assumes nothing.
-use Prim.Native.Nat.{ℕ, suc, _+_, _≤_}
+use Prim.Native.Nat.{ℕ, suc, _+_, _≤_, _<_}
 use mathlib.Core.Path.{_≡_, refl, sym, ap, _∙_}
 use mathlib.Core.List.{List, [], _∷_}
 use mathlib.Core.Option.{Option, none, some}
 use native.Mathlib.Omega.{arith}
-use lib.ListN.{length, drop, drop-of-length-le}
+use borrow.Author.Tests.{ne-eqb}
+use lib.ListN.{length, getD, drop, drop-of-length-le}
 use lib.Seq.{drop-drop}
+use Rattle.lists.specs.Lists.{isSome}
 use Rattle.lists.specs.Items.{Item, before}
-use Rattle.template.specs.Template.{Piece, pieceAt, pieces}
+use Rattle.lists.proofs.Rest.{rest-at}
+use Rattle.lists.proofs.Scan.{some-before}
+use Rattle.template.specs.Template.{Piece, written, pieceAt, pieces}
 use Rattle.template.proofs.Pieces.{pieces-end, pieces-at, pieces-bad}
-use Rattle.pieces.specs.Read.{piece, end, fault, itemRead, readFrom, readAt}
+use Rattle.pieces.specs.Read.{piece, end, fault, itemRead, readFrom, readAt, PassesWritten}
 
 module _ (t : List ℕ) (i : ℕ) where
   -- ---- at the end, and at a byte
@@ -22,6 +26,11 @@ module _ (t : List ℕ) (i : ℕ) where
   pub read-byte : (b : ℕ) → drop i t ≡ b ∷ drop (i + 1) t → readAt t i ≡ itemRead (pieceAt b (drop (i + 1) t)) (i + 1)
   unfolding readAt
   read-byte b e = rw e
+
+  pub read-written : i < length t → (getD t i 0 ≡ 36 → ⊥) → (getD t i 0 ≡ 37 → ⊥) → readAt t i ≡ piece (written (getD t i 0)) (i + 1)
+  read-written h m n =
+      let z : i + 1 + 0 ≡ i + 1 = omega arith in
+      read-byte (getD t i 0) (rest-at t i h) ∙ rw (ne-eqb (getD t i 0) 36 m, ne-eqb (getD t i 0) 37 n, z)
 
   -- ---- the pieces from a place on
 
@@ -65,3 +74,14 @@ module _ (t : List ℕ) (i : ℕ) where
       go : (bs : List ℕ) → drop i t ≡ bs → readFrom bs i ≡ piece p next → pieces bs ≡ before p (pieces (drop next t))
       go [] d e = let z : _≡_ {A = ℕ} 0 1 = cc in absurd (omega arith)
       go (b ∷ bs) d e = item b bs (pieceAt b bs) d refl e
+
+  -- a piece is there, so what follows decides whether there is a fault
+  pub some-behind : (p : Piece) (next : ℕ) → readAt t i ≡ piece p next → isSome (pieces (drop next t)) ≡ isSome (pieces (drop i t))
+  some-behind p next r = sym (ap isSome (reads-piece p next r) ∙ some-before p (pieces (drop next t)))
+
+pub written-on : (t : List ℕ) (at i : ℕ) → PassesWritten t at i → i < length t → (getD t i 0 ≡ 36 → ⊥) → (getD t i 0 ≡ 37 → ⊥) → PassesWritten t at (i + 1)
+written-on t at i p h m n = record {
+  from = omega (arith, p .from);
+  within = omega arith;
+  same = some-behind t i (written (getD t i 0)) (i + 1) (read-written t i h m n) ∙ p .same;
+}

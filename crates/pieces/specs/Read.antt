@@ -5,11 +5,11 @@ use mathlib.Core.Path.{_≡_}
 use mathlib.Core.List.{List, [], _∷_}
 use mathlib.Core.Option.{Option, none, some}
 use lib.ListN.{length, take, drop}
-use Rattle.lists.specs.Lists.{pick}
+use Rattle.lists.specs.Lists.{pick, isSome}
 use Rattle.lists.specs.Bytes.{starts}
 use Rattle.lists.specs.Items.{Item}
 use Rattle.template.specs.Template as T
-use Rattle.template.specs.Template.{pieceAt}
+use Rattle.template.specs.Template.{pieceAt, pieces}
 use Rattle.pieces.specs.declared.Piece.{Piece}
 use Rattle.pieces.specs.declared.Piece.the-variants.{Written, Kernel, Number, Devpath, Id, Driver, Major, Minor, Attr, Env, Dollar, Percent}
 use Rattle.pieces.specs.declared.PieceRead.{PieceRead}
@@ -94,3 +94,9 @@ Within P.Fault template i = Unit {0}
 abbrev pub TextWithin : Text → List ℕ → ℕ → Type 0
 TextWithin (X.At start len) template i = (start ≡ i + 1) × (start + len < length template)
 TextWithin X.Fault template i = Unit {0}
+
+-- what follows place r decides whether there is a fault from place i on
+pub record PassesWritten (template : List ℕ) (i r : ℕ) : Type 0 where
+  pub from : i ≤ r
+  pub within : r ≤ length template
+  pub same : isSome (pieces (drop r template)) ≡ isSome (pieces (drop i template))

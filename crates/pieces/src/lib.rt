@@ -4,7 +4,7 @@ ghost use Prim.Native.Nat.{_+_, _≤_, _<_};
 ghost use lib.ListN.{length, drop};
 ghost use Rattle.template.specs.Template.{attr, env, names, letters, nameIn, textIn, withText, namedPiece, wellFormed};
 ghost use Rattle.pieces.specs.Number.{DigitsOf};
-ghost use Rattle.pieces.specs.Read.{meaning, told, itemRead, readAt, ifNamed, PieceWithin, Within, textTold, TextWithin};
+ghost use Rattle.pieces.specs.Read.{meaning, told, itemRead, readAt, ifNamed, PieceWithin, Within, textTold, TextWithin, PassesWritten};
 
 // A piece of a template; of a text in braces its start and its length.
 pub enum Piece {
@@ -154,12 +154,31 @@ pub fn piece_at(template: &[u8], at: usize) -> PieceRead
     }
 }
 
+// The place behind the written bytes that stand from a place on.
+fn written_end(template: &[u8], at: usize) -> usize
+    requires { ⌜ at ≤ length (now template) ⌝ }
+    ensures { λ r. ⌜ PassesWritten (now (template .entry)) at r ⌝ }
+{
+    let mut i = at;
+    while i < template.len() {
+        match template[i] {
+            b'$' | b'%' => {
+                return i;
+            }
+            _ => {
+                i += 1;
+            }
+        }
+    }
+    i
+}
+
 pub fn well_formed(template: &[u8]) -> bool
     ensures { λ r. ⌜ r ≡ wellFormed (now (template .entry)) ⌝ }
 {
     let mut i: usize = 0;
     loop {
-        match piece_at(template, i) {
+        match piece_at(template, written_end(template, i)) {
             PieceRead::Read(_, next) => {
                 i = next;
             }

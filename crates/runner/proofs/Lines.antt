@@ -32,7 +32,10 @@ use Rattle.engine.specs.Step as rule
 use Rattle.records.specs.Records.{Denotes}
 use Rattle.assignment.specs.Assignment.{Assignables}
 use Rattle.assignment.proofs.Sound.{assignables}
-use Rattle.step.specs.Step.{Says}
+use Rattle.rule_pairs.specs.Marks.{Marked}
+use Rattle.rule_pairs.specs.declared.Mark.the-variants.{Goto}
+use Rattle.rule_pairs.specs.declared.MarkFound.{MarkFound}
+use Rattle.step.specs.Step.{Says, JumpOf}
 use Rattle.step.specs.declared.Stepped.{Stepped}
 use Rattle.step.specs.declared.Stepped.the-variants.{Missed, Left, Refused}
 use Rattle.runner.specs.Modes.{modeOf, Sought}
@@ -106,10 +109,10 @@ module _ (t dev : List ℕ) (places : Chain) (st : Standing) (d : Device) (s : S
           let (a, z) = subst (λ (z : Stepped). Says dev places (st .layout) d s t′ z (rule.step d r s)) q h in
           (s, begun ∙ rw (a, w), z, tt, omega arith)
 
-      pub line-left : (y : Stepped) (lay : Layout) → y ≡ Left lay → Says dev places (st .layout) d s t′ y (rule.step d r s)
+      pub line-left : (y : Stepped) (lay : Layout) (jump : MarkFound) → y ≡ Left lay jump → Says dev places (st .layout) d s t′ y (rule.step d r s)
           → (m : Mode) → modeOf t m ≡ running.after true (gotoOf r) → Sought t m
           → LineSays t dev places st d n t′ (on.On (record { layout = lay; mode = m; visited = v })) ran
-      line-left y lay q h m a k =
+      line-left y lay jump q h m a k =
           let (s′, o, z) = subst (λ (z : Stepped). Says dev places (st .layout) d s t′ z (rule.step d r s)) q h in
           (s′, begun ∙ (ap (λ (a : Checked refusal.Refusal (text.Stepped State)). stepped engine a n (gotoOf r) (st .visited)) o ∙ rw (w, a)), z, k, omega arith)
 
@@ -118,3 +121,6 @@ module _ (t dev : List ℕ) (places : Chain) (st : Standing) (d : Device) (s : S
       line-refused y f q h =
           let a : rule.step d r s ≡ refused (refusalOf f) = subst (λ (z : Stepped). Says dev places (st .layout) d s t′ z (rule.step d r s)) q h in
           begun ∙ rw a
+
+pub jump-left : (l : List ℕ) (at : ℕ) (y : Stepped) (lay : Layout) (jump : MarkFound) → y ≡ Left lay jump → JumpOf l at y → Marked l at Goto jump
+jump-left l at y lay jump q j = subst (JumpOf l at) q j

@@ -1,6 +1,6 @@
 -- Names that are written in a text and in one of its lines.
 -- Assumes nothing.
-use Prim.Native.Nat.{ℕ, zero, suc, _+_, _-_, _≤_, _<_}
+use Prim.Native.Nat.{ℕ, zero, suc, _+_, _-_, _^_, _≤_, _<_}
 use mathlib.Core.Path.{_≡_, refl, sym, _∙_, ap, subst}
 use mathlib.Core.Bool.{Bool, true, false}
 use mathlib.Core.List.{List, [], _∷_}
@@ -22,7 +22,7 @@ use Rattle.rule_pairs.specs.declared.Mark.the-variants.{Label, Goto}
 use Rattle.rule_pairs.specs.declared.MarkFound.{MarkFound}
 use Rattle.rule_pairs.specs.declared.MarkFound.the-variants.{At, Missing}
 use Rattle.text.specs.Running.{begins, after}
-use Rattle.runner.specs.Modes.{modeOf, Written, Sought}
+use Rattle.runner.specs.Modes.{modeOf, Written, Sought, modeAfter, Near}
 use Rattle.runner.specs.declared.Mode.{Mode}
 use Rattle.runner.specs.declared.Mode.the-variants.{Next, Seek}
 
@@ -102,3 +102,17 @@ pub after-none : (t : List ℕ) (a b at : ℕ) (r : MarkFound) → Marked (part 
 after-none t a b at r m i ps p =
     let l : none ≡ gotoOf ps = (rw i at (m .is ps p)) in
     rw (← l)
+
+-- how the run goes on behind a rule with this GOTO
+module _ (t : List ℕ) (a b : ℕ) (h : a ≤ b) (k : b ≤ length t) where
+  pub after-mark : (at : ℕ) (j : MarkFound) → Marked (part t a b) at Goto j → (ps : List rules.Pair) → Pairs (drop at (part t a b)) ps → modeOf t (modeAfter a j) ≡ after true (gotoOf ps)
+  after-mark at (At s e) m ps p = after-goto t a b at s e h k (At s e) m refl ps p
+  after-mark at Missing m ps p = after-none t a b at Missing m refl ps p
+
+  pub after-sought : (j : MarkFound) → MarkIn (part t a b) j → Sought t (modeAfter a j)
+  after-sought (At s e) m = seeks t a b s e h k (named (part t a b) (At s e) s e refl m)
+  after-sought Missing m = tt
+
+  pub after-near : (j : MarkFound) → MarkIn (part t a b) j → length t < 2 ^ 64 → Near a j
+  after-near (At s e) m l = let q = seeks t a b s e h k (named (part t a b) (At s e) s e refl m) in (omega (arith, q .0), omega (arith, q .1))
+  after-near Missing m l = tt

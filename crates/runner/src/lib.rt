@@ -1,16 +1,13 @@
 // The rules of an accepted text in order, with jumps and the visited count.
 ghost use mathlib.Core.List.{List};
 ghost use mathlib.Core.Path.{_≡_};
-ghost use mathlib.Core.Bool.{true};
-ghost use Prim.Native.Nat.{_≤_};
-ghost use lib.ListN.{length, drop};
-ghost use Rattle.rules.specs.Pair.{Pair, labelOf, gotoOf};
+ghost use lib.ListN.{drop};
+ghost use Rattle.rules.specs.Pair.{Pair, labelOf};
 ghost use Rattle.rules.specs.Pairs.{Pairs};
-ghost use Rattle.pairs.specs.Answers.{part};
 ghost use Rattle.rule_pairs.specs.Here.{PairsFrom};
 ghost use Rattle.text.specs.Running as running;
 ghost use Rattle.records.specs.Records.{Ready};
-ghost use Rattle.runner.specs.Modes.{modeOf, Sought};
+ghost use Rattle.runner.specs.Modes.{modeOf, Sought, modeAfter, Near};
 ghost use Rattle.runner.specs.Runs.{LineReady, LineRuns, Accepted, Runs};
 use device_lookup::Chain;
 use outcome_target::Layout;
@@ -57,12 +54,12 @@ fn begins(text: &[u8], line: &[u8], at: usize, mode: Mode) -> bool
     }
 }
 
-// How the run goes on behind a rule that matched.
-fn after(text: &[u8], start: usize, end: usize, at: usize) -> Mode
-    requires { ⌜ (start ≤ end) × (end ≤ length (now text)) × PairsFrom (part (now text) start end) at ⌝ }
-    ensures { λ r. ⌜ ((ps : List Pair) → Pairs (drop at (part (now (text .entry)) start end)) ps → modeOf (now (text .entry)) r ≡ running.after true (gotoOf ps)) × Sought (now (text .entry)) r ⌝ }
+// How the run goes on behind a rule that matched, whose line starts at a place of the text.
+fn after(start: usize, jump: MarkFound) -> Mode
+    requires { ⌜ Near start jump ⌝ }
+    ensures { λ r. ⌜ r ≡ modeAfter start jump ⌝ }
 {
-    match rule_pairs::find_mark(&text[start..end], at, Mark::Goto) {
+    match jump {
         MarkFound::At(s, e) => Mode::Seek(start + s, start + e),
         MarkFound::Missing => Mode::Next,
     }
@@ -100,9 +97,9 @@ fn run_line(
             mode: Mode::Next,
             visited,
         }),
-        Stepped::Left(left) => LineRan::On(Standing {
+        Stepped::Left(left, jump) => LineRan::On(Standing {
             layout: left,
-            mode: after(text, start, end, at),
+            mode: after(start, jump),
             visited,
         }),
         Stepped::Refused(refusal) => LineRan::Refused(refusal),
@@ -122,7 +119,7 @@ pub fn run_lines(text: &[u8], dev: &[u8], chain: Chain, t: &mut [u8], layout: La
     let mut start: usize = 0;
     let mut number: u32 = 1;
     while start <= text.len() {
-        let end = scan::byte_end(text, start, 10);
+        let end = scan::line_end(text, start);
         match run_line(text, start, end, dev, chain, t, standing) {
             LineRan::On(next) => {
                 standing = next;

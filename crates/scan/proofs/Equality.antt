@@ -1,16 +1,18 @@
 -- Two lists compared byte by byte: one law for each way on.
 -- Assumes nothing.
-use Prim.Native.Nat.{ℕ, _+_, _≤_, _<_}
-use mathlib.Core.Path.{_≡_, refl}
+use Prim.Native.Nat.{ℕ, _+_, _-_, _≤_, _<_}
+use mathlib.Core.Path.{_≡_, refl, sym}
 use mathlib.Core.Bool.{true, false}
 use mathlib.Core.List.{List, [], _∷_}
 use native.Mathlib.Omega.{arith}
 use borrow.Author.Tests.{eq-eqb, ne-eqb}
-use lib.ListN.{length, getD, drop, drop-of-length-le}
+use lib.ListN.{length, getD, take, drop, length-drop, drop-of-length-le}
+use lib.Seq.{take-all}
 use lib.Dec.{eqb}
 use Rattle.lists.specs.Bytes.{sameBytes, starts}
 use Rattle.lists.proofs.Rest.{rest-at}
 use Rattle.lists.proofs.Tests.{and-false}
+use Rattle.scan.specs.Groups.{SameFrom}
 
 pub same-unequal : (a b : List ℕ) → (length a ≡ length b → ⊥) → sameBytes a b ≡ false
 unfolding sameBytes
@@ -31,6 +33,10 @@ module _ (a b : List ℕ) (i : ℕ) where
   pub same-out : length a ≤ i → length b ≤ i → sameBytes (drop i a) (drop i b) ≡ true
   unfolding sameBytes
   same-out h k = rw (drop-of-length-le a h, drop-of-length-le b k)
+
+-- parts that go to the ends, behind bytes that do not differ
+pub same-rest : (a b : List ℕ) (n : ℕ) → SameFrom a b 0 n → sameBytes (take (length a - n) (drop n a)) (take (length b - n) (drop n b)) ≡ sameBytes a b
+same-rest a b n h = rw (take-all (length a - n) (drop n a) (simp length-drop (omega arith)), take-all (length b - n) (drop n b) (simp length-drop (omega arith))) (sym h)
 
 -- ---- a name that begins a list
 

@@ -1,10 +1,12 @@
 // Small questions of a lent slice: a byte, equality, the end of a run, what stands at the end.
 ghost use mathlib.Core.Path.{_≡_};
-ghost use Prim.Native.Nat.{_≤_};
+ghost use mathlib.Core.Bool.{true, false};
+ghost use Prim.Native.Nat.{_+_, _≤_};
 ghost use lib.ListN.{length, getD, take, drop};
 ghost use Rattle.lists.specs.Bytes.{isUpper, isDigit, isBlank, isSpace, sameBytes, starts};
 ghost use Rattle.lists.specs.Runs.{splitAt, lastOf, trim, endsInSpace, endDigits};
 ghost use Rattle.scan.specs.Ends.{RunEnd, isNot};
+ghost use Rattle.scan.specs.Groups.{SameFrom, AboveFrom};
 
 // ---- bytes
 
@@ -75,6 +77,48 @@ pub fn same(a: &[u8], b: &[u8]) -> bool
         i += 1;
     }
     true
+}
+
+// Whether two texts agree in the 16 bytes from a place on, which are looked at together.
+fn same_group(a: &[u8], b: &[u8], at: usize) -> bool
+    requires { ⌜ (at + 16 ≤ length (now a)) × (at + 16 ≤ length (now b)) ⌝ }
+    ensures { λ r. ⌜ (r ≡ true → SameFrom (now (a .entry)) (now (b .entry)) at (at + 16)) ⌝ }
+{
+    let mut same = true;
+    let mut i = at;
+    while i < at + 16 {
+        if a[i] != b[i] {
+            same = false;
+        }
+        i += 1;
+    }
+    same
+}
+
+// How many bytes two texts of one length have in common at their starts, in whole groups.
+fn same_groups(a: &[u8], b: &[u8]) -> usize
+    requires { ⌜ length (now a) ≡ length (now b) ⌝ }
+    ensures { λ r. ⌜ (r ≤ length (now (a .entry))) × SameFrom (now (a .entry)) (now (b .entry)) 0 r ⌝ }
+{
+    let mut i: usize = 0;
+    while 16 <= a.len() - i {
+        if !same_group(a, b, i) {
+            return i;
+        }
+        i += 16;
+    }
+    i
+}
+
+// The same as `same`, for texts that may be long and begin alike.
+pub fn same_long(a: &[u8], b: &[u8]) -> bool
+    ensures { λ r. ⌜ r ≡ sameBytes (now (a .entry)) (now (b .entry)) ⌝ }
+{
+    if a.len() != b.len() {
+        return false;
+    }
+    let n = same_groups(a, b);
+    same(&a[n..], &b[n..])
 }
 
 // Whether a name begins at a place.
@@ -148,6 +192,47 @@ pub fn byte_end(s: &[u8], at: usize, b: u8) -> usize
         i += 1;
     }
     i
+}
+
+// ---- lines
+
+// Whether one of the 16 bytes from a place on, which are looked at together, is a newline or lies below it.
+fn low_in_group(s: &[u8], at: usize) -> bool
+    requires { ⌜ at + 16 ≤ length (now s) ⌝ }
+    ensures { λ r. ⌜ (r ≡ false → AboveFrom (now (s .entry)) at (at + 16)) ⌝ }
+{
+    let mut low = false;
+    let mut i = at;
+    while i < at + 16 {
+        if s[i] <= b'\n' {
+            low = true;
+        }
+        i += 1;
+    }
+    low
+}
+
+// A place up to which all bytes lie above newline: whole groups of a line are passed over.
+pub fn line_groups(s: &[u8], at: usize) -> usize
+    requires { ⌜ at ≤ length (now s) ⌝ }
+    ensures { λ r. ⌜ (at ≤ r) × (r ≤ length (now (s .entry))) × AboveFrom (now (s .entry)) at r ⌝ }
+{
+    let mut i = at;
+    while 16 <= s.len() - i {
+        if low_in_group(s, i) {
+            return i;
+        }
+        i += 16;
+    }
+    i
+}
+
+// The newline at the end of the line, or the end.
+pub fn line_end(s: &[u8], at: usize) -> usize
+    requires { ⌜ at ≤ length (now s) ⌝ }
+    ensures { λ r. ⌜ RunEnd (isNot 10) (now (s .entry)) at r ⌝ }
+{
+    byte_end(s, line_groups(s, at), b'\n')
 }
 
 // ---- at the end

@@ -3,16 +3,17 @@ ghost use mathlib.Core.Path.{_≡_};
 ghost use Rattle.records.specs.Records.{Ready};
 ghost use Rattle.assignment.specs.Assignment.{RuleFrom};
 ghost use Rattle.step.specs.Step.{Steps};
+use assignment::Done;
 use device_lookup::Chain;
 use matching::Matched;
 use outcome_target::Layout;
-use records::Change;
 use refusals::Refusal;
+use rule_pairs::MarkFound;
 
-// A rule did not match; it left the record in a layout; or it is refused.
+// A rule did not match; it left the record in a layout, with where the name of its GOTO is written; or it is refused.
 pub enum Stepped {
     Missed,
-    Left(Layout),
+    Left(Layout, MarkFound),
     Refused(Refusal),
 }
 
@@ -29,8 +30,8 @@ pub fn step(
 {
     match matching::match_rule(line, at, dev, chain, t, layout) {
         Matched::At(place) => match assignment::assign_all(line, at, t, layout, dev, chain, place) {
-            Change::Left(left) => Stepped::Left(left),
-            Change::Refused(refusal) => Stepped::Refused(refusal),
+            Done::Left(left, jump) => Stepped::Left(left, jump),
+            Done::Refused(refusal) => Stepped::Refused(refusal),
         },
         Matched::Missed => Stepped::Missed,
     }

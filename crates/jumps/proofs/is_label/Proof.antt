@@ -37,29 +37,29 @@ mul-e c = search needs
 element-copy-out-e : tie.Need-element-copy-out-e
 element-copy-out-e c = search needs
 
-sub-same : tie.Need-sub-same
-sub-same c = search needs
+sub-same-long : tie.Need-sub-same-long
+sub-same-long c = search needs
 
-part-same-start : tie.Need-part-same-start
-part-same-start c = search needs
+part-same-long-start : tie.Need-part-same-long-start
+part-same-long-start c = search needs
 
-part-same-end : tie.Need-part-same-end
-part-same-end c = search needs
+part-same-long-end : tie.Need-part-same-long-end
+part-same-long-end c = search needs
 
-sub-same-2 : tie.Need-sub-same-2
-sub-same-2 c = let n = c .before .before .before .before .before .before .before .pre .1 (omega (arith, c .before .before .if2 .left)) in omega (arith, n .from, n .within)
+sub-same-long-2 : tie.Need-sub-same-long-2
+sub-same-long-2 c = let n = c .before .before .before .before .before .before .before .pre .1 (omega (arith, c .before .before .if2 .left)) in omega (arith, n .from, n .within)
 
-part-same-start-2 : tie.Need-part-same-start-2
-part-same-start-2 c = let n = c .before .before .before .before .before .before .before .pre .1 (omega (arith, c .before .before .if2 .left)) in omega (arith, n .from, n .within)
+part-same-long-start-2 : tie.Need-part-same-long-start-2
+part-same-long-start-2 c = let n = c .before .before .before .before .before .before .before .pre .1 (omega (arith, c .before .before .if2 .left)) in omega (arith, n .from, n .within)
 
-part-same-end-2 : tie.Need-part-same-end-2
-part-same-end-2 c = let n = c .before .before .before .before .before .before .before .pre .1 (omega (arith, c .before .before .if2 .left)) in omega (arith, n .from, n .within)
+part-same-long-end-2 : tie.Need-part-same-long-end-2
+part-same-long-end-2 c = let n = c .before .before .before .before .before .before .before .pre .1 (omega (arith, c .before .before .if2 .left)) in omega (arith, n .from, n .within)
 
-same-requires : tie.Need-same-requires
-same-requires c κs = search needs
+same-long-requires : tie.Need-same-long-requires
+same-long-requires c κs = search needs
 
 returns-3 : tie.Need-returns-3
-returns-3 c = c .same .ensures ∙ label-same (c .before .before .before .before .before .before .before .before .before .args .text .now) (c .before .before .before .before .before .before .before .before .before .args .jumps .now) (c .before .before .before .before .before .before .before .before .before .args .at) (c .before .before .before .before .before .before .before .before .before .args .start) (c .before .before .before .before .before .before .before .before .before .args .end) (c .before .before .before .before .before .before .before .before .before .args .hash) (c .before .before .before .before .before .before .before .before .before .pre .2) (c .before .before .before .before .before .before .before .before .before .pre .1) (c .before .before .before .before .if2 .left)
+returns-3 c = c .same-long .ensures ∙ label-same (c .before .before .before .before .before .before .before .before .before .args .text .now) (c .before .before .before .before .before .before .before .before .before .args .jumps .now) (c .before .before .before .before .before .before .before .before .before .args .at) (c .before .before .before .before .before .before .before .before .before .args .start) (c .before .before .before .before .before .before .before .before .before .args .end) (c .before .before .before .before .before .before .before .before .before .args .hash) (c .before .before .before .before .before .before .before .before .before .pre .2) (c .before .before .before .before .before .before .before .before .before .pre .1) (c .before .before .before .before .if2 .left)
 
 pub is-label-spec : {M : Type 1} → statement M
 is-label-spec =
@@ -75,11 +75,11 @@ is-label-spec =
     add-e
     mul-e
     element-copy-out-e
-    sub-same
-    part-same-start
-    part-same-end
-    sub-same-2
-    part-same-start-2
-    part-same-end-2
-    same-requires
+    sub-same-long
+    part-same-long-start
+    part-same-long-end
+    sub-same-long-2
+    part-same-long-start-2
+    part-same-long-end-2
+    same-long-requires
     returns-3)

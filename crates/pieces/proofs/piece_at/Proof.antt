@@ -1,13 +1,9 @@
 -- `pieces::piece_at` meets its contract.
 -- Assumes nothing.
-use Prim.Native.Nat.{_+_}
-use mathlib.Core.Path.{_≡_, sym, _∙_}
+use mathlib.Core.Path.{sym, _∙_}
 use native.Mathlib.Omega.{arith}
-use borrow.Author.Tests.{ne-eqb}
 use borrow.Author.Needs.{needs}
-use lib.ListN.{getD}
-use Rattle.lists.proofs.Rest.{rest-at}
-use Rattle.pieces.proofs.Pieces.{read-end, read-byte}
+use Rattle.pieces.proofs.Pieces.{read-end, read-byte, read-written}
 use Rattle.pieces.proofs.Names.{behind}
 use Rattle.pieces.proofs.Braces.{open-at}
 use Rattle.pieces.proofs.piece_at.Statement.{statement}
@@ -49,9 +45,7 @@ returns-3 c =
 returns-4 : tie.Need-returns-4
 returns-4 c =
     let args = c .before .before .before .before .args in
-    let b = getD (args .template .now) (args .at) 0 in
-    let z : args .at + 1 + 0 ≡ args .at + 1 = omega arith in
-    (sym (read-byte (args .template .now) (args .at) b (rest-at (args .template .now) (args .at) (omega arith)) ∙ rw (ne-eqb b 36 (c .match .rest .0 .1), ne-eqb b 37 (c .match .rest .1), z)), record { forward = omega arith; inside = omega arith; text = tt })
+    (sym (read-written (args .template .now) (args .at) (omega arith) (c .match .rest .0 .1) (c .match .rest .1)), record { forward = omega arith; inside = omega arith; text = tt })
 
 pub piece-at-spec : {M : Type 1} → statement M
 piece-at-spec =

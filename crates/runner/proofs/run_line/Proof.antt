@@ -1,8 +1,10 @@
 -- `runner::run_line` meets its contract.
 -- Assumes nothing.
-use mathlib.Core.Path.{refl}
+use mathlib.Core.Path.{refl, sym, _∙_, ap, subst}
 use Rattle.pairs.specs.Answers.{part}
-use Rattle.runner.proofs.Lines.{is-blank, is-comment, is-rule, line-skipped, line-passed, line-missed, line-left, line-refused}
+use Rattle.runner.proofs.Lines.{is-blank, is-comment, is-rule, line-skipped, line-passed, line-missed, line-left, line-refused, jump-left}
+use Rattle.runner.proofs.Modes.{after-mark, after-sought, after-near}
+use Rattle.runner.specs.Modes.{modeOf, Sought}
 use native.Mathlib.Omega.{arith}
 use borrow.Author.Needs.{needs}
 use Rattle.runner.proofs.run_line.Statement.{statement}
@@ -48,7 +50,13 @@ enum-known-left : tie.Need-enum-known-left
 enum-known-left c = search needs
 
 after-requires : tie.Need-after-requires
-after-requires c κs = let r = is-rule (part (c .before .before .before .before .before .before .before .before .before .before .before .before .before .before .before .before .before .before .before .args .text .now) (c .before .before .before .before .before .before .before .before .before .before .before .before .before .before .before .before .before .before .before .args .start) (c .before .before .before .before .before .before .before .before .before .before .before .before .before .before .before .before .before .before .before .args .end)) (c .before .before .before .before .before .before .before .before .before .before .before .before .before .before .blank-end .result) (c .before .before .before .before .before .before .before .before .before .before .before .before .before .before .blank-end .ensures) (c .before .before .before .before .before .before .before .before .before .before .before .before .before .before .before .before .before .before .before .pre .faultless) (omega (arith, c .before .before .before .before .before .before .before .before .before .before .before .before .before .if1 .left)) (c .before .before .before .before .before .before .before .before .before .before .before .if2 .left) in (c .before .before .before .before .before .before .before .before .before .before .before .before .before .before .before .before .before .before .before .pre .from, c .before .before .before .before .before .before .before .before .before .before .before .before .before .before .before .before .before .before .before .pre .within, (omega (arith, c .before .before .before .before .before .before .before .before .before .before .before .before .before .if1 .left), (r .rule, r .pairs)))
+after-requires c κs =
+    let args = c .before .before .before .before .before .before .before .before .before .before .before .before .before .before .before .before .before .before .before .args in
+    let pre = c .before .before .before .before .before .before .before .before .before .before .before .before .before .before .before .before .before .before .before .pre in
+    let left = c .before .left .given in
+    let step = c .before .before .before .before .before .step in
+    let m = jump-left (part (args .text .now) (args .start) (args .end)) (c .before .before .before .before .before .before .before .before .before .before .before .before .before .before .blank-end .result) (step .result) (left .0 .0) (left .0 .1 .0) (left .1) (step .ensures .jump) in
+    after-near (args .text .now) (args .start) (args .end) (pre .from) (pre .within) (left .0 .1 .0) (m .places) (c .before .before .before .before .before .before .before .before .before .before .before .before .before .before .before .before .before .before .before .good .0 .0)
 
 enum-known-refusal : tie.Need-enum-known-refusal
 enum-known-refusal c = search needs
@@ -63,7 +71,14 @@ same-length-2 : tie.Need-same-length-2
 same-length-2 c = c .before .before .before .before .before .before .step .ensures .length
 
 returns-5 : tie.Need-returns-5
-returns-5 c = let r = is-rule (part (c .before .before .before .before .before .before .before .before .before .before .before .before .before .before .before .before .before .before .before .before .args .text .now) (c .before .before .before .before .before .before .before .before .before .before .before .before .before .before .before .before .before .before .before .before .args .start) (c .before .before .before .before .before .before .before .before .before .before .before .before .before .before .before .before .before .before .before .before .args .end)) (c .before .before .before .before .before .before .before .before .before .before .before .before .before .before .before .blank-end .result) (c .before .before .before .before .before .before .before .before .before .before .before .before .before .before .before .blank-end .ensures) (c .before .before .before .before .before .before .before .before .before .before .before .before .before .before .before .before .before .before .before .before .pre .faultless) (omega (arith, c .before .before .before .before .before .before .before .before .before .before .before .before .before .before .if1 .left)) (c .before .before .before .before .before .before .before .before .before .before .before .before .if2 .left) in record { says = λ d s h n. line-left (c .before .before .before .before .before .before .before .before .before .before .before .before .before .before .before .before .before .before .before .before .args .text .now) (c .before .before .before .before .before .before .before .before .before .before .before .before .before .before .before .before .before .before .before .before .args .dev .now) (c .before .before .before .before .before .before .before .before .before .before .before .before .before .before .before .before .before .before .before .before .args .chain) (c .before .before .before .before .before .before .before .before .before .before .before .before .before .before .before .before .before .before .before .before .args .standing) d s n (part (c .before .before .before .before .before .before .before .before .before .before .before .before .before .before .before .before .before .before .before .before .args .text .now) (c .before .before .before .before .before .before .before .before .before .before .before .before .before .before .before .before .before .before .before .before .args .start) (c .before .before .before .before .before .before .before .before .before .before .before .before .before .before .before .before .before .before .before .before .args .end)) _ (r .rule) (r .reads) (c .before .before .before .before .before .before .before .before .before .before .before .begins .result) (c .before .before .before .before .before .before .before .before .before .before .before .begins .ensures (r .rule) (r .pairs)) (c .before .before .before .before .before .before .before .before .before .before .if3 .left) _ refl (c .before .before .before .before .before .before .step .result) (c .before .before .left .given .0 .0) (c .before .before .left .given .1) (c .before .before .before .before .before .before .step .ensures .says d s h (r .rule) (r .pairs)) (c .after .result) (c .after .ensures .0 (r .rule) (r .pairs)) (c .after .ensures .1); length = c .before .before .before .before .before .before .step .ensures .length }
+returns-5 c =
+    let args = c .before .before .before .before .before .before .before .before .before .before .before .before .before .before .before .before .before .before .before .before .args in
+    let pre = c .before .before .before .before .before .before .before .before .before .before .before .before .before .before .before .before .before .before .before .before .pre in
+    let left = c .before .before .left .given in
+    let step = c .before .before .before .before .before .before .step in
+    let at = c .before .before .before .before .before .before .before .before .before .before .before .before .before .before .before .blank-end .result in
+    let m = jump-left (part (args .text .now) (args .start) (args .end)) at (step .result) (left .0 .0) (left .0 .1 .0) (left .1) (step .ensures .jump) in
+    let r = is-rule (part (args .text .now) (args .start) (args .end)) (at) (c .before .before .before .before .before .before .before .before .before .before .before .before .before .before .before .blank-end .ensures) (pre .faultless) (omega (arith, c .before .before .before .before .before .before .before .before .before .before .before .before .before .before .if1 .left)) (c .before .before .before .before .before .before .before .before .before .before .before .before .if2 .left) in record { says = λ d s h n. line-left (args .text .now) (args .dev .now) (args .chain) (args .standing) d s n (part (args .text .now) (args .start) (args .end)) _ (r .rule) (r .reads) (c .before .before .before .before .before .before .before .before .before .before .before .begins .result) (c .before .before .before .before .before .before .before .before .before .before .before .begins .ensures (r .rule) (r .pairs)) (c .before .before .before .before .before .before .before .before .before .before .if3 .left) _ refl (step .result) (left .0 .0) (left .0 .1 .0) (left .1) (step .ensures .says d s h (r .rule) (r .pairs)) (c .after .result) (ap (modeOf (args .text .now)) (c .after .ensures) ∙ after-mark (args .text .now) (args .start) (args .end) (pre .from) (pre .within) at (left .0 .1 .0) m (r .rule) (r .pairs)) (subst (Sought (args .text .now)) (sym (c .after .ensures)) (after-sought (args .text .now) (args .start) (args .end) (pre .from) (pre .within) (left .0 .1 .0) (m .places))); length = step .ensures .length }
 
 same-length-3 : tie.Need-same-length-3
 same-length-3 c = c .before .before .before .before .before .step .ensures .length

@@ -1,7 +1,7 @@
 -- `step::step` meets its contract.
 -- Assumes nothing.
 use Rattle.matching.specs.declared.Matched.the-variants.{At}
-use Rattle.step.proofs.Rules.{begun-from, step-missed, step-left, step-refused}
+use Rattle.step.proofs.Rules.{begun-from, step-missed, step-left, step-refused, jump-left}
 use Rattle.matching.specs.declared.Matched.{Matched}
 use Rattle.matching.specs.Answers.{Within}
 use mathlib.Core.Path.{refl, subst}
@@ -31,19 +31,19 @@ same-length : tie.Need-same-length
 same-length c = search needs
 
 returns : tie.Need-returns
-returns c = record { says = λ d s h ps k. step-left d s ps (c .before .before .before .before .before .before .before .before .before .before .match-rule .result) (c .before .before .before .before .before .before .before .before .before .before .match-rule .ensures .0 (begun-from (c .before .before .before .before .before .before .before .before .before .before .before .before .before .before .before .args .dev .now) (c .before .before .before .before .before .before .before .before .before .before .before .before .before .before .before .args .chain) (c .before .before .before .before .before .before .before .before .before .before .before .before .before .before .before .args .t .now) (c .before .before .before .before .before .before .before .before .before .before .before .before .before .before .before .args .layout) d s h) ps k) (c .before .before .before .before .before .before .before .before .before .before .before .before .before .before .before .args .dev .now) (c .before .before .before .before .before .before .before .before .before .before .before .before .before .before .before .args .chain) (c .before .before .before .before .before .before .before .before .before .before .before .before .before .before .before .args .t .now) (c .before .before .before .before .before .before .before .before .before .before .before .before .before .before .before .args .layout) h (c .before .before .before .before .before .before .before .before .place .given .0 .0) (c .before .before .before .before .before .before .before .before .place .given .1) _ (c .before .before .before .before .before .assign-all .result) (c .before .before .before .before .before .assign-all .ensures ps k d s h) (c .before .left .given .0 .0) (c .before .left .given .1); length = search needs }
+returns c = record { says = λ d s h ps k. step-left d s ps (c .before .before .before .before .before .before .before .before .before .before .match-rule .result) (c .before .before .before .before .before .before .before .before .before .before .match-rule .ensures .0 (begun-from (c .before .before .before .before .before .before .before .before .before .before .before .before .before .before .before .args .dev .now) (c .before .before .before .before .before .before .before .before .before .before .before .before .before .before .before .args .chain) (c .before .before .before .before .before .before .before .before .before .before .before .before .before .before .before .args .t .now) (c .before .before .before .before .before .before .before .before .before .before .before .before .before .before .before .args .layout) d s h) ps k) (c .before .before .before .before .before .before .before .before .before .before .before .before .before .before .before .args .dev .now) (c .before .before .before .before .before .before .before .before .before .before .before .before .before .before .before .args .chain) (c .before .before .before .before .before .before .before .before .before .before .before .before .before .before .before .args .t .now) (c .before .before .before .before .before .before .before .before .before .before .before .before .before .before .before .args .layout) h (c .before .before .before .before .before .before .before .before .place .given .0 .0) (c .before .before .before .before .before .before .before .before .place .given .1) _ (c .before .before .before .before .before .assign-all .result) (c .before .before .before .before .before .assign-all .ensures .0 ps k d s h) (c .before .left .given .0 .0) (c .before .left .given .0 .1 .0) (c .before .left .given .1); jump = jump-left (c .before .before .before .before .before .before .before .before .before .before .before .before .before .before .before .args .line .now) (c .before .before .before .before .before .before .before .before .before .before .before .before .before .before .before .args .at) (c .before .before .before .before .before .assign-all .result) (c .before .left .given .0 .0) (c .before .left .given .0 .1 .0) (c .before .left .given .1) (c .before .before .before .before .before .assign-all .ensures .1); length = search needs }
 
 same-length-2 : tie.Need-same-length-2
 same-length-2 c = search needs
 
 returns-2 : tie.Need-returns-2
-returns-2 c = record { says = λ d s h ps k. step-refused d s ps (c .before .before .before .before .before .before .before .before .before .before .match-rule .result) (c .before .before .before .before .before .before .before .before .before .before .match-rule .ensures .0 (begun-from (c .before .before .before .before .before .before .before .before .before .before .before .before .before .before .before .args .dev .now) (c .before .before .before .before .before .before .before .before .before .before .before .before .before .before .before .args .chain) (c .before .before .before .before .before .before .before .before .before .before .before .before .before .before .before .args .t .now) (c .before .before .before .before .before .before .before .before .before .before .before .before .before .before .before .args .layout) d s h) ps k) (c .before .before .before .before .before .before .before .before .before .before .before .before .before .before .before .args .dev .now) (c .before .before .before .before .before .before .before .before .before .before .before .before .before .before .before .args .chain) (c .before .before .before .before .before .before .before .before .before .before .before .before .before .before .before .args .t .now) (c .before .before .before .before .before .before .before .before .before .before .before .before .before .before .before .args .layout) h (c .before .before .before .before .before .before .before .before .place .given .0 .0) (c .before .before .before .before .before .before .before .before .place .given .1) _ (c .before .before .before .before .before .assign-all .result) (c .before .before .before .before .before .assign-all .ensures ps k d s h) (c .before .refusal .given .0 .0) (c .before .refusal .given .1); length = search needs }
+returns-2 c = record { says = λ d s h ps k. step-refused d s ps (c .before .before .before .before .before .before .before .before .before .before .match-rule .result) (c .before .before .before .before .before .before .before .before .before .before .match-rule .ensures .0 (begun-from (c .before .before .before .before .before .before .before .before .before .before .before .before .before .before .before .args .dev .now) (c .before .before .before .before .before .before .before .before .before .before .before .before .before .before .before .args .chain) (c .before .before .before .before .before .before .before .before .before .before .before .before .before .before .before .args .t .now) (c .before .before .before .before .before .before .before .before .before .before .before .before .before .before .before .args .layout) d s h) ps k) (c .before .before .before .before .before .before .before .before .before .before .before .before .before .before .before .args .dev .now) (c .before .before .before .before .before .before .before .before .before .before .before .before .before .before .before .args .chain) (c .before .before .before .before .before .before .before .before .before .before .before .before .before .before .before .args .t .now) (c .before .before .before .before .before .before .before .before .before .before .before .before .before .before .before .args .layout) h (c .before .before .before .before .before .before .before .before .place .given .0 .0) (c .before .before .before .before .before .before .before .before .place .given .1) _ (c .before .before .before .before .before .assign-all .result) (c .before .before .before .before .before .assign-all .ensures .0 ps k d s h) (c .before .refusal .given .0 .0) (c .before .refusal .given .1); jump = tt; length = search needs }
 
 same-length-3 : tie.Need-same-length-3
 same-length-3 c = search needs
 
 returns-3 : tie.Need-returns-3
-returns-3 c = record { says = λ d s h ps k. (step-missed d s ps (c .before .before .match-rule .result) (c .before .before .match-rule .ensures .0 (begun-from (c .before .before .before .before .before .before .before .args .dev .now) (c .before .before .before .before .before .before .before .args .chain) (c .before .before .before .before .before .before .before .args .t .now) (c .before .before .before .before .before .before .before .args .layout) d s h) ps k) (c .enum-told .given .1), h); length = refl }
+returns-3 c = record { says = λ d s h ps k. (step-missed d s ps (c .before .before .match-rule .result) (c .before .before .match-rule .ensures .0 (begun-from (c .before .before .before .before .before .before .before .args .dev .now) (c .before .before .before .before .before .before .before .args .chain) (c .before .before .before .before .before .before .before .args .t .now) (c .before .before .before .before .before .before .before .args .layout) d s h) ps k) (c .enum-told .given .1), h); jump = tt; length = refl }
 
 pub step-spec : {M : Type 1} → statement M
 step-spec =

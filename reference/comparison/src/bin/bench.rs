@@ -17,6 +17,8 @@ const USAGE: &str = "usage: bench
 
 /// How often each text is run by each engine, in turns; the best time of all counts.
 const RUNS: usize = 400;
+/// The same for the texts that time one pattern, which is a small difference.
+const RUNS_FOR_DIFFERENCES: usize = 4_000;
 
 fn main() -> ExitCode {
     let arguments: Vec<String> = env::args().skip(1).collect();
@@ -87,10 +89,10 @@ impl Bench {
     }
 }
 
-/// The best times of the runs that are taken in turns, `RUNS` of each.
-fn best<const N: usize>(mut run: impl FnMut(usize) -> f64) -> [f64; N] {
+/// The best times of runs that are taken in turns, so many of each.
+fn best<const N: usize>(runs: usize, mut run: impl FnMut(usize) -> f64) -> [f64; N] {
     let mut best = [f64::INFINITY; N];
-    for _ in 0..RUNS {
+    for _ in 0..runs {
         for (which, best) in best.iter_mut().enumerate() {
             *best = best.min(run(which));
         }
@@ -102,7 +104,7 @@ fn best<const N: usize>(mut run: impl FnMut(usize) -> f64) -> [f64; N] {
 fn times_of_both(text: &[u8]) -> [f64; 2] {
     let mut bench = Bench::new(&[]);
     bench.assert_engines_agree(text);
-    best(|which| match which {
+    best(RUNS, |which| match which {
         0 => bench.run(&Linked, text),
         _ => bench.run(&Reference, text),
     })
@@ -197,7 +199,7 @@ fn show_glob() {
     let (equal, unequal) = (text("=="), text("!="));
     let (mut without, mut with) = (Bench::new(&[]), Bench::new(&[NAME]));
     let [equal_without, equal_with, unequal_without, unequal_with, libc] =
-        best(|which| match which {
+        best(RUNS_FOR_DIFFERENCES, |which| match which {
             0 => without.run(&Linked, equal.as_bytes()),
             1 => with.run(&Linked, equal.as_bytes()),
             2 => without.run(&Linked, unequal.as_bytes()),

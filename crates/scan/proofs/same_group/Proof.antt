@@ -1,0 +1,59 @@
+-- `scan::same_group` meets its contract.
+-- Assumes nothing.
+use Prim.Native.Nat.{ℕ, _+_, _-_, _≤_}
+use mathlib.Core.Path.{_≡_, refl, sym, _∙_}
+use mathlib.Core.Bool.{true}
+use mathlib.Core.Logic.{⊎-elim}
+use native.Mathlib.Omega.{arith}
+use Rattle.scan.specs.Groups.{SameFrom}
+use Rattle.scan.proofs.Equality.{same-on}
+use Rattle.scan.proofs.same_group.Statement.{statement}
+use Rattle.scan.proofs.same_group.Tie as tie
+
+abbrev Inv-loop : tie.InvT-loop
+Inv-loop a b at same₀ i₀ same i = (i ≤ at + 16) × (same ≡ true → SameFrom a b at i)
+
+abbrev μ-loop : tie.MeasureT-loop
+μ-loop a b at same₀ i₀ same i = at + 16 - i
+
+loop-holds : tie.Need-loop-holds Inv-loop μ-loop
+loop-holds c = (omega arith, λ e. refl)
+
+add-loop : tie.Need-add-loop Inv-loop μ-loop
+add-loop c = omega arith
+
+shared-slice-read-if1 : tie.Need-shared-slice-read-if1 Inv-loop μ-loop
+shared-slice-read-if1 c = omega arith
+
+shared-slice-read-if1-2 : tie.Need-shared-slice-read-if1-2 Inv-loop μ-loop
+shared-slice-read-if1-2 c = omega arith
+
+add-i : tie.Need-add-i Inv-loop μ-loop
+add-i c = omega arith
+
+loop-less : tie.Need-loop-less Inv-loop μ-loop
+loop-less c = omega arith
+
+loop-again : tie.Need-loop-again Inv-loop μ-loop
+loop-again c =
+    let args = c .before .before .before .before .before .args in
+    let loop = c .before .before .before .before .loop in
+    (omega arith, λ e. ⊎-elim (λ w. let z : _≡_ {A = ℕ} 0 1 = cc (w .1, e) in absurd (omega arith)) (λ w. loop .inv .1 (sym (w .1) ∙ e) ∙ same-on (args .a .now) (args .b .now) (loop .i) (omega arith) (omega arith) (w .0 .left)) (c .if1 .came))
+
+returns : tie.Need-returns Inv-loop μ-loop
+returns c e = let h : c .before .loop .i ≡ c .before .before .args .at + 16 = omega arith in rw h at (c .before .loop .inv .1 e)
+
+pub same-group-spec : {M : Type 1} → statement M
+same-group-spec =
+    tie.close
+    (tie.spec
+    Inv-loop
+    μ-loop
+    loop-holds
+    add-loop
+    shared-slice-read-if1
+    shared-slice-read-if1-2
+    add-i
+    loop-less
+    loop-again
+    returns)
