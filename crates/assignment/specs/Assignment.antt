@@ -11,7 +11,7 @@ use Rattle.lists.specs.Bytes.{clean}
 use Rattle.lists.specs.Checked.{Checked, refused, ok}
 use Rattle.lists.specs.Refusal as refusal
 use Rattle.lists.specs.Sizes.{mostValue}
-use Rattle.rules.specs.Key.{isMatch, keyNumber}
+use Rattle.rules.specs.Key.{isMatch, keyNumber, GOTO}
 use Rattle.rules.specs.Pair as rules
 use Rattle.rules.specs.Pairs.{Pairs}
 use Rattle.refusals.specs.Refusals.{refusalOf}
@@ -74,7 +74,7 @@ AllAssigned line at dev places place t lay t′ r =
 -- the first GOTO up to a pair
 abbrev pub noteJump : Pair → MarkFound → MarkFound
 noteJump r (At s e) = At s e
-noteJump r Missing = pick (eqb (keyNumber (keyOf (r .key))) 18) (At (r .start) (r .end)) Missing
+noteJump r Missing = pick (eqb (keyNumber (keyOf (r .key))) (keyNumber GOTO)) (At (r .start) (r .end)) Missing
 
 -- a rule that leaves something has this GOTO
 abbrev pub JumpOf : List ℕ → ℕ → Done → Type 0

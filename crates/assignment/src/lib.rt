@@ -104,6 +104,9 @@ fn assign_pair(
     assign_value(line, pair, t, work, dev, chain, place)
 }
 
+// The number of the key GOTO.
+const GOTO: u8 = 18;
+
 // The GOTO: one that was found before, or this pair if it is one.
 fn note_jump(pair: Pair, jump: MarkFound) -> MarkFound
     ensures { λ r. ⌜ r ≡ noteJump pair jump ⌝ }
@@ -112,7 +115,7 @@ fn note_jump(pair: Pair, jump: MarkFound) -> MarkFound
         MarkFound::At(s, e) => MarkFound::At(s, e),
         MarkFound::Missing => {
             let key = pair.key;
-            if rule_pairs::key_number(key) == 18 {
+            if rule_pairs::key_number(key) == GOTO {
                 MarkFound::At(pair.start, pair.end)
             } else {
                 MarkFound::Missing
