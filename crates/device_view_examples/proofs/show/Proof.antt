@@ -1,21 +1,13 @@
 -- `device_view_examples::show` meets its contract: behind the check the record is sound.
 -- Assumes nothing.
-use Prim.Native.Nat.{ℕ}
-use mathlib.Core.Path.{_≡_, refl, sym, _∙_}
-use mathlib.Core.Bool.{true}
-use mathlib.Core.Option.{Option, none, some}
-use native.Mathlib.Omega.{arith}
+use mathlib.Core.Path.{sym, _∙_}
 use borrow.Author.Needs.{needs}
 use borrow.Author.Tests.{not-false}
-use Rattle.lists.specs.Lists.{isSome}
+use Rattle.lists.proofs.Lists.{is-some}
 use Rattle.device.specs.Device.{decode}
 use Rattle.device_lookup.specs.Lookup.{Sound}
 use Rattle.device_view_examples.proofs.show.Statement.{statement}
 use Rattle.device_view_examples.proofs.show.Tie as tie
-
-is-some : {A : Type 0} (o : Option A) → isSome o ≡ true → (a : A) × (o ≡ some a)
-is-some none e = let z : _≡_ {A = ℕ} 0 1 = cc in absurd (omega arith)
-is-some (some a) e = (a, refl)
 
 sound : (c : tie.Else1) → Sound (c .before .before .before .args .rec .now)
 sound c = is-some (decode (c .before .before .before .args .rec .now)) (sym (c .before .check .ensures) ∙ not-false _ (c .if1 .left))
