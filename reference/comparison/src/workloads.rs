@@ -34,6 +34,7 @@ pub fn workloads() -> Vec<Workload> {
         site(),
         jumps_far(),
         jumps_alike(),
+        jumps_one_hash(),
         jumps_over(),
     ]
 }
@@ -144,6 +145,25 @@ fn jumps_alike() -> Workload {
     )
 }
 
+/// 256 jumps that are not taken, all to the last of 256 labels of 32 bytes that have one hash: the slowest
+/// arrangement that is known.
+fn jumps_one_hash() -> Workload {
+    let half = sizes::RULES / 2;
+    let labels: Vec<String> = ends_of_one_hash()
+        .map(|end| format!("{:_<25}{end}", "rope"))
+        .collect();
+    jumps(
+        "jumps_one_hash",
+        text_of(2 * half, |i| {
+            if i < half {
+                format!(r#"TAG=="x",GOTO="{}""#, labels[half - 1])
+            } else {
+                format!(r#"LABEL="{}""#, labels[i - half])
+            }
+        }),
+    )
+}
+
 /// One jump that is taken, over 510 rules, to the last.
 fn jumps_over() -> Workload {
     jumps(
@@ -167,18 +187,34 @@ fn jumps(name: &'static str, text: Vec<u8>) -> Workload {
 /// The hash of labels (crate `jumps`) does not tell these apart, wherever they stand in a name.
 const BLOCKS_OF_ONE_HASH: [&str; 2] = ["qhtxcgf", "kmygxnq"];
 
+/// Nor these 256, behind the same bytes.
+fn ends_of_one_hash() -> impl Iterator<Item = &'static str> {
+    include_str!("labels_of_one_hash.txt").lines()
+}
+
 #[cfg(test)]
 mod tests {
     use super::*;
+    use std::collections::HashSet;
+
+    /// As crate `jumps` has it.
+    fn hash_of(name: &str) -> u32 {
+        name.bytes().fold(0, |hash: u32, byte| {
+            hash.wrapping_mul(16_777_619).wrapping_add(byte.into())
+        })
+    }
 
     #[test]
     fn blocks_have_one_hash() {
-        let [zero, one] = BLOCKS_OF_ONE_HASH.map(|block| {
-            block.bytes().fold(0u32, |hash, byte| {
-                hash.wrapping_mul(16_777_619).wrapping_add(byte.into())
-            })
-        });
+        let [zero, one] = BLOCKS_OF_ONE_HASH.map(hash_of);
         assert_eq!(zero, one);
+    }
+
+    #[test]
+    fn ends_have_one_hash() {
+        let ends: HashSet<&str> = ends_of_one_hash().collect();
+        let hashes: HashSet<u32> = ends.iter().map(|end| hash_of(end)).collect();
+        assert_eq!((ends.len(), hashes.len()), (256, 1));
     }
 
     #[test]
