@@ -1,6 +1,6 @@
 -- The rules noted so far: none, one more, and 19 of them.
 -- Assumes nothing.
-use Prim.Native.Nat.{ℕ, zero, suc, _+_, _*_, _≤_, _<_}
+use Prim.Native.Nat.{ℕ, zero, suc, _+_, _-_, _*_, _≤_, _<_}
 use mathlib.Core.Path.{_≡_, refl, sym, ap, ap₂, _∙_}
 use mathlib.Core.Bool.{Bool, true, false}
 use mathlib.Core.List.{List, [], _∷_, _++_, map}
@@ -21,7 +21,7 @@ use Rattle.rule_pairs.specs.Marks.{markOf, MarkIn}
 use Rattle.rule_pairs.specs.declared.MarkFound.{MarkFound}
 use Rattle.rule_pairs.specs.declared.MarkFound.the-variants.{At, Missing}
 use Rattle.jumps.specs.Names.{hashOf, MarkStands, MarkPut}
-use Rattle.jumps.specs.Noted.{Marks, marks, marksOf, nameAt, rowAt, rows, NameAt, Names, Noted, NotedOne}
+use Rattle.jumps.specs.Noted.{Marks, marks, marksOf, nameAt, rowAt, rows, NameAt, Names, Noted, NotedOne, settledFrom}
 use Rattle.jumps.proofs.Names.{part-part, name-none, name-some}
 use Rattle.jumps.proofs.Rows.{rows-snoc, rows-kept, settle-marks}
 
@@ -29,8 +29,8 @@ pub noted-none : (text l : List ℕ) → length l ≡ 7 * mostRules → Noted te
 unfolding rows
 noted-none text l e = record { few = omega arith; room = e; names = λ i h. absurd (omega arith); is = refl }
 
-pub noted-settle : (text l : List ℕ) (n : ℕ) (rs : List (Placed Rule)) → Noted text l n rs → settle marks (rows text l 0 n) ≡ settle reader rs
-noted-settle text l n rs d = ap (settle marks) (d .is) ∙ settle-marks rs
+pub noted-settle : (text l : List ℕ) (n : ℕ) (rs : List (Placed Rule)) → Noted text l n rs → settledFrom text l n 0 ≡ settle reader rs
+noted-settle text l n rs d = ap-at (λ k. settle marks (rows text l 0 k)) (n - 0) n (omega arith) ∙ ap (settle marks) (d .is) ∙ settle-marks rs
 
 rows-length : (text l : List ℕ) (i k : ℕ) → length (rows text l i k) ≡ k
 unfolding rows

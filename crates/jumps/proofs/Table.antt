@@ -1,4 +1,4 @@
--- Laws of the table of labels: none, one more in front, and a search by the last byte of a hash.
+-- Laws of the table of labels: none, one more or one less in front, and a search by the last byte of a hash.
 -- Assumes nothing.
 use Prim.Native.Nat.{ℕ, zero, suc, _+_, _-_, _*_, _%_, _≤_, _<_}
 use mathlib.Core.Path.{_≡_, refl, sym, ap, _∙_}
@@ -11,18 +11,16 @@ use lib.Dec.{eqb, leb}
 use lib.ListN.{getD, set, length-set, replicate, length-replicate, getD-replicate}
 use lib.Seq.{getD-set-same, getD-set-other}
 use Rattle.lists.specs.Lists.{pick, isSome}
-use Rattle.lists.specs.Checked.{refused, line}
-use Rattle.lists.specs.Refusal.{label-missing}
 use Rattle.lists.specs.Sizes.{mostRules}
 use Rattle.lists.proofs.Moves.{ap-at}
-use Rattle.text.specs.Reading.{hasLabel, goesTo, settle}
+use Rattle.text.specs.Reading.{hasLabel, goesTo}
 use Rattle.rules.specs.Reading.{unescape}
 use Rattle.pairs.specs.Answers.{part}
 use Rattle.jumps.specs.Names.{Name}
-use Rattle.jumps.specs.Noted.{marks, nameAt, rows, Names, isAnswered}
-use Rattle.jumps.specs.Table.{inBucket, firstIn, Table, answerOf, Missed}
+use Rattle.jumps.specs.Noted.{marks, nameAt, rows, Names}
+use Rattle.jumps.specs.Table.{inBucket, firstIn, Table}
 use Rattle.jumps.proofs.Names.{label-none, label-hash}
-use Rattle.jumps.proofs.Rows.{label-here, label-behind, label-nowhere, settle-behind, settle-here, settle-end}
+use Rattle.jumps.proofs.Rows.{label-here, label-behind, label-nowhere}
 
 -- ---- which rules are in a bucket
 
@@ -230,21 +228,34 @@ module _ (text l : List ℕ) (n i : ℕ) (h t : List ℕ) (tb : Table text l n (
           let e : j ≡ i = omega (arith, leb-false (i + 1) j u) in
           rw e (getD-set-same t i (getD h (getD l (i * 7 + 3) 0 % 256) 0) 0 (omega (arith, tb .later-room, tb .few)) ∙ tb .heads (getD l (i * 7 + 3) 0 % 256) (omega arith))
 
--- ---- the answer
+-- the first label goes again
+module _ (text l : List ℕ) (n i : ℕ) (h t : List ℕ) (tb : Table text l n i h t) (k : i < n) where
+  pub take-nothing : getD l (i * 7 + 1) 0 ≡ 0 → Table text l n (i + 1) h t
+  take-nothing z = record {
+    few = tb .few;
+    names = tb .names;
+    within = omega arith;
+    heads-room = tb .heads-room;
+    later-room = tb .later-room;
+    heads = λ b m. tb .heads b m ∙ first-out l b i n k (bucket-none l b i z);
+    later = λ j a b c. tb .later j (omega arith) b c;
+  }
 
-pub missed-start : (text l : List ℕ) (n : ℕ) → Missed text l n n 0
-missed-start text l n = record { within = omega arith; is = sym (settle-end text l n n (omega arith)) }
-
-module _ (text l : List ℕ) (n i : ℕ) (k : i < n) where
-  pub missed-behind : (q : ℕ) → isAnswered (nameAt text l (i * 7 + 4)) (rows text l (i + 1) (n - (i + 1))) ≡ true → Missed text l n (i + 1) q → Missed text l n i q
-  missed-behind q t m = record { within = m .within; is = m .is ∙ sym (settle-behind text l i n k t) }
-
-  pub missed-here : isAnswered (nameAt text l (i * 7 + 4)) (rows text l (i + 1) (n - (i + 1))) ≡ false → Missed text l n i (i + 1)
-  missed-here t = record { within = omega arith; is = ap (answerOf l) (add-one i) ∙ sym (settle-here text l i n k t) }
-
-pub missed-all : (text l : List ℕ) (n i q : ℕ) → i ≤ 0 → Missed text l n i q → answerOf l q ≡ settle marks (rows text l 0 n)
-missed-all text l n i q k m = m .is ∙ ap-at (λ x. settle marks (rows text l x (n - x))) i 0 (omega arith) ∙ ap-at (λ x. settle marks (rows text l 0 x)) (n - 0) n (omega arith)
-
-pub answer-at : (l : List ℕ) (q : ℕ) → (q ≡ 0 → ⊥) → refused (line (getD l ((q - 1) * 7) 0) label-missing) ≡ answerOf l q
-answer-at l zero z = absurd (z refl)
-answer-at l (suc k) z = ap-at (λ x. refused (line (getD l (x * 7) 0) label-missing)) (suc k - 1) k (omega arith)
+  pub take-front : (getD l (i * 7 + 1) 0 ≡ 0 → ⊥) → Table text l n (i + 1) (set h (getD l (i * 7 + 3) 0 % 256) (getD t i 0)) t
+  take-front z = record {
+    few = tb .few;
+    names = tb .names;
+    within = omega arith;
+    heads-room = length-set h (getD l (i * 7 + 3) 0 % 256) (getD t i 0) ∙ tb .heads-room;
+    later-room = tb .later-room;
+    heads = λ b m. at b m (eqb (getD l (i * 7 + 3) 0 % 256) b) refl;
+    later = λ j a b c. tb .later j (omega arith) b c;
+  }
+    where
+      at : (b : ℕ) → b < 256 → (u : Bool) → eqb (getD l (i * 7 + 3) 0 % 256) b ≡ u → getD (set h (getD l (i * 7 + 3) 0 % 256) (getD t i 0)) b 0 ≡ firstIn l b (i + 1) (n - (i + 1))
+      at b m true u =
+          let e : getD l (i * 7 + 3) 0 % 256 ≡ b = eqb-true (getD l (i * 7 + 3) 0 % 256) b u in
+          rw e (getD-set-same h b (getD t i 0) 0 (omega (arith, tb .heads-room))) ∙ tb .later i (omega arith) k (omega arith) ∙ ap (λ (x : ℕ). firstIn l x (i + 1) (n - (i + 1))) e
+      at b m false u =
+          let d = eqb-false (getD l (i * 7 + 3) 0 % 256) b u in
+          getD-set-other h (getD l (i * 7 + 3) 0 % 256) b (getD t i 0) 0 (λ e. d (sym e)) ∙ tb .heads b m ∙ first-out l b i n k (bucket-is l b i z ∙ u)

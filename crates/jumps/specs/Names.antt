@@ -12,7 +12,7 @@ use Rattle.rule_pairs.specs.declared.MarkFound.{MarkFound}
 use Rattle.rule_pairs.specs.declared.MarkFound.the-variants.{At, Missing}
 
 abbrev pub mixed : ℕ → ℕ → ℕ
-mixed h b = (h * 16777619 + b) % 4294967296
+mixed h b = (h * 403 + b) % 65536
 
 unfoldable pub hashFrom : ℕ → List ℕ → ℕ
 hashFrom h [] = h

@@ -1,6 +1,6 @@
 -- The rules of a text as they are noted: the line of each with the names of its label and its jump.
 -- Assumes nothing.
-use Prim.Native.Nat.{ℕ, zero, suc, _+_, _*_, _≤_, _<_}
+use Prim.Native.Nat.{ℕ, zero, suc, _+_, _-_, _*_, _≤_, _<_}
 use mathlib.Core.Path.{_≡_}
 use mathlib.Core.Bool.{Bool, true}
 use mathlib.Core.List.{List, [], _∷_, _++_, map}
@@ -12,7 +12,7 @@ use Rattle.lists.specs.Checked.{Checked, refused, ok, Placed, line, inPlace}
 use Rattle.lists.specs.Refusal.{Refusal, label-missing}
 use Rattle.lists.specs.Sizes.{mostRules}
 use Rattle.text.specs.Engine.{Reader, skip}
-use Rattle.text.specs.Reading.{goesTo}
+use Rattle.text.specs.Reading.{goesTo, settle}
 use Rattle.rules.specs.Pair.{Rule, labelOf, gotoOf}
 use Rattle.rules.specs.Reading.{unescape}
 use Rattle.pairs.specs.Answers.{part}
@@ -74,6 +74,10 @@ NotedOne bs start number label goto l n l′ =
 abbrev pub isAnswered : Option (List ℕ) → List (Placed Marks) → Bool
 isAnswered none ps = true
 isAnswered (some g) ps = isSome (goesTo marks g ps)
+
+-- the answer of 19 for the rules from the m-th to the n-th
+abbrev pub settledFrom : List ℕ → List ℕ → ℕ → ℕ → Checked (Placed Refusal) ℕ
+settledFrom text l n m = settle marks (rows text l m (n - m))
 
 abbrev pub settledBy : Settled → Checked (Placed Refusal) ℕ
 settledBy All = ok 0

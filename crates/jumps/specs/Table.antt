@@ -7,11 +7,8 @@ use mathlib.Core.List.{List}
 use lib.Dec.{eqb}
 use lib.ListN.{length, getD}
 use Rattle.lists.specs.Lists.{pick}
-use Rattle.lists.specs.Checked.{Checked, refused, ok, Placed, line}
-use Rattle.lists.specs.Refusal.{Refusal, label-missing}
 use Rattle.lists.specs.Sizes.{mostRules}
-use Rattle.text.specs.Reading.{settle}
-use Rattle.jumps.specs.Noted.{marks, rows, Names}
+use Rattle.jumps.specs.Noted.{Names}
 
 -- the i-th rule has a label whose hash ends in this byte
 abbrev pub inBucket : List ℕ → ℕ → ℕ → Bool
@@ -31,13 +28,3 @@ pub record Table (text l : List ℕ) (n m : ℕ) (h t : List ℕ) : Type 0 where
   pub later-room : length t ≡ mostRules
   pub heads : (b : ℕ) → b < 256 → getD h b 0 ≡ firstIn l b m (n - m)
   pub later : (j : ℕ) → m ≤ j → j < n → 0 < getD l (j * 7 + 1) 0 → getD t j 0 ≡ firstIn l (getD l (j * 7 + 3) 0 % 256) (j + 1) (n - (j + 1))
-
--- the answer of 19, from one more than the rule that is refused, or 0
-abbrev pub answerOf : List ℕ → ℕ → Checked (Placed Refusal) ℕ
-answerOf l zero = ok 0
-answerOf l (suc k) = refused (line (getD l (k * 7) 0) label-missing)
-
--- it is the answer of the rules from the m-th to the n-th
-pub record Missed (text l : List ℕ) (n m missing : ℕ) : Type 0 where
-  pub within : missing ≤ n
-  pub is : answerOf l missing ≡ settle marks (rows text l m (n - m))

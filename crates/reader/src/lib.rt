@@ -28,7 +28,7 @@ fn take_clean(
     end: usize,
     number: usize,
     count: usize,
-    noted: &mut [usize; ROOM],
+    noted: &mut [u16; ROOM],
 ) -> Taken
     requires { ⌜ (length (now text) ≤ mostText) × (at ≤ length (now text)) × CleanLine (now text) at end × (number ≤ at + 1) × ReadTo (now text) at number count (now noted) ⌝ }
     ensures { λ r. ⌜ TakenIs (now (text .entry)) at number (now (noted .exit)) r ⌝ }
@@ -49,13 +49,7 @@ fn take_clean(
 }
 
 // Reads the line at a place.
-fn take_line(
-    text: &[u8],
-    at: usize,
-    number: usize,
-    count: usize,
-    noted: &mut [usize; ROOM],
-) -> Taken
+fn take_line(text: &[u8], at: usize, number: usize, count: usize, noted: &mut [u16; ROOM]) -> Taken
     requires { ⌜ (length (now text) ≤ mostText) × (at ≤ length (now text)) × (number ≤ at + 1) × ReadTo (now text) at number count (now noted) ⌝ }
     ensures { λ r. ⌜ TakenIs (now (text .entry)) at number (now (noted .exit)) r ⌝ }
 {
@@ -73,7 +67,7 @@ pub enum LinesRead {
     Rules(usize),
 }
 
-fn read_lines(text: &[u8], noted: &mut [usize; ROOM]) -> LinesRead
+fn read_lines(text: &[u8], noted: &mut [u16; ROOM]) -> LinesRead
     requires { ⌜ (length (now text) ≤ mostText) × (length (now noted) ≡ 7 * mostRules) ⌝ }
     ensures { λ r. ⌜ LinesAre (now (text .entry)) (now (noted .exit)) r ⌝ }
 {
@@ -116,7 +110,7 @@ pub fn read_text(text: &[u8]) -> TextRead
     if 32768 < text.len() {
         return TextRead::Refused(Refusal::TextLong, 0);
     }
-    let mut noted: [usize; ROOM] = [0; ROOM];
+    let mut noted: [u16; ROOM] = [0; ROOM];
     match read_lines(text, &mut noted) {
         LinesRead::Refused(f, n) => TextRead::Refused(f, line_number(n)),
         LinesRead::Rules(count) => match jumps::settle(text, &noted, count) {

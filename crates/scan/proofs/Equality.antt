@@ -1,18 +1,17 @@
 -- Two lists compared byte by byte: one law for each way on.
 -- Assumes nothing.
-use Prim.Native.Nat.{ℕ, _+_, _-_, _≤_, _<_}
-use mathlib.Core.Path.{_≡_, refl, sym}
-use mathlib.Core.Bool.{true, false}
+use Prim.Native.Nat.{ℕ, zero, suc, _+_, _-_, _≤_, _<_}
+use mathlib.Core.Path.{_≡_, refl}
+use mathlib.Core.Bool.{Bool, true, false}
 use mathlib.Core.List.{List, [], _∷_}
 use native.Mathlib.Omega.{arith}
 use borrow.Author.Tests.{eq-eqb, ne-eqb}
-use lib.ListN.{length, getD, take, drop, length-drop, drop-of-length-le}
-use lib.Seq.{take-all}
+use lib.ListN.{length, getD, drop, drop-of-length-le}
+use lib.Seq.{drop-drop}
 use lib.Dec.{eqb}
 use Rattle.lists.specs.Bytes.{sameBytes, starts}
 use Rattle.lists.proofs.Rest.{rest-at}
 use Rattle.lists.proofs.Tests.{and-false}
-use Rattle.scan.specs.Groups.{SameFrom}
 
 pub same-unequal : (a b : List ℕ) → (length a ≡ length b → ⊥) → sameBytes a b ≡ false
 unfolding sameBytes
@@ -34,9 +33,27 @@ module _ (a b : List ℕ) (i : ℕ) where
   unfolding sameBytes
   same-out h k = rw (drop-of-length-le a h, drop-of-length-le b k)
 
--- parts that go to the ends, behind bytes that do not differ
-pub same-rest : (a b : List ℕ) (n : ℕ) → SameFrom a b 0 n → sameBytes (take (length a - n) (drop n a)) (take (length b - n) (drop n b)) ≡ sameBytes a b
-same-rest a b n h = rw (take-all (length a - n) (drop n a) (simp length-drop (omega arith)), take-all (length b - n) (drop n b) (simp length-drop (omega arith))) (sym h)
+-- a difference behind a place is a difference
+same-late : (n : ℕ) (a b : List ℕ) → sameBytes (drop n a) (drop n b) ≡ false → sameBytes a b ≡ false
+unfolding sameBytes
+same-late zero a b e = e
+same-late (suc n) [] [] e = e
+same-late (suc n) [] (y ∷ b) e = refl
+same-late (suc n) (x ∷ a) [] e = refl
+same-late (suc n) (x ∷ a) (y ∷ b) e = rw (same-late n a b e) (and-false (eqb x y))
+
+module _ (a b : List ℕ) (i j : ℕ) (h : i ≤ j) where
+  pub differs-behind : sameBytes (drop j a) (drop j b) ≡ false → sameBytes (drop i a) (drop i b) ≡ false
+  differs-behind e =
+      let q : i + (j - i) ≡ j = omega arith in
+      same-late (j - i) (drop i a) (drop i b) (rw (drop-drop (j - i) i a, drop-drop (j - i) i b, q) e)
+
+  pub same-behind : sameBytes (drop i a) (drop i b) ≡ true → sameBytes (drop j a) (drop j b) ≡ true
+  same-behind e = go (sameBytes (drop j a) (drop j b)) refl
+    where
+      go : (t : Bool) → sameBytes (drop j a) (drop j b) ≡ t → sameBytes (drop j a) (drop j b) ≡ true
+      go true f = f
+      go false f = let z : _≡_ {A = ℕ} 0 1 = cc (differs-behind f, e) in absurd (omega arith)
 
 -- ---- a name that begins a list
 

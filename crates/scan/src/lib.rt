@@ -79,14 +79,14 @@ pub fn same(a: &[u8], b: &[u8]) -> bool
     true
 }
 
-// Whether two texts agree in the 16 bytes from a place on, which are looked at together.
+// Whether two texts agree in the 8 bytes from a place on, which are looked at together.
 fn same_group(a: &[u8], b: &[u8], at: usize) -> bool
-    requires { ⌜ (at + 16 ≤ length (now a)) × (at + 16 ≤ length (now b)) ⌝ }
-    ensures { λ r. ⌜ (r ≡ true → SameFrom (now (a .entry)) (now (b .entry)) at (at + 16)) ⌝ }
+    requires { ⌜ (at + 8 ≤ length (now a)) × (at + 8 ≤ length (now b)) ⌝ }
+    ensures { λ r. ⌜ (r ≡ true → SameFrom (now (a .entry)) (now (b .entry)) at (at + 8)) × (r ≡ false → sameBytes (drop at (now (a .entry))) (drop at (now (b .entry))) ≡ false) ⌝ }
 {
     let mut same = true;
     let mut i = at;
-    while i < at + 16 {
+    while i < at + 8 {
         if a[i] != b[i] {
             same = false;
         }
@@ -95,30 +95,37 @@ fn same_group(a: &[u8], b: &[u8], at: usize) -> bool
     same
 }
 
-// How many bytes two texts of one length have in common at their starts, in whole groups.
-fn same_groups(a: &[u8], b: &[u8]) -> usize
-    requires { ⌜ length (now a) ≡ length (now b) ⌝ }
-    ensures { λ r. ⌜ (r ≤ length (now (a .entry))) × SameFrom (now (a .entry)) (now (b .entry)) 0 r ⌝ }
+// Whether two texts of one length, at least that of a group, agree. Their last groups, which may overlap those before,
+// are compared first.
+fn same_groups(a: &[u8], b: &[u8]) -> bool
+    requires { ⌜ (8 ≤ length (now a)) × (length (now a) ≡ length (now b)) ⌝ }
+    ensures { λ r. ⌜ r ≡ sameBytes (now (a .entry)) (now (b .entry)) ⌝ }
 {
-    let mut i: usize = 0;
-    while 16 <= a.len() - i {
-        if !same_group(a, b, i) {
-            return i;
-        }
-        i += 16;
+    let last = a.len() - 8;
+    if !same_group(a, b, last) {
+        return false;
     }
-    i
+    let mut i: usize = 0;
+    while i < last {
+        if !same_group(a, b, i) {
+            return false;
+        }
+        i += 8;
+    }
+    true
 }
 
-// The same as `same`, for texts that may be long and begin alike.
+// The same as `same`, for texts that may be long and differ late.
 pub fn same_long(a: &[u8], b: &[u8]) -> bool
     ensures { λ r. ⌜ r ≡ sameBytes (now (a .entry)) (now (b .entry)) ⌝ }
 {
     if a.len() != b.len() {
         return false;
     }
-    let n = same_groups(a, b);
-    same(&a[n..], &b[n..])
+    if a.len() < 8 {
+        return same(a, b);
+    }
+    same_groups(a, b)
 }
 
 // Whether a name begins at a place.

@@ -10,7 +10,7 @@ use Rattle.jumps.proofs.hash_of.Statement.{statement}
 use Rattle.jumps.proofs.hash_of.Tie as tie
 
 abbrev Inv-loop : tie.InvT-loop
-Inv-loop name hash₀ i₀ hash i = (i ≤ length name) × (hash < 4294967296) × (hashFrom hash (drop i name) ≡ hashOf name)
+Inv-loop name hash₀ i₀ hash i = (i ≤ length name) × (hash < 65536) × (hashFrom hash (drop i name) ≡ hashOf name)
 
 abbrev μ-loop : tie.MeasureT-loop
 μ-loop name hash₀ i₀ hash i = length name - i
@@ -34,7 +34,7 @@ loop-again : tie.Need-loop-again Inv-loop μ-loop
 loop-again c = (omega arith, c .mix .ensures .1, ap (λ (h : ℕ). hashFrom h (drop (c .before .before .before .loop .i + 1) (c .before .before .before .before .before .args .name .now))) (c .mix .ensures .0) ∙ sym (hash-step (c .before .before .before .before .before .args .name .now) (c .before .before .before .loop .i) (c .before .before .before .loop .hash) (omega arith)) ∙ c .before .before .before .loop .inv .2)
 
 returns : tie.Need-returns Inv-loop μ-loop
-returns c = sym (hash-end (c .before .before .before .args .name .now) (c .before .loop .i) (c .before .loop .hash) (omega arith)) ∙ c .before .loop .inv .2
+returns c = (sym (hash-end (c .before .before .before .args .name .now) (c .before .loop .i) (c .before .loop .hash) (omega arith)) ∙ c .before .loop .inv .2, c .before .loop .inv .1)
 
 pub hash-of-spec : {M : Type 1} → statement M
 hash-of-spec =

@@ -2,8 +2,8 @@
 -- Assumes nothing.
 use native.Mathlib.Omega.{arith}
 use borrow.Author.Needs.{needs}
-use Rattle.rule_pairs.specs.declared.MarkFound.the-variants.{At}
 use Rattle.rule_pairs.specs.Marks.{MarkIn}
+use Rattle.rule_pairs.specs.declared.MarkFound.the-variants.{At}
 use Rattle.jumps.proofs.Noted.{put-at, put-none}
 use Rattle.jumps.proofs.put_mark.Statement.{statement}
 use Rattle.jumps.proofs.put_mark.Tie as tie
@@ -16,19 +16,22 @@ enum-known-mark : tie.Need-enum-known-mark
 enum-known-mark c = search needs
 
 sub-hash-of : tie.Need-sub-hash-of
-sub-hash-of c = omega (arith, inside c .1 .from)
+sub-hash-of c = let v = inside c .1 in omega (arith, v .from, v .within)
 
 part-hash-of-start : tie.Need-part-hash-of-start
-part-hash-of-start c = omega (arith, inside c .1 .from)
+part-hash-of-start c = let v = inside c .1 in omega (arith, v .from, v .within)
 
 part-hash-of-end : tie.Need-part-hash-of-end
-part-hash-of-end c = omega (arith, inside c .1 .within)
+part-hash-of-end c = let v = inside c .1 in omega (arith, v .from, v .within)
 
 hash-of-requires : tie.Need-hash-of-requires
 hash-of-requires c κs = search needs
 
-add-jumps : tie.Need-add-jumps
-add-jumps c = let v = inside (c .before .before) .1 in omega (arith, v .from, v .within)
+add-short : tie.Need-add-short
+add-short c = let v = inside (c .before .before) .1 in omega (arith, v .from, v .within, c .before .before .before .before .before .before .pre .2)
+
+short-requires : tie.Need-short-requires
+short-requires c κs = let v = inside (c .before .before) .1 in omega (arith, v .from, v .within, c .before .before .before .before .before .before .pre .2)
 
 mul-jumps : tie.Need-mul-jumps
 mul-jumps c = search needs
@@ -36,11 +39,14 @@ mul-jumps c = search needs
 element-write-jumps : tie.Need-element-write-jumps
 element-write-jumps c = search needs
 
-add-jumps-2 : tie.Need-add-jumps-2
-add-jumps-2 c = let v = inside (c .before .before) .1 in omega (arith, v .from, v .within)
+add-short-2 : tie.Need-add-short-2
+add-short-2 c = let v = inside (c .before .before .before) .1 in omega (arith, v .from, v .within, c .before .before .before .before .before .before .before .pre .2)
 
-add-jumps-3 : tie.Need-add-jumps-3
-add-jumps-3 c = search needs
+short-requires-2 : tie.Need-short-requires-2
+short-requires-2 c κs = let v = inside (c .before .before .before) .1 in omega (arith, v .from, v .within, c .before .before .before .before .before .before .before .pre .2)
+
+add-jumps : tie.Need-add-jumps
+add-jumps c = search needs
 
 mul-jumps-2 : tie.Need-mul-jumps-2
 mul-jumps-2 c = search needs
@@ -48,8 +54,11 @@ mul-jumps-2 c = search needs
 element-write-jumps-2 : tie.Need-element-write-jumps-2
 element-write-jumps-2 c = search needs
 
-add-jumps-4 : tie.Need-add-jumps-4
-add-jumps-4 c = search needs
+short-requires-3 : tie.Need-short-requires-3
+short-requires-3 c κs = search needs
+
+add-jumps-2 : tie.Need-add-jumps-2
+add-jumps-2 c = search needs
 
 mul-jumps-3 : tie.Need-mul-jumps-3
 mul-jumps-3 c = search needs
@@ -67,7 +76,7 @@ element-write-jumps-4 : tie.Need-element-write-jumps-4
 element-write-jumps-4 c = search needs
 
 returns : tie.Need-returns
-returns c = rw (c .before .before .before .mark .given .1) (put-at (c .before .before .before .before .before .before .args .line .now) (c .before .before .before .before .before .before .args .start) (c .before .before .before .before .before .before .args .at) (c .before .before .before .before .before .before .args .jumps .now) (c .before .before .before .before .before .before .pre .0) (c .before .before .before .before .before .before .pre .1) (c .before .before .before .mark .given .0 .0) (c .before .before .before .mark .given .0 .1 .0) (c .hash-of .result) (c .hash-of .ensures))
+returns c = rw (c .before .before .short .ensures, c .before .short2 .ensures, c .short3 .ensures, c .before .before .before .before .before .before .mark .given .1) (put-at (c .before .before .before .before .before .before .before .before .before .args .line .now) (c .before .before .before .before .before .before .before .before .before .args .start) (c .before .before .before .before .before .before .before .before .before .args .at) (c .before .before .before .before .before .before .before .before .before .args .jumps .now) (c .before .before .before .before .before .before .before .before .before .pre .0) (c .before .before .before .before .before .before .before .before .before .pre .1) (c .before .before .before .before .before .before .mark .given .0 .0) (c .before .before .before .before .before .before .mark .given .0 .1 .0) (c .before .before .before .hash-of .result) (c .before .before .before .hash-of .ensures .0))
 
 returns-2 : tie.Need-returns-2
 returns-2 c = rw (c .enum-told .given .1) (put-none (c .before .before .before .args .line .now) (c .before .before .before .args .start) (c .before .before .before .args .at) (c .before .before .before .args .jumps .now) (c .before .before .before .pre .0) (c .before .before .before .pre .1))
@@ -81,14 +90,17 @@ put-mark-spec =
     part-hash-of-start
     part-hash-of-end
     hash-of-requires
-    add-jumps
+    add-short
+    short-requires
     mul-jumps
     element-write-jumps
-    add-jumps-2
-    add-jumps-3
+    add-short-2
+    short-requires-2
+    add-jumps
     mul-jumps-2
     element-write-jumps-2
-    add-jumps-4
+    short-requires-3
+    add-jumps-2
     mul-jumps-3
     element-write-jumps-3
     enum-told

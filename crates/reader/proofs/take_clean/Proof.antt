@@ -53,7 +53,7 @@ part-note-end : tie.Need-part-note-end
 part-note-end c = search needs
 
 note-requires : tie.Need-note-requires
-note-requires c κs = let f = c .before .before .before .before .before .before .before .before .before .pre .2 .run .from in let w = c .before .before .before .before .before .before .before .before .before .pre .2 .run .within in let h = c .before .before .before .before .before .before .before .before .before .pre .1 in let m : MarksIn (part (c .before .before .before .before .before .before .before .before .before .args .text .now) (c .before .before .before .before .before .before .before .before .before .args .at) (c .before .before .before .before .before .before .before .before .before .args .end)) (c .before .before .before .before .marks .given .0 .0) = rw (c .before .before .before .before .marks .given .1) at (c .before .before .before .before .before .before .read-line .ensures .1) in (c .before .before .before .before .before .before .before .before .before .pre .4 .1 .noted .room, omega arith, omega (arith, c .before .before .before .before .before .before .before .before .before .pre .0, part-length (c .before .before .before .before .before .before .before .before .before .args .text .now) (c .before .before .before .before .before .before .before .before .before .args .at) (c .before .before .before .before .before .before .before .before .before .args .end) (omega arith) (omega arith)), m .label, m .goto)
+note-requires c κs = let f = c .before .before .before .before .before .before .before .before .before .pre .2 .run .from in let w = c .before .before .before .before .before .before .before .before .before .pre .2 .run .within in let h = c .before .before .before .before .before .before .before .before .before .pre .1 in let m : MarksIn (part (c .before .before .before .before .before .before .before .before .before .args .text .now) (c .before .before .before .before .before .before .before .before .before .args .at) (c .before .before .before .before .before .before .before .before .before .args .end)) (c .before .before .before .before .marks .given .0 .0) = rw (c .before .before .before .before .marks .given .1) at (c .before .before .before .before .before .before .read-line .ensures .1) in (c .before .before .before .before .before .before .before .before .before .pre .4 .1 .noted .room, omega arith, omega (arith, c .before .before .before .before .before .before .before .before .before .pre .0, c .before .before .before .before .before .before .before .before .before .pre .1, c .before .before .before .before .before .before .before .before .before .pre .3), omega (arith, c .before .before .before .before .before .before .before .before .before .pre .0, part-length (c .before .before .before .before .before .before .before .before .before .args .text .now) (c .before .before .before .before .before .before .before .before .before .args .at) (c .before .before .before .before .before .before .before .before .before .args .end) (omega arith) (omega arith)), m .label, m .goto)
 
 add-t23 : tie.Need-add-t23
 add-t23 c = search needs

@@ -1,31 +1,38 @@
--- `scan::same_groups` meets its contract.
+-- `scan::same_groups` meets its contract: a group that differs decides, and the last one goes to the ends.
 -- Assumes nothing.
-use Prim.Native.Nat.{_+_, _-_, _≤_}
-use mathlib.Core.Path.{refl, _∙_}
+use Prim.Native.Nat.{_+_, _-_}
+use mathlib.Core.Path.{refl, sym, _∙_}
 use native.Mathlib.Omega.{arith}
-use borrow.Author.Tests.{not-false}
+use borrow.Author.Tests.{not-false, not-true}
 use lib.ListN.{length}
+use Rattle.scan.proofs.Equality.{differs-behind, same-behind, same-out}
 use Rattle.scan.specs.Groups.{SameFrom}
 use Rattle.scan.proofs.same_groups.Statement.{statement}
 use Rattle.scan.proofs.same_groups.Tie as tie
 
 abbrev Inv-loop : tie.InvT-loop
-Inv-loop a b i₀ i = (i ≤ length a) × SameFrom a b 0 i
+Inv-loop a b last i₀ i = SameFrom a b 0 i
 
 abbrev μ-loop : tie.MeasureT-loop
-μ-loop a b i₀ i = length a - i
+μ-loop a b last i₀ i = length a - i
 
-loop-holds : tie.Need-loop-holds Inv-loop μ-loop
-loop-holds c = (omega arith, refl)
-
-sub-loop : tie.Need-sub-loop Inv-loop μ-loop
-sub-loop c = omega arith
+sub-last : tie.Need-sub-last Inv-loop μ-loop
+sub-last c = omega arith
 
 same-group-requires : tie.Need-same-group-requires Inv-loop μ-loop
 same-group-requires c κs = (omega arith, omega arith)
 
 returns : tie.Need-returns Inv-loop μ-loop
-returns c = c .before .before .before .loop .inv
+returns c = sym (differs-behind (c .before .before .before .before .args .a .now) (c .before .before .before .before .args .b .now) 0 (length (c .before .before .before .before .args .a .now) - 8) (omega arith) (c .before .same-group .ensures .1 (not-true _ (c .if1 .taken))))
+
+loop-holds : tie.Need-loop-holds Inv-loop μ-loop
+loop-holds c = refl
+
+same-group-requires-2 : tie.Need-same-group-requires-2 Inv-loop μ-loop
+same-group-requires-2 c κs = (omega arith, omega arith)
+
+returns-2 : tie.Need-returns-2 Inv-loop μ-loop
+returns-2 c = sym (differs-behind (c .before .before .before .before .before .before .before .before .args .a .now) (c .before .before .before .before .before .before .before .before .args .b .now) 0 (c .before .before .before .loop .i) (omega arith) (c .before .same-group2 .ensures .1 (not-true _ (c .if2 .taken))))
 
 add-i : tie.Need-add-i Inv-loop μ-loop
 add-i c = omega arith
@@ -34,10 +41,10 @@ loop-less : tie.Need-loop-less Inv-loop μ-loop
 loop-less c = omega arith
 
 loop-again : tie.Need-loop-again Inv-loop μ-loop
-loop-again c = (omega arith, c .before .before .before .loop .inv .1 ∙ c .before .same-group .ensures (not-false _ (c .if1 .left)))
+loop-again c = c .before .before .before .loop .inv ∙ c .before .same-group2 .ensures .0 (not-false _ (c .if2 .left))
 
-returns-2 : tie.Need-returns-2 Inv-loop μ-loop
-returns-2 c = c .before .loop .inv
+returns-3 : tie.Need-returns-3 Inv-loop μ-loop
+returns-3 c = sym (c .before .loop .inv ∙ same-behind (c .before .before .before .before .before .before .args .a .now) (c .before .before .before .before .before .before .args .b .now) (length (c .before .before .before .before .before .before .args .a .now) - 8) (c .before .loop .i) (omega arith) (c .before .before .before .same-group .ensures .0 (not-false _ (c .before .before .if1 .left)) ∙ same-out (c .before .before .before .before .before .before .args .a .now) (c .before .before .before .before .before .before .args .b .now) (length (c .before .before .before .before .before .before .args .a .now) - 8 + 8) (omega arith) (omega arith)))
 
 pub same-groups-spec : {M : Type 1} → statement M
 same-groups-spec =
@@ -45,11 +52,13 @@ same-groups-spec =
     (tie.spec
     Inv-loop
     μ-loop
-    loop-holds
-    sub-loop
+    sub-last
     same-group-requires
     returns
+    loop-holds
+    same-group-requires-2
+    returns-2
     add-i
     loop-less
     loop-again
-    returns-2)
+    returns-3)
