@@ -41,8 +41,6 @@ use Rattle.step.specs.declared.Stepped.the-variants.{Missed, Left, Refused}
 use Rattle.runner.specs.Modes.{modeOf, Sought}
 use Rattle.runner.specs.Runs.{LineSays}
 use Rattle.runner.specs.declared.Mode.{Mode}
-use Rattle.runner.specs.declared.Mode.the-variants.{Next}
-use Rattle.runner.specs.declared.Standing.{Standing}
 use Rattle.runner.specs.declared.LineRan.the-variants as on
 
 -- ---- what a line is
@@ -82,44 +80,41 @@ not-false : (x : Bool) → not x ≡ false → x ≡ true
 not-false true h = refl
 not-false false h = sym h
 
-module _ (t dev : List ℕ) (places : Chain) (st : Standing) (d : Device) (s : State) (n : ℕ) (l t′ : List ℕ) where
+module _ (t dev : List ℕ) (places : Chain) (lay : Layout) (m : Mode) (d : Device) (s : State) (v n : ℕ) (l t′ : List ℕ) where
   -- what the definition gives
   abbrev ran : running.Ran State
-  ran = runLine engine d (modeOf t (st .mode)) s (st .visited) (line n (readLine l))
+  ran = runLine engine d (modeOf t m) s v (line n (readLine l))
 
-  pub line-skipped : readLine l ≡ text.skip → Denotes dev places t′ (st .layout) d s → Sought t (st .mode) → LineSays t dev places st d n t′ (on.On st) ran
+  pub line-skipped : readLine l ≡ text.skip → Denotes dev places t′ lay d s → Sought t m → LineSays t dev places lay m d v n t′ on.Skipped ran
   unfolding runLine
-  line-skipped e h k = (s, rw e, h, k, omega arith)
+  line-skipped e h k = (s, rw e, h, k)
 
   module _ (r : Rule) (e : readLine l ≡ text.rule r) where
-    pub line-passed : (x : Bool) → x ≡ running.begins (modeOf t (st .mode)) (labelOf r) → not x ≡ true → Denotes dev places t′ (st .layout) d s → Sought t (st .mode)
-        → LineSays t dev places st d n t′ (on.On st) ran
+    pub line-passed : (x : Bool) → x ≡ running.begins (modeOf t m) (labelOf r) → not x ≡ true → Denotes dev places t′ lay d s → Sought t m
+        → LineSays t dev places lay m d v n t′ on.Skipped ran
     unfolding runLine
-    line-passed false b c h k = (s, rw (e, ← b), h, k, omega arith)
+    line-passed false b c h k = (s, rw (e, ← b), h, k)
     line-passed true b c h k = let z : _≡_ {A = ℕ} 0 1 = cc in absurd (omega arith)
 
-    module _ (x : Bool) (b : x ≡ running.begins (modeOf t (st .mode)) (labelOf r)) (c : not x ≡ false) (v : ℕ) (w : v ≡ st .visited + 1) where
-      begun : ran ≡ stepped engine (rule.step d r s) n (gotoOf r) (st .visited)
+    module _ (x : Bool) (b : x ≡ running.begins (modeOf t m) (labelOf r)) (c : not x ≡ false) where
+      begun : ran ≡ stepped engine (rule.step d r s) n (gotoOf r) v
       unfolding runLine
       begun = rw (e, ← b, not-false x c)
 
-      pub line-missed : (y : Stepped) → y ≡ Missed → Says dev places (st .layout) d s t′ y (rule.step d r s)
-          → LineSays t dev places st d n t′ (on.On (record { layout = st .layout; mode = Next; visited = v })) ran
+      pub line-missed : (y : Stepped) → y ≡ Missed → Says dev places lay d s t′ y (rule.step d r s) → LineSays t dev places lay m d v n t′ on.Missed ran
       line-missed y q h =
-          let (a, z) = subst (λ (z : Stepped). Says dev places (st .layout) d s t′ z (rule.step d r s)) q h in
-          (s, begun ∙ rw (a, w), z, tt, omega arith)
+          let (a, z) = subst (λ (z : Stepped). Says dev places lay d s t′ z (rule.step d r s)) q h in
+          (s, begun ∙ rw a, z, tt)
 
-      pub line-left : (y : Stepped) (lay : Layout) (jump : MarkFound) → y ≡ Left lay jump → Says dev places (st .layout) d s t′ y (rule.step d r s)
-          → (m : Mode) → modeOf t m ≡ running.after true (gotoOf r) → Sought t m
-          → LineSays t dev places st d n t′ (on.On (record { layout = lay; mode = m; visited = v })) ran
-      line-left y lay jump q h m a k =
-          let (s′, o, z) = subst (λ (z : Stepped). Says dev places (st .layout) d s t′ z (rule.step d r s)) q h in
-          (s′, begun ∙ (ap (λ (a : Checked refusal.Refusal (text.Stepped State)). stepped engine a n (gotoOf r) (st .visited)) o ∙ rw (w, a)), z, k, omega arith)
+      pub line-left : (y : Stepped) (lay′ : Layout) (jump : MarkFound) → y ≡ Left lay′ jump → Says dev places lay d s t′ y (rule.step d r s)
+          → (m′ : Mode) → modeOf t m′ ≡ running.after true (gotoOf r) → Sought t m′ → LineSays t dev places lay m d v n t′ (on.Left lay′ m′) ran
+      line-left y lay′ jump q h m′ a k =
+          let (s′, o, z) = subst (λ (z : Stepped). Says dev places lay d s t′ z (rule.step d r s)) q h in
+          (s′, begun ∙ (ap (λ (a : Checked refusal.Refusal (text.Stepped State)). stepped engine a n (gotoOf r) v) o ∙ rw a), z, k)
 
-      pub line-refused : (y : Stepped) (f : Refusal) → y ≡ Refused f → Says dev places (st .layout) d s t′ y (rule.step d r s)
-          → LineSays t dev places st d n t′ (on.Refused f) ran
+      pub line-refused : (y : Stepped) (f : Refusal) → y ≡ Refused f → Says dev places lay d s t′ y (rule.step d r s) → LineSays t dev places lay m d v n t′ (on.Refused f) ran
       line-refused y f q h =
-          let a : rule.step d r s ≡ refused (refusalOf f) = subst (λ (z : Stepped). Says dev places (st .layout) d s t′ z (rule.step d r s)) q h in
+          let a : rule.step d r s ≡ refused (refusalOf f) = subst (λ (z : Stepped). Says dev places lay d s t′ z (rule.step d r s)) q h in
           begun ∙ rw a
 
 pub jump-left : (l : List ℕ) (at : ℕ) (y : Stepped) (lay : Layout) (jump : MarkFound) → y ≡ Left lay jump → JumpOf l at y → Marked l at Goto jump

@@ -31,9 +31,9 @@ use Rattle.text.proofs.Stream.{behind, run-line}
 use Rattle.engine.specs.Operations.{engine}
 use Rattle.records.specs.Records.{Denotes, Ready}
 use Rattle.runner.specs.Modes.{modeOf, Sought}
-use Rattle.runner.specs.Runs.{LineReady, LineSays, LineRuns, Accepted, Says, Runs}
+use Rattle.runner.specs.Runs.{LineReady, GoesOn, LineSays, LineRuns, Accepted, Says, Runs}
+use Rattle.runner.specs.declared.Mode.{Mode}
 use Rattle.runner.specs.declared.Mode.the-variants.{Next}
-use Rattle.runner.specs.declared.Standing.{Standing}
 use Rattle.runner.specs.declared.LineRan.{LineRan}
 use Rattle.runner.specs.declared.LineRan.the-variants as on
 use Rattle.runner.specs.declared.TextRan.the-variants as all
@@ -43,19 +43,18 @@ abbrev pub readsAt : List ℕ → ℕ → ℕ → List (Placed (text.LineRead Ru
 readsAt t start n = map (inPlace readLine) (linesAt t start n)
 
 -- the rules from a place on give what all rules of the text give
-pub record Going (t dev : List ℕ) (places : Chain) (r₀ : List ℕ) (lay₀ : Layout) (r : List ℕ) (st : Standing) (start n : ℕ) : Type 0 where
+pub record Going (t dev : List ℕ) (places : Chain) (r₀ : List ℕ) (lay₀ : Layout) (r : List ℕ) (lay : Layout) (m : Mode) (v start n : ℕ) : Type 0 where
   pub room : length r ≡ length r₀
   pub within : start ≤ length t + 1
   pub short : length t ≤ mostText
   pub faultless : Faultless (readsAt t start n)
-  pub sought : Sought t (st .mode)
-  pub few : st .visited ≤ start
+  pub sought : Sought t m
+  pub few : v ≤ start
   pub number : n ≤ start + 1
   pub going : (d : Device) (s₀ : State) → Denotes dev places r₀ lay₀ d s₀
-      → (s : State) × Denotes dev places r (st .layout) d s × (more (st .visited) (runFrom engine d (modeOf t (st .mode)) s (rulesIn (readsAt t start n))) ≡ runFrom engine d next s₀ (rulesOf reader t))
+      → (s : State) × Denotes dev places r lay d s × (more v (runFrom engine d (modeOf t m) s (rulesIn (readsAt t start n))) ≡ runFrom engine d next s₀ (rulesOf reader t))
 
-pub begun : (t dev : List ℕ) (places : Chain) (r₀ : List ℕ) (lay : Layout) → Accepted t
-    → Going t dev places r₀ lay r₀ (record { layout = lay; mode = Next; visited = 0 }) 0 1
+pub begun : (t dev : List ℕ) (places : Chain) (r₀ : List ℕ) (lay : Layout) → Accepted t → Going t dev places r₀ lay r₀ lay Next 0 0 1
 unfolding rulesOf
 begun t dev places r₀ lay (rs, e) =
     let p = read engine t rs e .parts in
@@ -82,78 +81,105 @@ faultless-behind n text.skip ls h = h
 faultless-behind n (text.fault g) ls h = absurd h
 faultless-behind n (text.rule r) ls h = h
 
-module _ (t dev : List ℕ) (places : Chain) (r₀ : List ℕ) (lay₀ : Layout) (r : List ℕ) (st : Standing) (start n : ℕ) (g : Going t dev places r₀ lay₀ r st start n)
-    (e : ℕ) (k : RunEnd (isNot 10) t start e) (i : start ≤ length t) where
-  ends : e ≤ length t
-  ends = rw (k .place) (span-le (isNot 10) t start i)
+pub ends : (t : List ℕ) (start e : ℕ) → RunEnd (isNot 10) t start e → start ≤ length t → e ≤ length t
+ends t start e k i = rw (k .place) (span-le (isNot 10) t start i)
 
+-- where the answer of a line leaves a run that stood in a layout and a mode, with v rules visited
+abbrev pub Behind : Layout → Mode → ℕ → Layout → Mode → ℕ → LineRan → Type 0
+Behind lay m v lay′ m′ v′ on.Skipped = (lay′ ≡ lay) × (m′ ≡ m) × (v′ ≡ v)
+Behind lay m v lay′ m′ v′ on.Missed = (lay′ ≡ lay) × (m′ ≡ Next) × (v′ ≡ v + 1)
+Behind lay m v lay′ m′ v′ (on.Left a b) = (lay′ ≡ a) × (m′ ≡ b) × (v′ ≡ v + 1)
+Behind lay m v lay′ m′ v′ (on.Refused f) = ⊥
+
+module _ (lay : Layout) (m : Mode) (v : ℕ) (lay′ : Layout) (m′ : Mode) (v′ : ℕ) where
+  at-most-one : (x : LineRan) → Behind lay m v lay′ m′ v′ x → v′ ≤ v + 1
+  at-most-one on.Skipped (_, _, w) = omega arith
+  at-most-one on.Missed (_, _, w) = omega arith
+  at-most-one (on.Left _ _) (_, _, w) = omega arith
+  at-most-one (on.Refused f) b = absurd b
+
+  goes-on : (t dev : List ℕ) (places : Chain) (d : Device) (n : ℕ) (r : List ℕ) (c : Ran State) (x : LineRan) → Behind lay m v lay′ m′ v′ x
+      → LineSays t dev places lay m d v n r x c → GoesOn t dev places d r lay′ m′ v′ c
+  goes-on t dev places d n r c on.Skipped (a, b, w) h = rw (a, b, w) h
+  goes-on t dev places d n r c on.Missed (a, b, w) h = rw (a, b, w) h
+  goes-on t dev places d n r c (on.Left _ _) (a, b, w) h = rw (a, b, w) h
+  goes-on t dev places d n r c (on.Refused f) b h = absurd b
+
+module _ (t dev : List ℕ) (places : Chain) (r₀ : List ℕ) (lay₀ : Layout) (r : List ℕ) (lay : Layout) (m : Mode) (v start n : ℕ) (g : Going t dev places r₀ lay₀ r lay m v start n)
+    (e : ℕ) (k : RunEnd (isNot 10) t start e) (i : start ≤ length t) where
   reads-on : readsAt t start n ≡ line n (readLine (part t start e)) ∷ readsAt t (e + 1) (suc n)
   reads-on = ap (map (inPlace readLine)) (lines-step t start e n i (k .place))
 
   first : Faultless (line n (readLine (part t start e)) ∷ readsAt t (e + 1) (suc n))
   first = subst Faultless reads-on (g .faultless)
 
-  pub line-ready : Ready dev places r₀ lay₀ → LineReady t start e dev places r st
+  pub line-ready : Ready dev places r₀ lay₀ → LineReady t start e dev places r lay m
   line-ready (d, s₀, h) =
       let (s, z, _) = g .going d s₀ h in
-      let v = g .few in
-      let w = g .short in
       record {
         from = k .from;
-        within = ends;
+        within = ends t start e k i;
         faultless = not-faulty n (readLine (part t start e)) (readsAt t (e + 1) (suc n)) first;
         sought = g .sought;
         ready = (d, s, z);
-        few = omega arith;
       }
 
-  module _ (r′ : List ℕ) (x : LineRan) (y : LineRuns t start e dev places r st r′ x) where
-    -- what the rules give, from this line and those behind it
-    split : (d : Device) (s : State) → more (st .visited) (runFrom engine d (modeOf t (st .mode)) s (rulesIn (readsAt t start n)))
-        ≡ (runLine engine d (modeOf t (st .mode)) s (st .visited) (line n (readLine (part t start e))) >>= behind engine d (readsAt t (e + 1) (suc n)))
-    split d s = rw reads-on (run-line engine d (readsAt t (e + 1) (suc n)) (line n (readLine (part t start e))) (modeOf t (st .mode)) s (st .visited))
+  -- what the definition gives for this line
+  abbrev ran : Device → State → Ran State
+  ran d s = runLine engine d (modeOf t m) s v (line n (readLine (part t start e)))
 
-    gone : Ready dev places r₀ lay₀ → (st′ : Standing) → x ≡ on.On st′ → Going t dev places r₀ lay₀ r′ st′ (e + 1) (suc n)
-    gone (d₀, s₀, h₀) st′ q =
-        let (s₁, z₁, _) = g .going d₀ s₀ h₀ in
-        let (_, _, _, sought′, few′) = subst (λ (x : LineRan). LineSays t dev places st d₀ n r′ x (runLine engine d₀ (modeOf t (st .mode)) s₁ (st .visited) (line n (readLine (part t start e))))) q (y .says d₀ s₁ z₁ n) in
-        let v = g .few in
-        let w = g .number in
-        let f = k .from in
-        let u = ends in
-        record {
-          room = y .length ∙ g .room;
-          within = omega arith;
-          short = g .short;
-          faultless = faultless-behind n (readLine (part t start e)) (readsAt t (e + 1) (suc n)) first;
-          sought = sought′;
-          few = omega arith;
-          number = omega arith;
-          going = λ d s h.
-              let (s₂, z₂, c₂) = g .going d s h in
-              let (s₃, c₃, z₃, _, _) = subst (λ (x : LineRan). LineSays t dev places st d n r′ x (runLine engine d (modeOf t (st .mode)) s₂ (st .visited) (line n (readLine (part t start e))))) q (y .says d s₂ z₂ n) in
-              (s₃, z₃, sym (split d s₂ ∙ ap (λ (o : Ran State). o >>= behind engine d (readsAt t (e + 1) (suc n))) c₃) ∙ c₂);
-        }
+  -- what the rules give, from this line and those behind it
+  split : (d : Device) (s : State) → more v (runFrom engine d (modeOf t m) s (rulesIn (readsAt t start n))) ≡ (ran d s >>= behind engine d (readsAt t (e + 1) (suc n)))
+  split d s = rw reads-on (run-line engine d (readsAt t (e + 1) (suc n)) (line n (readLine (part t start e))) (modeOf t m) s v)
 
-    pub gone-on : Ready dev places r₀ lay₀ → (st′ : Standing) → x ≡ on.On st′ → Going t dev places r₀ lay₀ r′ st′ (e + 1) (n + 1)
-    gone-on h st′ q = subst (λ (m : ℕ). Going t dev places r₀ lay₀ r′ st′ (e + 1) m) (omega arith) (gone h st′ q)
+  module _ (r′ : List ℕ) (x : LineRan) (y : LineRuns t start e dev places r lay m r′ x) where
+    module _ (h₀ : Ready dev places r₀ lay₀) (lay′ : Layout) (m′ : Mode) (v′ : ℕ) (b : Behind lay m v lay′ m′ v′ x) where
+      on-line : (d : Device) (s : State) → Denotes dev places r lay d s → GoesOn t dev places d r′ lay′ m′ v′ (ran d s)
+      on-line d s h = goes-on lay m v lay′ m′ v′ t dev places d n r′ (ran d s) x b (y .says d s h v n)
+
+      gone : Going t dev places r₀ lay₀ r′ lay′ m′ v′ (e + 1) (suc n)
+      gone =
+          let (d₀, s₀, z₀) = h₀ in
+          let (s₁, z₁, _) = g .going d₀ s₀ z₀ in
+          let (_, _, _, sought′) = on-line d₀ s₁ z₁ in
+          let o = at-most-one lay m v lay′ m′ v′ x b in
+          let a = g .few in
+          let w = g .number in
+          let f = k .from in
+          let u = ends t start e k i in
+          record {
+            room = y .length ∙ g .room;
+            within = omega arith;
+            short = g .short;
+            faultless = faultless-behind n (readLine (part t start e)) (readsAt t (e + 1) (suc n)) first;
+            sought = sought′;
+            few = omega arith;
+            number = omega arith;
+            going = λ d s h.
+                let (s₂, z₂, c₂) = g .going d s h in
+                let (s₃, c₃, z₃, _) = on-line d s₂ z₂ in
+                (s₃, z₃, sym (split d s₂ ∙ ap (λ (o : Ran State). o >>= behind engine d (readsAt t (e + 1) (suc n))) c₃) ∙ c₂);
+          }
+
+      pub gone-on : Going t dev places r₀ lay₀ r′ lay′ m′ v′ (e + 1) (n + 1)
+      gone-on = subst (λ (i : ℕ). Going t dev places r₀ lay₀ r′ lay′ m′ v′ (e + 1) i) (omega arith) gone
 
     pub gone-refused : (f : Refusal) → x ≡ on.Refused f → Accepted t → (rs : List (Placed Rule)) → readText reader t ≡ ok rs
         → (d : Device) (s : State) → Denotes dev places r₀ lay₀ d s → Says dev places d r′ (all.Refused f n) (runFrom engine d next s rs)
     gone-refused f q a rs j d s h =
         let (s₂, z₂, c₂) = g .going d s h in
-        let c₃ = subst (λ (x : LineRan). LineSays t dev places st d n r′ x (runLine engine d (modeOf t (st .mode)) s₂ (st .visited) (line n (readLine (part t start e))))) q (y .says d s₂ z₂ n) in
+        let c₃ = subst (λ (x : LineRan). LineSays t dev places lay m d v n r′ x (ran d s₂)) q (y .says d s₂ z₂ v n) in
         rw (read engine t rs j .same) (sym c₂ ∙ (split d s₂ ∙ ap (λ (o : Ran State). o >>= behind engine d (readsAt t (e + 1) (suc n))) c₃))
 
 -- ---- behind the last line
 
-pub all-gone : (t dev : List ℕ) (places : Chain) (r₀ : List ℕ) (lay₀ : Layout) (r : List ℕ) (st : Standing) (start n : ℕ)
-    → Going t dev places r₀ lay₀ r st start n → length t < start → Runs t dev places r₀ lay₀ r (all.Ended (st .layout) (st .visited))
+pub all-gone : (t dev : List ℕ) (places : Chain) (r₀ : List ℕ) (lay₀ : Layout) (r : List ℕ) (lay : Layout) (m : Mode) (v start n : ℕ)
+    → Going t dev places r₀ lay₀ r lay m v start n → length t < start → Runs t dev places r₀ lay₀ r (all.Ended lay v)
 unfolding runFrom rulesIn
-all-gone t dev places r₀ lay₀ r st start n g h = record {
+all-gone t dev places r₀ lay₀ r lay m v start n g h = record {
   says = λ d s z rs j.
       let (s₂, z₂, c₂) = g .going d s z in
-      let w : ok (record { mode = modeOf t (st .mode); state = s₂; visited = st .visited + 0 }) ≡ runFrom engine d next s (rulesOf reader t) = rw (lines-end t start n h) at c₂ in
-      (record { mode = modeOf t (st .mode); state = s₂; visited = st .visited + 0 }, rw (read engine t rs j .same) (sym w), z₂, sym (add-zero (st .visited)));
+      let w : ok (record { mode = modeOf t m; state = s₂; visited = v + 0 }) ≡ runFrom engine d next s (rulesOf reader t) = rw (lines-end t start n h) at c₂ in
+      (record { mode = modeOf t m; state = s₂; visited = v + 0 }, rw (read engine t rs j .same) (sym w), z₂, sym (add-zero v));
   length = g .room;
 }

@@ -1,6 +1,6 @@
 -- What running one line, and all lines, of an accepted text leaves.
 -- Assumes nothing.
-use Prim.Native.Nat.{ℕ, _+_, _≤_, _<_}
+use Prim.Native.Nat.{ℕ, _+_, _≤_}
 use mathlib.Core.Path.{_≡_}
 use mathlib.Core.List.{List}
 use lib.ListN.{length}
@@ -21,7 +21,8 @@ use Rattle.text.specs.Rules.{runLine}
 use Rattle.engine.specs.Operations.{engine}
 use Rattle.records.specs.Records.{Denotes, Ready}
 use Rattle.runner.specs.Modes.{modeOf, Sought}
-use Rattle.runner.specs.declared.Standing.{Standing}
+use Rattle.runner.specs.declared.Mode.{Mode}
+use Rattle.runner.specs.declared.Mode.the-variants.{Next}
 use Rattle.runner.specs.declared.LineRan.{LineRan}
 use Rattle.runner.specs.declared.LineRan.the-variants as on
 use Rattle.runner.specs.declared.TextRan.{TextRan}
@@ -30,21 +31,26 @@ use Rattle.runner.specs.declared.TextRan.the-variants as all
 -- ---- one line
 
 -- a line of a text, from start to end, that may run
-pub record LineReady (text : List ℕ) (start end : ℕ) (dev : List ℕ) (places : Chain) (t : List ℕ) (st : Standing) : Type 0 where
+pub record LineReady (text : List ℕ) (start end : ℕ) (dev : List ℕ) (places : Chain) (t : List ℕ) (lay : Layout) (m : Mode) : Type 0 where
   pub from : start ≤ end
   pub within : end ≤ length text
   pub faultless : (f : refusal.Refusal) → readLine (part text start end) ≡ fault f → ⊥
-  pub sought : Sought text (st .mode)
-  pub ready : Ready dev places t (st .layout)
-  pub few : st .visited < 4294967295
+  pub sought : Sought text m
+  pub ready : Ready dev places t lay
 
-abbrev pub LineSays : List ℕ → List ℕ → Chain → Standing → Device → ℕ → List ℕ → LineRan → Ran State → Type 0
-LineSays text dev places st d n t′ (on.On st′) c =
-    (s′ : State) × (c ≡ ok (record { mode = modeOf text (st′ .mode); state = s′; visited = st′ .visited })) × Denotes dev places t′ (st′ .layout) d s′ × Sought text (st′ .mode) × (st′ .visited ≤ st .visited + 1)
-LineSays text dev places st d n t′ (on.Refused f) c = c ≡ refused (line n (refusalOf f))
+-- the run goes on in a layout and a mode, with v rules visited
+abbrev pub GoesOn : List ℕ → List ℕ → Chain → Device → List ℕ → Layout → Mode → ℕ → Ran State → Type 0
+GoesOn text dev places d t lay m v c = (s : State) × (c ≡ ok (record { mode = modeOf text m; state = s; visited = v })) × Denotes dev places t lay d s × Sought text m
 
-pub record LineRuns (text : List ℕ) (start end : ℕ) (dev : List ℕ) (places : Chain) (t : List ℕ) (st : Standing) (t′ : List ℕ) (r : LineRan) : Type 0 where
-  pub says : (d : Device) (s : State) → Denotes dev places t (st .layout) d s → (n : ℕ) → LineSays text dev places st d n t′ r (runLine engine d (modeOf text (st .mode)) s (st .visited) (line n (readLine (part text start end))))
+-- the answer of a line beside what the definition gives; before the line the run stood in a layout and a mode, with v rules visited
+abbrev pub LineSays : List ℕ → List ℕ → Chain → Layout → Mode → Device → ℕ → ℕ → List ℕ → LineRan → Ran State → Type 0
+LineSays text dev places lay m d v n t′ on.Skipped c = GoesOn text dev places d t′ lay m v c
+LineSays text dev places lay m d v n t′ on.Missed c = GoesOn text dev places d t′ lay Next (v + 1) c
+LineSays text dev places lay m d v n t′ (on.Left lay′ m′) c = GoesOn text dev places d t′ lay′ m′ (v + 1) c
+LineSays text dev places lay m d v n t′ (on.Refused f) c = c ≡ refused (line n (refusalOf f))
+
+pub record LineRuns (text : List ℕ) (start end : ℕ) (dev : List ℕ) (places : Chain) (t : List ℕ) (lay : Layout) (m : Mode) (t′ : List ℕ) (r : LineRan) : Type 0 where
+  pub says : (d : Device) (s : State) → Denotes dev places t lay d s → (v n : ℕ) → LineSays text dev places lay m d v n t′ r (runLine engine d (modeOf text m) s v (line n (readLine (part text start end))))
   pub length : length t′ ≡ length t
 
 -- ---- all lines

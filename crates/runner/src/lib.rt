@@ -22,15 +22,11 @@ pub enum Mode {
     Seek(usize, usize),
 }
 
-// Where a run stands between two lines.
-pub struct Standing {
-    pub layout: Layout,
-    pub mode: Mode,
-    pub visited: u32,
-}
-
+// A line was passed over; its rule began and did not match; it matched, and left the record in a layout and the run in a mode; or it is refused.
 pub enum LineRan {
-    On(Standing),
+    Skipped,
+    Missed,
+    Left(Layout, Mode),
     Refused(Refusal),
 }
 
@@ -72,36 +68,26 @@ fn run_line(
     dev: &[u8],
     chain: Chain,
     t: &mut [u8],
-    standing: Standing,
+    layout: Layout,
+    mode: Mode,
 ) -> LineRan
-    requires { ⌜ LineReady (now text) start end (now dev) chain (now t) standing ⌝ }
-    ensures { λ r. ⌜ LineRuns (now (text .entry)) start end (now (dev .entry)) chain (now (t .entry)) standing (now (t .exit)) r ⌝ }
+    requires { ⌜ LineReady (now text) start end (now dev) chain (now t) layout mode ⌝ }
+    ensures { λ r. ⌜ LineRuns (now (text .entry)) start end (now (dev .entry)) chain (now (t .entry)) layout mode (now (t .exit)) r ⌝ }
 {
     let line = &text[start..end];
     let at = scan::blank_end(line, 0);
     if line.len() <= at {
-        return LineRan::On(standing);
+        return LineRan::Skipped;
     }
     if line[at] == b'#' {
-        return LineRan::On(standing);
+        return LineRan::Skipped;
     }
-    let mode = standing.mode;
     if !begins(text, line, at, mode) {
-        return LineRan::On(standing);
+        return LineRan::Skipped;
     }
-    let layout = standing.layout;
-    let visited = standing.visited + 1;
     match step::step(line, at, dev, chain, t, layout) {
-        Stepped::Missed => LineRan::On(Standing {
-            layout,
-            mode: Mode::Next,
-            visited,
-        }),
-        Stepped::Left(left, jump) => LineRan::On(Standing {
-            layout: left,
-            mode: after(start, jump),
-            visited,
-        }),
+        Stepped::Missed => LineRan::Missed,
+        Stepped::Left(left, jump) => LineRan::Left(left, after(start, jump)),
         Stepped::Refused(refusal) => LineRan::Refused(refusal),
     }
 }
@@ -111,24 +97,28 @@ pub fn run_lines(text: &[u8], dev: &[u8], chain: Chain, t: &mut [u8], layout: La
     requires { ⌜ Accepted (now text) × Ready (now dev) chain (now t) layout ⌝ }
     ensures { λ r. ⌜ Runs (now (text .entry)) (now (dev .entry)) chain (now (t .entry)) layout (now (t .exit)) r ⌝ }
 {
-    let mut standing = Standing {
-        layout,
-        mode: Mode::Next,
-        visited: 0,
-    };
+    let mut layout = layout;
+    let mut mode = Mode::Next;
+    let mut visited: u32 = 0;
     let mut start: usize = 0;
     let mut number: u32 = 1;
     while start <= text.len() {
         let end = scan::line_end(text, start);
-        match run_line(text, start, end, dev, chain, t, standing) {
-            LineRan::On(next) => {
-                standing = next;
+        match run_line(text, start, end, dev, chain, t, layout, mode) {
+            LineRan::Skipped => {}
+            LineRan::Missed => {
+                mode = Mode::Next;
+                visited += 1;
+            }
+            LineRan::Left(left, next) => {
+                layout = left;
+                mode = next;
+                visited += 1;
             }
             LineRan::Refused(refusal) => return TextRan::Refused(refusal, number),
         }
         start = end + 1;
         number += 1;
     }
-    let left = standing.layout;
-    TextRan::Ended(left, standing.visited)
+    TextRan::Ended(layout, visited)
 }

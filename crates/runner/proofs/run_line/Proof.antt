@@ -23,25 +23,45 @@ blank-end-requires : tie.Need-blank-end-requires
 blank-end-requires c κs = search needs
 
 returns : tie.Need-returns
-returns c = record { says = λ d s h n. line-skipped (c .before .before .before .before .before .before .args .text .now) (c .before .before .before .before .before .before .args .dev .now) (c .before .before .before .before .before .before .args .chain) (c .before .before .before .before .before .before .args .standing) d s n (part (c .before .before .before .before .before .before .args .text .now) (c .before .before .before .before .before .before .args .start) (c .before .before .before .before .before .before .args .end)) (c .before .before .before .before .before .before .args .t .now) (is-blank (part (c .before .before .before .before .before .before .args .text .now) (c .before .before .before .before .before .before .args .start) (c .before .before .before .before .before .before .args .end)) (c .before .blank-end .result) (c .before .blank-end .ensures) (c .before .before .before .before .before .before .pre .faultless) (c .if1 .taken)) h (c .before .before .before .before .before .before .pre .sought); length = refl }
+returns c =
+    let args = c .before .before .before .before .before .before .args in
+    let pre = c .before .before .before .before .before .before .pre in
+    let l = part (args .text .now) (args .start) (args .end) in
+    record { says = λ d s h v n. line-skipped (args .text .now) (args .dev .now) (args .chain) (args .layout) (args .mode) d s v n l (args .t .now) (is-blank l (c .before .blank-end .result) (c .before .blank-end .ensures) (pre .faultless) (c .if1 .taken)) h (pre .sought); length = refl }
 
 shared-slice-read-if2 : tie.Need-shared-slice-read-if2
 shared-slice-read-if2 c = search needs
 
 returns-2 : tie.Need-returns-2
-returns-2 c = record { says = λ d s h n. line-skipped (c .before .before .before .before .before .before .before .before .args .text .now) (c .before .before .before .before .before .before .before .before .args .dev .now) (c .before .before .before .before .before .before .before .before .args .chain) (c .before .before .before .before .before .before .before .before .args .standing) d s n (part (c .before .before .before .before .before .before .before .before .args .text .now) (c .before .before .before .before .before .before .before .before .args .start) (c .before .before .before .before .before .before .before .before .args .end)) (c .before .before .before .before .before .before .before .before .args .t .now) (is-comment (part (c .before .before .before .before .before .before .before .before .args .text .now) (c .before .before .before .before .before .before .before .before .args .start) (c .before .before .before .before .before .before .before .before .args .end)) (c .before .before .before .blank-end .result) (c .before .before .before .blank-end .ensures) (c .before .before .before .before .before .before .before .before .pre .faultless) (omega (arith, c .before .before .if1 .left)) (c .if2 .taken)) h (c .before .before .before .before .before .before .before .before .pre .sought); length = refl }
+returns-2 c =
+    let args = c .before .before .before .before .before .before .before .before .args in
+    let pre = c .before .before .before .before .before .before .before .before .pre in
+    let l = part (args .text .now) (args .start) (args .end) in
+    record { says = λ d s h v n. line-skipped (args .text .now) (args .dev .now) (args .chain) (args .layout) (args .mode) d s v n l (args .t .now) (is-comment l (c .before .before .before .blank-end .result) (c .before .before .before .blank-end .ensures) (pre .faultless) (omega (arith, c .before .before .if1 .left)) (c .if2 .taken)) h (pre .sought); length = refl }
 
 begins-requires : tie.Need-begins-requires
-begins-requires c κs = let r = is-rule (part (c .before .before .before .before .before .before .before .before .args .text .now) (c .before .before .before .before .before .before .before .before .args .start) (c .before .before .before .before .before .before .before .before .args .end)) (c .before .before .before .blank-end .result) (c .before .before .before .blank-end .ensures) (c .before .before .before .before .before .before .before .before .pre .faultless) (omega (arith, c .before .before .if1 .left)) (c .if2 .left) in ((omega (arith, c .before .before .if1 .left), (r .rule, r .pairs)), c .before .before .before .before .before .before .before .before .pre .sought)
+begins-requires c κs =
+    let args = c .before .before .before .before .before .before .before .before .args in
+    let pre = c .before .before .before .before .before .before .before .before .pre in
+    let l = part (args .text .now) (args .start) (args .end) in
+    let r = is-rule l (c .before .before .before .blank-end .result) (c .before .before .before .blank-end .ensures) (pre .faultless) (omega (arith, c .before .before .if1 .left)) (c .if2 .left) in
+    ((omega (arith, c .before .before .if1 .left), (r .rule, r .pairs)), pre .sought)
 
 returns-3 : tie.Need-returns-3
-returns-3 c = let r = is-rule (part (c .before .before .before .before .before .before .before .before .before .before .args .text .now) (c .before .before .before .before .before .before .before .before .before .before .args .start) (c .before .before .before .before .before .before .before .before .before .before .args .end)) (c .before .before .before .before .before .blank-end .result) (c .before .before .before .before .before .blank-end .ensures) (c .before .before .before .before .before .before .before .before .before .before .pre .faultless) (omega (arith, c .before .before .before .before .if1 .left)) (c .before .before .if2 .left) in record { says = λ d s h n. line-passed (c .before .before .before .before .before .before .before .before .before .before .args .text .now) (c .before .before .before .before .before .before .before .before .before .before .args .dev .now) (c .before .before .before .before .before .before .before .before .before .before .args .chain) (c .before .before .before .before .before .before .before .before .before .before .args .standing) d s n (part (c .before .before .before .before .before .before .before .before .before .before .args .text .now) (c .before .before .before .before .before .before .before .before .before .before .args .start) (c .before .before .before .before .before .before .before .before .before .before .args .end)) (c .before .before .before .before .before .before .before .before .before .before .args .t .now) (r .rule) (r .reads) (c .before .begins .result) (c .before .begins .ensures (r .rule) (r .pairs)) (c .if3 .taken) h (c .before .before .before .before .before .before .before .before .before .before .pre .sought); length = refl }
-
-add-visited : tie.Need-add-visited
-add-visited c = omega (arith, c .before .before .before .before .before .before .before .before .before .before .before .before .pre .few)
+returns-3 c =
+    let args = c .before .before .before .before .before .before .before .before .before .before .args in
+    let pre = c .before .before .before .before .before .before .before .before .before .before .pre in
+    let l = part (args .text .now) (args .start) (args .end) in
+    let r = is-rule l (c .before .before .before .before .before .blank-end .result) (c .before .before .before .before .before .blank-end .ensures) (pre .faultless) (omega (arith, c .before .before .before .before .if1 .left)) (c .before .before .if2 .left) in
+    record { says = λ d s h v n. line-passed (args .text .now) (args .dev .now) (args .chain) (args .layout) (args .mode) d s v n l (args .t .now) (r .rule) (r .reads) (c .before .begins .result) (c .before .begins .ensures (r .rule) (r .pairs)) (c .if3 .taken) h (pre .sought); length = refl }
 
 step-requires : tie.Need-step-requires
-step-requires c κs = let r = is-rule (part (c .before .before .before .before .before .before .before .before .before .before .before .before .before .args .text .now) (c .before .before .before .before .before .before .before .before .before .before .before .before .before .args .start) (c .before .before .before .before .before .before .before .before .before .before .before .before .before .args .end)) (c .before .before .before .before .before .before .before .before .blank-end .result) (c .before .before .before .before .before .before .before .before .blank-end .ensures) (c .before .before .before .before .before .before .before .before .before .before .before .before .before .pre .faultless) (omega (arith, c .before .before .before .before .before .before .before .if1 .left)) (c .before .before .before .before .before .if2 .left) in ((omega (arith, c .before .before .before .before .before .before .before .if1 .left), (r .rule, r .pairs, r .sound)), c .before .before .before .before .before .before .before .before .before .before .before .before .before .pre .ready)
+step-requires c κs =
+    let args = c .before .before .before .before .before .before .before .before .before .before .before .args in
+    let pre = c .before .before .before .before .before .before .before .before .before .before .before .pre in
+    let l = part (args .text .now) (args .start) (args .end) in
+    let r = is-rule l (c .before .before .before .before .before .before .blank-end .result) (c .before .before .before .before .before .before .blank-end .ensures) (pre .faultless) (omega (arith, c .before .before .before .before .before .if1 .left)) (c .before .before .before .if2 .left) in
+    ((omega (arith, c .before .before .before .before .before .if1 .left), (r .rule, r .pairs, r .sound)), pre .ready)
 
 enum-told : tie.Need-enum-told
 enum-told c = search needs
@@ -51,12 +71,13 @@ enum-known-left c = search needs
 
 after-requires : tie.Need-after-requires
 after-requires c κs =
-    let args = c .before .before .before .before .before .before .before .before .before .before .before .before .before .before .before .before .before .before .before .args in
-    let pre = c .before .before .before .before .before .before .before .before .before .before .before .before .before .before .before .before .before .before .before .pre in
+    let args = c .before .before .before .before .before .before .before .before .before .before .before .before .before .before .before .before .before .args in
+    let pre = c .before .before .before .before .before .before .before .before .before .before .before .before .before .before .before .before .before .pre in
+    let l = part (args .text .now) (args .start) (args .end) in
     let left = c .before .left .given in
     let step = c .before .before .before .before .before .step in
-    let m = jump-left (part (args .text .now) (args .start) (args .end)) (c .before .before .before .before .before .before .before .before .before .before .before .before .before .before .blank-end .result) (step .result) (left .0 .0) (left .0 .1 .0) (left .1) (step .ensures .jump) in
-    after-near (args .text .now) (args .start) (args .end) (pre .from) (pre .within) (left .0 .1 .0) (m .places) (c .before .before .before .before .before .before .before .before .before .before .before .before .before .before .before .before .before .before .before .good .0 .0)
+    let m = jump-left l (c .before .before .before .before .before .before .before .before .before .before .before .before .blank-end .result) (step .result) (left .0 .0) (left .0 .1 .0) (left .1) (step .ensures .jump) in
+    after-near (args .text .now) (args .start) (args .end) (pre .from) (pre .within) (left .0 .1 .0) (m .places) (c .before .before .before .before .before .before .before .before .before .before .before .before .before .before .before .before .before .good .0 .0)
 
 enum-known-refusal : tie.Need-enum-known-refusal
 enum-known-refusal c = search needs
@@ -65,26 +86,41 @@ same-length : tie.Need-same-length
 same-length c = c .before .before .before .before .step .ensures .length
 
 returns-4 : tie.Need-returns-4
-returns-4 c = let r = is-rule (part (c .before .before .before .before .before .before .before .before .before .before .before .before .before .before .before .before .before .before .args .text .now) (c .before .before .before .before .before .before .before .before .before .before .before .before .before .before .before .before .before .before .args .start) (c .before .before .before .before .before .before .before .before .before .before .before .before .before .before .before .before .before .before .args .end)) (c .before .before .before .before .before .before .before .before .before .before .before .before .before .blank-end .result) (c .before .before .before .before .before .before .before .before .before .before .before .before .before .blank-end .ensures) (c .before .before .before .before .before .before .before .before .before .before .before .before .before .before .before .before .before .before .pre .faultless) (omega (arith, c .before .before .before .before .before .before .before .before .before .before .before .before .if1 .left)) (c .before .before .before .before .before .before .before .before .before .before .if2 .left) in record { says = λ d s h n. line-missed (c .before .before .before .before .before .before .before .before .before .before .before .before .before .before .before .before .before .before .args .text .now) (c .before .before .before .before .before .before .before .before .before .before .before .before .before .before .before .before .before .before .args .dev .now) (c .before .before .before .before .before .before .before .before .before .before .before .before .before .before .before .before .before .before .args .chain) (c .before .before .before .before .before .before .before .before .before .before .before .before .before .before .before .before .before .before .args .standing) d s n (part (c .before .before .before .before .before .before .before .before .before .before .before .before .before .before .before .before .before .before .args .text .now) (c .before .before .before .before .before .before .before .before .before .before .before .before .before .before .before .before .before .before .args .start) (c .before .before .before .before .before .before .before .before .before .before .before .before .before .before .before .before .before .before .args .end)) _ (r .rule) (r .reads) (c .before .before .before .before .before .before .before .before .before .begins .result) (c .before .before .before .before .before .before .before .before .before .begins .ensures (r .rule) (r .pairs)) (c .before .before .before .before .before .before .before .before .if3 .left) _ refl (c .before .before .before .before .step .result) (c .enum-told .given .1) (c .before .before .before .before .step .ensures .says d s h (r .rule) (r .pairs)); length = c .before .before .before .before .step .ensures .length }
+returns-4 c =
+    let args = c .before .before .before .before .before .before .before .before .before .before .before .before .before .before .before .before .args in
+    let pre = c .before .before .before .before .before .before .before .before .before .before .before .before .before .before .before .before .pre in
+    let l = part (args .text .now) (args .start) (args .end) in
+    let r = is-rule l (c .before .before .before .before .before .before .before .before .before .before .before .blank-end .result) (c .before .before .before .before .before .before .before .before .before .before .before .blank-end .ensures) (pre .faultless) (omega (arith, c .before .before .before .before .before .before .before .before .before .before .if1 .left)) (c .before .before .before .before .before .before .before .before .if2 .left) in
+    let step = c .before .before .before .before .step in
+    record { says = λ d s h v n. line-missed (args .text .now) (args .dev .now) (args .chain) (args .layout) (args .mode) d s v n l _ (r .rule) (r .reads) (c .before .before .before .before .before .before .before .begins .result) (c .before .before .before .before .before .before .before .begins .ensures (r .rule) (r .pairs)) (c .before .before .before .before .before .before .if3 .left) (step .result) (c .enum-told .given .1) (step .ensures .says d s h (r .rule) (r .pairs)); length = step .ensures .length }
 
 same-length-2 : tie.Need-same-length-2
 same-length-2 c = c .before .before .before .before .before .before .step .ensures .length
 
 returns-5 : tie.Need-returns-5
 returns-5 c =
-    let args = c .before .before .before .before .before .before .before .before .before .before .before .before .before .before .before .before .before .before .before .before .args in
-    let pre = c .before .before .before .before .before .before .before .before .before .before .before .before .before .before .before .before .before .before .before .before .pre in
+    let args = c .before .before .before .before .before .before .before .before .before .before .before .before .before .before .before .before .before .before .args in
+    let pre = c .before .before .before .before .before .before .before .before .before .before .before .before .before .before .before .before .before .before .pre in
+    let l = part (args .text .now) (args .start) (args .end) in
     let left = c .before .before .left .given in
     let step = c .before .before .before .before .before .before .step in
-    let at = c .before .before .before .before .before .before .before .before .before .before .before .before .before .before .before .blank-end .result in
-    let m = jump-left (part (args .text .now) (args .start) (args .end)) at (step .result) (left .0 .0) (left .0 .1 .0) (left .1) (step .ensures .jump) in
-    let r = is-rule (part (args .text .now) (args .start) (args .end)) (at) (c .before .before .before .before .before .before .before .before .before .before .before .before .before .before .before .blank-end .ensures) (pre .faultless) (omega (arith, c .before .before .before .before .before .before .before .before .before .before .before .before .before .before .if1 .left)) (c .before .before .before .before .before .before .before .before .before .before .before .before .if2 .left) in record { says = λ d s h n. line-left (args .text .now) (args .dev .now) (args .chain) (args .standing) d s n (part (args .text .now) (args .start) (args .end)) _ (r .rule) (r .reads) (c .before .before .before .before .before .before .before .before .before .before .before .begins .result) (c .before .before .before .before .before .before .before .before .before .before .before .begins .ensures (r .rule) (r .pairs)) (c .before .before .before .before .before .before .before .before .before .before .if3 .left) _ refl (step .result) (left .0 .0) (left .0 .1 .0) (left .1) (step .ensures .says d s h (r .rule) (r .pairs)) (c .after .result) (ap (modeOf (args .text .now)) (c .after .ensures) ∙ after-mark (args .text .now) (args .start) (args .end) (pre .from) (pre .within) at (left .0 .1 .0) m (r .rule) (r .pairs)) (subst (Sought (args .text .now)) (sym (c .after .ensures)) (after-sought (args .text .now) (args .start) (args .end) (pre .from) (pre .within) (left .0 .1 .0) (m .places))); length = step .ensures .length }
+    let at = c .before .before .before .before .before .before .before .before .before .before .before .before .before .blank-end .result in
+    let m = jump-left l at (step .result) (left .0 .0) (left .0 .1 .0) (left .1) (step .ensures .jump) in
+    let r = is-rule l (c .before .before .before .before .before .before .before .before .before .before .before .before .before .blank-end .result) (c .before .before .before .before .before .before .before .before .before .before .before .before .before .blank-end .ensures) (pre .faultless) (omega (arith, c .before .before .before .before .before .before .before .before .before .before .before .before .if1 .left)) (c .before .before .before .before .before .before .before .before .before .before .if2 .left) in
+    record { says = λ d s h v n. line-left (args .text .now) (args .dev .now) (args .chain) (args .layout) (args .mode) d s v n l _ (r .rule) (r .reads) (c .before .before .before .before .before .before .before .before .before .begins .result) (c .before .before .before .before .before .before .before .before .before .begins .ensures (r .rule) (r .pairs)) (c .before .before .before .before .before .before .before .before .if3 .left) (step .result) (left .0 .0) (left .0 .1 .0) (left .1) (step .ensures .says d s h (r .rule) (r .pairs)) (c .after .result) (ap (modeOf (args .text .now)) (c .after .ensures) ∙ after-mark (args .text .now) (args .start) (args .end) (pre .from) (pre .within) at (left .0 .1 .0) m (r .rule) (r .pairs)) (subst (Sought (args .text .now)) (sym (c .after .ensures)) (after-sought (args .text .now) (args .start) (args .end) (pre .from) (pre .within) (left .0 .1 .0) (m .places))); length = step .ensures .length }
 
 same-length-3 : tie.Need-same-length-3
 same-length-3 c = c .before .before .before .before .before .step .ensures .length
 
 returns-6 : tie.Need-returns-6
-returns-6 c = let r = is-rule (part (c .before .before .before .before .before .before .before .before .before .before .before .before .before .before .before .before .before .before .before .args .text .now) (c .before .before .before .before .before .before .before .before .before .before .before .before .before .before .before .before .before .before .before .args .start) (c .before .before .before .before .before .before .before .before .before .before .before .before .before .before .before .before .before .before .before .args .end)) (c .before .before .before .before .before .before .before .before .before .before .before .before .before .before .blank-end .result) (c .before .before .before .before .before .before .before .before .before .before .before .before .before .before .blank-end .ensures) (c .before .before .before .before .before .before .before .before .before .before .before .before .before .before .before .before .before .before .before .pre .faultless) (omega (arith, c .before .before .before .before .before .before .before .before .before .before .before .before .before .if1 .left)) (c .before .before .before .before .before .before .before .before .before .before .before .if2 .left) in record { says = λ d s h n. line-refused (c .before .before .before .before .before .before .before .before .before .before .before .before .before .before .before .before .before .before .before .args .text .now) (c .before .before .before .before .before .before .before .before .before .before .before .before .before .before .before .before .before .before .before .args .dev .now) (c .before .before .before .before .before .before .before .before .before .before .before .before .before .before .before .before .before .before .before .args .chain) (c .before .before .before .before .before .before .before .before .before .before .before .before .before .before .before .before .before .before .before .args .standing) d s n (part (c .before .before .before .before .before .before .before .before .before .before .before .before .before .before .before .before .before .before .before .args .text .now) (c .before .before .before .before .before .before .before .before .before .before .before .before .before .before .before .before .before .before .before .args .start) (c .before .before .before .before .before .before .before .before .before .before .before .before .before .before .before .before .before .before .before .args .end)) _ (r .rule) (r .reads) (c .before .before .before .before .before .before .before .before .before .before .begins .result) (c .before .before .before .before .before .before .before .before .before .before .begins .ensures (r .rule) (r .pairs)) (c .before .before .before .before .before .before .before .before .before .if3 .left) _ refl (c .before .before .before .before .before .step .result) (c .before .refusal .given .0 .0) (c .before .refusal .given .1) (c .before .before .before .before .before .step .ensures .says d s h (r .rule) (r .pairs)); length = c .before .before .before .before .before .step .ensures .length }
+returns-6 c =
+    let args = c .before .before .before .before .before .before .before .before .before .before .before .before .before .before .before .before .before .args in
+    let pre = c .before .before .before .before .before .before .before .before .before .before .before .before .before .before .before .before .before .pre in
+    let l = part (args .text .now) (args .start) (args .end) in
+    let r = is-rule l (c .before .before .before .before .before .before .before .before .before .before .before .before .blank-end .result) (c .before .before .before .before .before .before .before .before .before .before .before .before .blank-end .ensures) (pre .faultless) (omega (arith, c .before .before .before .before .before .before .before .before .before .before .before .if1 .left)) (c .before .before .before .before .before .before .before .before .before .if2 .left) in
+    let step = c .before .before .before .before .before .step in
+    let refusal = c .before .refusal .given in
+    record { says = λ d s h v n. line-refused (args .text .now) (args .dev .now) (args .chain) (args .layout) (args .mode) d s v n l _ (r .rule) (r .reads) (c .before .before .before .before .before .before .before .before .begins .result) (c .before .before .before .before .before .before .before .before .begins .ensures (r .rule) (r .pairs)) (c .before .before .before .before .before .before .before .if3 .left) (step .result) (refusal .0 .0) (refusal .1) (step .ensures .says d s h (r .rule) (r .pairs)); length = step .ensures .length }
 
 pub run-line-spec : {M : Type 1} → statement M
 run-line-spec =
@@ -99,7 +135,6 @@ run-line-spec =
     returns-2
     begins-requires
     returns-3
-    add-visited
     step-requires
     enum-told
     enum-known-left
