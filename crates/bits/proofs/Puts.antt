@@ -8,7 +8,7 @@ use lib.ListN.{length, take, drop, length-append, length-take, length-drop, take
 use lib.Seq.{take-all, take-at, drop-at, drop-drop, length-take-le, take-append-le, drop-append-le, take-append-add, drop-append-add}
 use Rattle.lists.specs.Bytes.{Bytes}
 use Rattle.lists.proofs.Lists.{All-append}
-use Rattle.lists.proofs.Moves.{drop-past}
+use Rattle.lists.proofs.Moves.{drop-past, part-front}
 use Rattle.bits.specs.Bits.{toBits, fromBits, bitsOf, bytesOf, numberAt, putBits, putAt}
 use Rattle.bits.proofs.Bits.{
   Bits,
@@ -57,13 +57,6 @@ module _ (s : List ℕ) (at n v : ℕ) where
       bits-bytes (length s) b (bits-putBits (bitsOf s) at n v (bits-bits s)) (omega arith) ∙ take-all (8 * length s) b (omega arith)
 
 -- ---- what is read afterwards
-
--- a part of a first part
-part-front : (p r : List ℕ) (b m : ℕ) → b + m ≤ length p → take m (drop b (p ++ r)) ≡ take m (drop b p)
-part-front p r b m h =
-    let l : b ≤ length p = omega arith in
-    let k : m ≤ length (drop b p) = simp length-drop (omega arith) in
-    ap (take m) (drop-append-le b p r l) ∙ take-append-le m (drop b p) r k
 
 module _ (s : List ℕ) (at n v : ℕ) (h : at + n ≤ 8 * length s) where
   front : length (take at (bitsOf s)) ≡ at

@@ -6,7 +6,7 @@ use mathlib.Core.List.{List, [], _∷_, _++_, append-assoc}
 use native.Mathlib.Nat.{not-suc-le-zero, le-of-suc-le-suc, suc-add, zero-add}
 use native.Mathlib.Omega.{arith}
 use lib.ListN.{length, getD, take, drop, set, replicate, length-append, length-take, length-drop, take-append-drop}
-use lib.Seq.{take-suc, drop-cons, set-at, take-at, drop-at, getD-drop, drop-drop, getD-append-add}
+use lib.Seq.{take-at, drop-at, take-append-le, drop-append-le, getD-drop, drop-drop}
 use Rattle.lists.specs.Bytes.{Bytes}
 
 -- equal numbers give equal results; the numbers are written, so that `omega` can prove them equal
@@ -37,41 +37,26 @@ module _ {A : Type 0} where
       let e : length g ≡ b - a = omega arith in
       ap (take (b - a)) (drop-at p (g ++ r) a lp) ∙ take-at g r (b - a) e
 
+  -- a part of a first part
+  pub part-front : (p r : List A) (a n : ℕ) → a + n ≤ length p → take n (drop a (p ++ r)) ≡ take n (drop a p)
+  part-front p r a n h =
+      let l : a ≤ length p = omega arith in
+      let k : n ≤ length (drop a p) = simp length-drop (omega arith) in
+      ap (take n) (drop-append-le a p r l) ∙ take-append-le n (drop a p) r k
+
   pub drop-past : (p g r : List A) (a b : ℕ) → length p ≡ a → a + length g ≡ b → drop b (p ++ (g ++ r)) ≡ r
   drop-past p g r a b lp lg =
       let e : length (p ++ g) ≡ b = length-append p g ∙ omega arith in
       rw (← append-assoc p g r) (drop-at (p ++ g) r b e)
 
--- a part that starts one later has its first element less
-pub part-cons : (t : List ℕ) (a b : ℕ) → a < b → b ≤ length t → take (b - a) (drop a t) ≡ getD t a 0 ∷ take (b - suc a) (drop (suc a) t)
-part-cons t a b h k =
-    let e : b - a ≡ suc (b - suc a) = omega arith in
-    let l : a < length t = omega arith in
-    ap (λ (n : ℕ). take n (drop a t)) e ∙ ap (take (suc (b - suc a))) (drop-cons t a 0 l)
-
--- a part that ends one later has one element more
-pub part-snoc : (t : List ℕ) (a b : ℕ) → a ≤ b → b < length t → take (suc b - a) (drop a t) ≡ take (b - a) (drop a t) ++ (getD t b 0 ∷ [])
-part-snoc t a b h k =
-    let e : suc b - a ≡ suc (b - a) = omega arith in
-    let l : b - a < length (drop a t) = simp length-drop (omega arith) in
-    let g : getD (drop a t) (b - a) 0 ≡ getD t b 0 = getD-drop a t (b - a) 0 ∙ ap-at (λ n. getD t n 0) (a + (b - a)) b (omega arith) in
-    ap (λ (n : ℕ). take n (drop a t)) e ∙ take-suc (drop a t) (b - a) 0 l ∙ ap (λ (n : ℕ). take (b - a) (drop a t) ++ (n ∷ [])) g
-
 -- ---- past a first part
 
 module _ {A : Type 0} where
-  pub set-past : (p r : List A) (i : ℕ) (v : A) → length p ≡ i → 0 < length r → set (p ++ r) i v ≡ p ++ (v ∷ drop 1 r)
-  set-past p [] i v e h = absurd (not-suc-le-zero h)
-  set-past p (y ∷ r) i v e h = set-at p y r v i e
-
   -- a store over the last of the first elements
   pub set-last : (t r : List A) (i : ℕ) (v : A) → i < length t → set (take (suc i) t ++ r) i v ≡ take i t ++ (v ∷ r)
   set-last [] r i v h = absurd (not-suc-le-zero h)
   set-last (x ∷ t) r zero v h = refl
   set-last (x ∷ t) r (suc i) v h = ap (λ (l : List A). x ∷ l) (set-last t r i v (le-of-suc-le-suc h))
-
-  pub getD-past : (p r : List A) (i j : ℕ) (d : A) → length p + j ≡ i → getD (p ++ r) i d ≡ getD r j d
-  getD-past p r i j d e = ap (λ (n : ℕ). getD (p ++ r) n d) (sym e) ∙ getD-append-add p r j d
 
   pub set-append-add : (xs ys : List A) (n : ℕ) (a : A) → set (xs ++ ys) (length xs + n) a ≡ xs ++ set ys n a
   set-append-add [] ys n a = rw zero-add

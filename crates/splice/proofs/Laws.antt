@@ -1,14 +1,35 @@
--- Laws of the moves: one after another, and on a slice that is given by its parts with zeros behind them.
+-- Laws of the moves: one after another, part by part, and on a slice that is given by its parts with zeros behind them.
 -- Assumes nothing.
 use Prim.Native.Nat.{ℕ, _+_, _-_, _≤_, _<_}
 use mathlib.Core.Path.{_≡_, refl, sym, ap, ap₂, _∙_}
 use mathlib.Core.List.{List, [], _∷_, _++_, append-assoc}
 use native.Mathlib.Numerals.{add-one}
 use native.Mathlib.Omega.{arith}
-use lib.ListN.{length, take, drop, set, replicate, length-append, length-take, length-drop, length-replicate, replicate-append-replicate}
-use lib.Seq.{take-at, drop-at, take-take, drop-drop, set-split, take-append-le, length-take-le}
-use Rattle.lists.proofs.Moves.{ap-at, part-whole, part-at, drop-past, drop-replicate}
+use lib.ListN.{length, take, drop, set, replicate, length-append, length-take, length-drop, length-replicate, replicate-append-replicate, take-append-drop}
+use lib.Seq.{take-at, drop-at, take-take, take-add, drop-drop, drop-append-add, set-split, take-append-le, length-take-le}
+use Rattle.lists.proofs.Moves.{ap-at, part-whole, part-at, part-front, length-part, drop-past, drop-replicate}
 use Rattle.splice.specs.Moves.{part, stored, opened, inserted, removed, shifted, replaced, padded}
+
+-- ---- parts
+
+-- two parts side by side are one
+pub part-both : (t : List ℕ) (a b c : ℕ) → a ≤ b → b ≤ c → part t a b ++ part t b c ≡ part t a c
+part-both t a b c h k =
+    ap (λ (l : List ℕ). part t a b ++ take (c - b) l) (sym (drop-drop (b - a) a t ∙ ap-at (λ i. drop i t) (a + (b - a)) b (omega arith)))
+    ∙ sym (take-add (b - a) (c - b) (drop a t))
+    ∙ ap-at (λ i. take i (drop a t)) (b - a + (c - b)) (c - a) (omega arith)
+
+-- what stands before m does not depend on what follows
+part-before : (t r : List ℕ) (a b m : ℕ) → a ≤ b → b ≤ m → m ≤ length t → part (take m t ++ r) a b ≡ part t a b
+part-before t r a b m h k l =
+    let w : a + (b - a) ≤ length (take m t) = omega (arith, length-take-le m t l) in
+    part-front (take m t) r a (b - a) w
+    ∙ sym (part-front (take m t) (drop m t) a (b - a) w)
+    ∙ ap (λ (x : List ℕ). part x a b) (take-append-drop m t)
+
+-- what was stored at the start stands there
+pub stored-front : (t x c : List ℕ) (n : ℕ) → c ≡ stored t 0 x → length x ≡ n → take n c ≡ x
+stored-front t x c n e l = ap (take n) e ∙ take-at x (drop (0 + length x) t) n l
 
 -- ---- one store after another
 
@@ -56,6 +77,55 @@ module _ (t : List ℕ) (at : ℕ) (x : List ℕ) (h : at + length x ≤ length 
       let f : at + length x - (at + n) ≡ length x - n = omega arith in
       stored-over (part t (at + n) used ++ (replicate (at + n - (at + length x)) 0 ++ drop (used + (at + length x - (at + n))) t))
       ∙ ap₂ (λ (i j : ℕ). take at t ++ (x ++ (part t (at + n) used ++ (replicate i 0 ++ drop (used + j) t)))) e f
+
+-- ---- a move part by part
+
+-- from the last part on
+pub opened-more : (t : List ℕ) (a k used n : ℕ) → a ≤ k → k ≤ used → used + n ≤ length t
+    → stored (opened t k used n) (a + n) (part (opened t k used n) a k) ≡ opened t a used n
+opened-more t a k used n h l m =
+    let x : List ℕ = part t a k in
+    let r : List ℕ = part t k used ++ drop (used + n) t in
+    let lx : length x ≡ k - a = length-part t a k (omega arith) in
+    ap (stored (take (k + n) t ++ r) (a + n)) (part-before t r a k (k + n) h (omega arith) (omega arith))
+    ∙ ap-at (λ i. stored (take i t ++ r) (a + n) x) (k + n) (a + n + length x) (omega arith)
+    ∙ stored-over t (a + n) x (omega arith) r
+    ∙ ap (λ (l : List ℕ). take (a + n) t ++ l) (sym (append-assoc x (part t k used) (drop (used + n) t)) ∙ ap (λ (l : List ℕ). l ++ drop (used + n) t) (part-both t a k used h l))
+
+-- what stands before k - n when the part from at + n up to k has been moved
+abbrev pub moved : List ℕ → ℕ → ℕ → ℕ → List ℕ
+moved t at n k = take at t ++ part t (at + n) k
+
+-- from the first part on
+module _ (t : List ℕ) (at n : ℕ) where
+  pub length-moved : (k : ℕ) → at + n ≤ k → k ≤ length t → length (moved t at n k) ≡ k - n
+  length-moved k h l =
+      length-append (take at t) (part t (at + n) k)
+      ∙ omega (arith, length-take-le at t (omega arith), length-part t (at + n) k l)
+
+  pub moved-more : (u : List ℕ) (k e : ℕ) → at + n ≤ k → k ≤ e → e ≤ length t → u ≡ moved t at n k ++ drop (k - n) t
+      → stored u (k - n) (part u k e) ≡ moved t at n e ++ drop (e - n) t
+  moved-more u k e h l m w =
+      let p : List ℕ = moved t at n k in
+      let r : List ℕ = drop (k - n) t in
+      let x : List ℕ = part t k e in
+      let lp : length p ≡ k - n = length-moved k h (omega arith) in
+      let lx : length x ≡ e - k = length-part t k e m in
+      let read : part (p ++ r) k e ≡ x =
+      ap-at (λ i. take (e - k) (drop i (p ++ r))) k (length p + n) (omega arith)
+      ∙ ap (take (e - k)) (drop-append-add p r n ∙ drop-drop n (k - n) t ∙ ap-at (λ i. drop i t) (k - n + n) k (omega arith))
+      in
+      let rest : drop (k - n + length x) (p ++ r) ≡ drop (e - n) t =
+      ap-at (λ i. drop i (p ++ r)) (k - n + length x) (length p + length x) (omega arith)
+      ∙ drop-append-add p r (length x)
+      ∙ drop-drop (length x) (k - n) t
+      ∙ ap-at (λ i. drop i t) (k - n + length x) (e - n) (omega arith)
+      in
+      ap (λ (l : List ℕ). stored l (k - n) (part l k e)) w
+      ∙ ap (stored (p ++ r) (k - n)) read
+      ∙ ap₂ (λ (a b : List ℕ). a ++ (x ++ b)) (take-at p r (k - n) lp) rest
+      ∙ sym (append-assoc p x (drop (e - n) t))
+      ∙ ap (λ (l : List ℕ). l ++ drop (e - n) t) (append-assoc (take at t) (part t (at + n) k) x ∙ ap (λ (l : List ℕ). take at t ++ l) (part-both t (at + n) k e h l))
 
 -- ---- a shift is one of the three
 

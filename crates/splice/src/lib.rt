@@ -2,9 +2,9 @@
 // `used` is where the bytes that are in use end; what lies behind it is not read.
 
 ghost use mathlib.Core.Path.{_≡_};
-ghost use Prim.Native.Nat.{_+_, _≤_};
+ghost use Prim.Native.Nat.{_+_, _-_, _≤_, _<_};
 ghost use lib.ListN.{length, replicate};
-ghost use Rattle.splice.specs.Moves.{stored, opened, inserted, removed, shifted, replaced};
+ghost use Rattle.splice.specs.Moves.{part, stored, opened, inserted, removed, shifted, replaced};
 
 // Every byte becomes zero.
 pub fn clear(t: &mut [u8])
@@ -29,6 +29,26 @@ pub fn store(t: &mut [u8], at: usize, src: &[u8])
     }
 }
 
+// How much is copied at once.
+const ROOM: usize = 4096;
+
+// How much of the bytes that are left is copied next.
+fn next_size(left: usize) -> usize
+    ensures { λ r. ⌜ (r ≤ left) × (r ≤ 4096) × (0 < left → 0 < r) ⌝ }
+{
+    if ROOM < left { ROOM } else { left }
+}
+
+// What stands from `from` up to `to` is copied over what stands at `at`, also where both overlap: by way of a copy.
+fn copy_part(t: &mut [u8], from: usize, to: usize, at: usize)
+    requires { ⌜ (from ≤ to) × (to ≤ length (now t)) × (to ≤ from + 4096) × (at + (to - from) ≤ length (now t)) ⌝ }
+    ensures { λ _. ⌜ now (t .exit) ≡ stored (now (t .entry)) at (part (now (t .entry)) from to) ⌝ }
+{
+    let mut copy = [0u8; ROOM];
+    store(&mut copy, 0, &t[from..to]);
+    store(t, at, &copy[..to - from]);
+}
+
 // What stands from `at` up to `used` goes n further on; the caller fills the gap.
 pub fn open_gap(t: &mut [u8], at: usize, used: usize, n: usize)
     requires { ⌜ (at ≤ used) × (used + n ≤ length (now t)) ⌝ }
@@ -36,8 +56,9 @@ pub fn open_gap(t: &mut [u8], at: usize, used: usize, n: usize)
 {
     let mut k = used;
     while at < k {
-        k -= 1;
-        t[k + n] = t[k];
+        let size = next_size(k - at);
+        copy_part(t, k - size, k, k - size + n);
+        k -= size;
     }
 }
 
@@ -48,8 +69,9 @@ pub fn remove(t: &mut [u8], at: usize, used: usize, n: usize)
 {
     let mut k = at + n;
     while k < used {
-        t[k - n] = t[k];
-        k += 1;
+        let size = next_size(used - k);
+        copy_part(t, k, k + size, k - n);
+        k += size;
     }
     clear(&mut t[k - n..used]);
 }
