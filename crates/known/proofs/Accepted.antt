@@ -14,12 +14,12 @@ use Rattle.lists.specs.Bytes.{between, isBlank, isUpper}
 use Rattle.lists.specs.Runs.{Part, spanAt}
 use Rattle.lists.specs.Items.{isInBraces}
 use Rattle.lists.specs.Checked.{Checked, refused, ok, _>>=_, _>>_, require, found, Holds}
-use Rattle.lists.specs.Refusal.{Refusal, key-bad, argument-bad, operator-bad, value-bad, content-bad}
+use Rattle.lists.specs.Refusal.{key-bad, argument-bad, operator-bad, value-bad, content-bad}
 use Rattle.lists.specs.Sizes.{mostKey, mostValue}
 use Rattle.lists.proofs.Rest.{byte-in}
-use Rattle.lists.proofs.Checked.{holds-bind}
+use Rattle.lists.proofs.Checked.{holds-bind, holds-found}
 use Rattle.rules.specs.Key.{Key, Op, Takes, takes-none, takes-one, takes-type, Row, allows, rowOf}
-use Rattle.rules.specs.Reading.{unblank, absent, present, opOf, readOp, quoted, unescape, readValue, sound, readPair}
+use Rattle.rules.specs.Reading.{unblank, absent, present, opOf, readArgument, readOp, quoted, unescape, readValue, sound, readPair}
 use Rattle.keys.specs.Table.{keyOf, operatorOf}
 use Rattle.scan.specs.Ends.{RunEnd}
 use Rattle.pairs.specs.declared.Pair.{Pair}
@@ -32,7 +32,9 @@ use Rattle.pairs.specs.Bounds.{Closes, ValueAt}
 use Rattle.pairs.proofs.Closing.{value-unclosed, value-closed, value-size}
 use Rattle.pairs.proofs.Reading.{unblank-at, key-at, no-brace, brace, brace-open, brace-wrong, brace-right, operator-at, no-mark, mark, sized}
 use Rattle.pairs.proofs.Whole.{judged, read-written}
-use Rattle.known.specs.Known.{Known}
+use Rattle.known.specs.Known.{argumentPart, ArgumentKnown, operatorPart, Known}
+use Rattle.known.specs.declared.KnownArgument.{KnownArgument}
+use Rattle.known.specs.declared.KnownOperator.{KnownOperator}
 use Rattle.rules.specs.Pair as pair
 use Rattle.keys.specs.declared.Key as code
 use Rattle.keys.specs.declared.Operator as code′
@@ -82,52 +84,39 @@ no-value s b l = no-mark s b (λ q. omega (arith, byte-in s b 34 q (omega arith)
 
 -- ---- the operator
 
-pub operator-holds : (Q : Part pair.Pair → Type 0) (s : List ℕ) (b : ℕ) (allowed : List Op) (r : OperatorRead)
+pub operator-holds : (Q : Part Op → Type 0) (s : List ℕ) (b : ℕ) (allowed : List Op) (r : OperatorRead)
     → ((bs : List ℕ) → operatorBy r bs ≡ opOf (getD s b 0) (getD s (b + 1) 0) (drop 1 bs) (drop 2 bs))
-    → (f : Part Op → Checked Refusal (Part pair.Pair))
-    → ((o : Part Op) → operatorBy r (drop b s) ≡ some o → Holds Q (f o)) → Holds Q (readOp allowed (drop b s) >>= f)
-operator-holds Q s b allowed r h f g = rw (operator-at s b allowed r h) (go (operatorBy r (drop b s)) refl)
-  where
-    go : (x : Option (Part Op)) → operatorBy r (drop b s) ≡ x
-        → Holds Q ((found x operator-bad >>= λ (o : Part Op). require (allows allowed (o .value)) operator-bad >> ok o) >>= f)
-    go none e = tt
-    go (some o) e = one (allows allowed (o .value))
-      where
-        one : (t : Bool) → Holds Q ((require t operator-bad >> ok o) >>= f)
-        one true = g o e
-        one false = tt
+    → ((o : Part Op) → operatorBy r (drop b s) ≡ some o → Q o) → Holds Q (readOp allowed (drop b s))
+operator-holds Q s b allowed r h g =
+    rw (operator-at s b allowed r h)
+    (holds-bind (λ (o : Part Op). operatorBy r (drop b s) ≡ some o) Q (found (operatorBy r (drop b s)) operator-bad) _
+    (holds-found (operatorBy r (drop b s)) operator-bad)
+    (λ o e. require-holds Q (allows allowed (o .value)) operator-bad (ok o) (λ _. g o e)))
 
 -- ---- the argument
 
-module _ (Q : Part pair.Pair → Type 0) (s : List ℕ) (at : ℕ) (row : Row) where
-  abbrev rest : Part (List ℕ) → Checked Refusal (Part pair.Pair)
-  rest a = operatorThen (row .key) (row .allowed) (a .value) (a .rest)
-
-  pub absent-holds : (getD s at 0 ≡ 123 → ⊥) → Holds Q (rest (record { value = []; rest = drop at s })) → Holds Q (argumentThen row (drop at s))
-  unfolding argumentThen
-  absent-holds n h = rw (no-brace s at (row .takes) n) (go (row .takes))
+module _ (Q : Part (List ℕ) → Type 0) (s : List ℕ) (at : ℕ) (takes : Takes) where
+  pub absent-holds : (getD s at 0 ≡ 123 → ⊥) → Q (record { value = []; rest = drop at s }) → Holds Q (readArgument takes (drop at s))
+  absent-holds n h = rw (no-brace s at takes n) (go takes)
     where
-      go : (t : Takes) → Holds Q (absent t (drop at s) >>= rest)
+      go : (t : Takes) → Holds Q (absent t (drop at s))
       go takes-none = h
       go takes-one = tt
       go takes-type = h
 
   pub present-holds : getD s at 0 ≡ 123 → (e : ℕ) → at + 1 ≤ e → e ≡ spanAt isInBraces s (at + 1)
-      → (e < length s → Holds Q (rest (record { value = part s (at + 1) e; rest = drop (e + 1) s }))) → Holds Q (argumentThen row (drop at s))
-  unfolding argumentThen
-  present-holds b e f p h = rw (brace s at (row .takes) b) (go (leb (length s) e) refl)
+      → Q (record { value = part s (at + 1) e; rest = drop (e + 1) s }) → Holds Q (readArgument takes (drop at s))
+  present-holds b e f p h = rw (brace s at takes b) (go (leb (length s) e) refl)
     where
-      go : (t : Bool) → leb (length s) e ≡ t → Holds Q (present (row .takes) (drop (at + 1) s) >>= rest)
-      go true l = rw (brace-open s (at + 1) e p (row .takes) (leb-true (length s) e l)) tt
-      go false l = let i = leb-false (length s) e l in sized (between 1 mostKey (e - (at + 1))) refl i
+      go : (t : Bool) → leb (length s) e ≡ t → Holds Q (present takes (drop (at + 1) s))
+      go true l = rw (brace-open s (at + 1) e p takes (leb-true (length s) e l)) tt
+      go false l = sized (between 1 mostKey (e - (at + 1))) refl (leb-false (length s) e l)
         where
-          sized : (x : Bool) → between 1 mostKey (e - (at + 1)) ≡ x → e < length s → Holds Q (present (row .takes) (drop (at + 1) s) >>= rest)
-          sized true m i = rw (brace-right s (at + 1) e p (row .takes) f i m) (typed (typeAllowed (row .takes) (part s (at + 1) e)))
-            where
-              typed : (y : Bool) → Holds Q ((require y argument-bad >> ok (record { value = part s (at + 1) e; rest = drop (e + 1) s })) >>= rest)
-              typed true = h i
-              typed false = tt
-          sized false m i = rw (brace-wrong s (at + 1) e p (row .takes) f i m) tt
+          sized : (x : Bool) → between 1 mostKey (e - (at + 1)) ≡ x → e < length s → Holds Q (present takes (drop (at + 1) s))
+          sized true m i =
+              rw (brace-right s (at + 1) e p takes f i m)
+              (require-holds Q (typeAllowed takes (part s (at + 1) e)) argument-bad (ok (record { value = part s (at + 1) e; rest = drop (e + 1) s })) (λ _. h))
+          sized false m i = rw (brace-wrong s (at + 1) e p takes f i m) tt
 
 -- ---- the content
 
@@ -159,26 +148,34 @@ module _ (s : List ℕ) (at b : ℕ) (p : b ≡ spanAt isBlank s at) (key : code
       }))
       (λ v q. q))
 
--- behind an operator that was found, and where there is none
-module _ (s : List ℕ) (at b : ℕ) (p : b ≡ spanAt isBlank s at) (key : code.Key) (us ue : ℕ) (allowed : List Op) (r : OperatorRead)
+-- an operator that was found, and where there is none
+module _ (s : List ℕ) (at b : ℕ) (p : b ≡ spanAt isBlank s at) (allowed : List Op) (r : OperatorRead)
     (h : (bs : List ℕ) → operatorBy r bs ≡ opOf (getD s b 0) (getD s (b + 1) 0) (drop 1 bs) (drop 2 bs)) where
-  pub known-found : (o : code′.Operator) (width : ℕ) → r ≡ Found o width → (c : Pair)
-      → Holds (λ (q : Part pair.Pair). Known s q c) (valueThen (keyOf key) (part s us ue) (operatorOf o) (drop (b + width) s))
-      → Holds (λ (q : Part pair.Pair). Known s q c) (operatorThen (keyOf key) allowed (part s us ue) (drop at s))
-  unfolding operatorThen
-  known-found o width e c v =
+  pub known-found : (o : code′.Operator) (width : ℕ) → r ≡ Found o width
+      → Holds (λ (x : Part Op). x ≡ record { value = operatorOf o; rest = drop (b + width) s }) (readOp allowed (unblank (drop at s)))
+  known-found o width e =
       rw (unblank-at s at b p)
-      (operator-holds (λ (q : Part pair.Pair). Known s q c) s b allowed r h (λ (x : Part Op). valueThen (keyOf key) (part s us ue) (x .value) (x .rest))
+      (operator-holds (λ (x : Part Op). x ≡ record { value = operatorOf o; rest = drop (b + width) s }) s b allowed r h
       (λ x q.
       let f = Option·some-injective (record { value = operatorOf o; rest = drop width (drop b s) }) x (sym (ap (λ (y : OperatorRead). operatorBy y (drop b s)) e) ∙ q) in
-      rw (← f, drop-drop width b s) v))
+      rw (← f, drop-drop width b s)))
 
-  pub known-missing : r ≡ Missing → (c : Pair) → Holds (λ (q : Part pair.Pair). Known s q c) (operatorThen (keyOf key) allowed (part s us ue) (drop at s))
-  unfolding operatorThen
-  known-missing e c =
+  pub known-missing : (Q : Part Op → Type 0) → r ≡ Missing → Holds Q (readOp allowed (unblank (drop at s)))
+  known-missing Q e =
       rw (unblank-at s at b p)
-      (operator-holds (λ (q : Part pair.Pair). Known s q c) s b allowed r h (λ (x : Part Op). valueThen (keyOf key) (part s us ue) (x .value) (x .rest))
+      (operator-holds Q s b allowed r h
       (λ x q. absurd (Option·none-ne-some x (sym (ap (λ (y : OperatorRead). operatorBy y (drop b s)) e) ∙ q))))
+
+-- behind an argument and an operator that are known
+pub behind-holds : (Q : Part pair.Pair → Type 0) (s : List ℕ) (at : ℕ) (row : Row) (a : KnownArgument) → ArgumentKnown s at a
+    → (o : KnownOperator) → ((allowed : List Op) → Holds (λ (x : Part Op). x ≡ operatorPart s o) (readOp allowed (unblank (drop (a .next) s))))
+    → Holds Q (valueThen (row .key) (part s (a .start) (a .end)) (operatorOf (o .operator)) (drop (o .next) s)) → Holds Q (argumentThen row (drop at s))
+unfolding argumentThen operatorThen
+behind-holds Q s at row a h o g v =
+    holds-bind (λ (x : Part (List ℕ)). x ≡ argumentPart s a) Q (readArgument (row .takes) (drop at s)) _ (h .is (row .takes))
+    (λ x e.
+    rw e
+    (holds-bind (λ (y : Part Op). y ≡ operatorPart s o) Q (readOp (row .allowed) (unblank (drop (a .next) s))) _ (g (row .allowed)) (λ y f. rw f v)))
 
 -- ---- the key
 

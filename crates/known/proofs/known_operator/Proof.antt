@@ -32,23 +32,35 @@ operator-of-requires c κs = search needs
 enum-known-operator : tie.Need-enum-known-operator
 enum-known-operator c = search needs
 
-add-known-value : tie.Need-add-known-value
-add-known-value c = let w : WidthIn (Found (c .before .operator .given .0 .0) (c .before .operator .given .0 .1 .0)) = rw (c .before .operator .given .1) at (c .before .before .before .operator-of .ensures .1) in omega (arith, w, c .before .before .before .before .before .before .blank-end .ensures .within)
-
-known-value-requires : tie.Need-known-value-requires
-known-value-requires c κs = search needs
+add-next : tie.Need-add-next
+add-next c =
+    let found = c .before .operator .given in
+    let w : WidthIn (Found (found .0 .0) (found .0 .1 .0)) = rw (found .1) at (c .before .before .before .operator-of .ensures .1) in
+    omega (arith, w, c .before .before .before .before .before .before .blank-end .ensures .within)
 
 enum-told : tie.Need-enum-told
 enum-told c = search needs
 
-known-value-requires-2 : tie.Need-known-value-requires-2
-known-value-requires-2 c κs = search needs
-
 returns : tie.Need-returns
-returns c = let s = c .before .before .before .before .before .before .before .before .before .args .line .now in let b = c .before .before .before .before .before .before .before .blank-end .result in let h : (bs : List ℕ) → operatorBy (c .before .before .before .before .operator-of .result) bs ≡ opOf (getD s b 0) (getD s (b + 1) 0) (drop 1 bs) (drop 2 bs) = λ bs. c .before .before .before .before .operator-of .ensures .0 bs ∙ rw (c .before .before .before .before .before .before .byte-at .ensures, c .before .before .before .before .before .byte-at2 .ensures) in λ allowed. known-found s (c .before .before .before .before .before .before .before .before .before .args .at) b (c .before .before .before .before .before .before .before .blank-end .ensures .place) (c .before .before .before .before .before .before .before .before .before .args .key) (c .before .before .before .before .before .before .before .before .before .args .arg-start) (c .before .before .before .before .before .before .before .before .before .args .arg-end) allowed (c .before .before .before .before .operator-of .result) h (c .before .before .operator .given .0 .0) (c .before .before .operator .given .0 .1 .0) (c .before .before .operator .given .1) (c .known-value .result) (c .known-value .ensures)
+returns c =
+    let args = c .before .before .before .before .before .before .before .before .args in
+    let s = args .line .now in
+    let blank = c .before .before .before .before .before .before .blank-end in
+    let b = blank .result in
+    let read = c .before .before .before .operator-of in
+    let found = c .before .operator .given in
+    let h : (bs : List ℕ) → operatorBy (read .result) bs ≡ opOf (getD s b 0) (getD s (b + 1) 0) (drop 1 bs) (drop 2 bs) = λ bs. read .ensures .0 bs ∙ rw (c .before .before .before .before .before .byte-at .ensures, c .before .before .before .before .byte-at2 .ensures) in
+    λ allowed. known-found s (args .at) b (blank .ensures .place) allowed (read .result) h (found .0 .0) (found .0 .1 .0) (found .1)
 
 returns-2 : tie.Need-returns-2
-returns-2 c = let s = c .before .before .before .before .before .before .before .before .args .line .now in let b = c .before .before .before .before .before .before .blank-end .result in let h : (bs : List ℕ) → operatorBy (c .before .before .before .operator-of .result) bs ≡ opOf (getD s b 0) (getD s (b + 1) 0) (drop 1 bs) (drop 2 bs) = λ bs. c .before .before .before .operator-of .ensures .0 bs ∙ rw (c .before .before .before .before .before .byte-at .ensures, c .before .before .before .before .byte-at2 .ensures) in λ allowed. known-missing s (c .before .before .before .before .before .before .before .before .args .at) b (c .before .before .before .before .before .before .blank-end .ensures .place) (c .before .before .before .before .before .before .before .before .args .key) (c .before .before .before .before .before .before .before .before .args .arg-start) (c .before .before .before .before .before .before .before .before .args .arg-end) allowed (c .before .before .before .operator-of .result) h (c .before .enum-told .given .1) (c .known-value2 .result)
+returns-2 c =
+    let args = c .before .before .before .before .before .before .before .args in
+    let s = args .line .now in
+    let blank = c .before .before .before .before .before .blank-end in
+    let b = blank .result in
+    let read = c .before .before .operator-of in
+    let h : (bs : List ℕ) → operatorBy (read .result) bs ≡ opOf (getD s b 0) (getD s (b + 1) 0) (drop 1 bs) (drop 2 bs) = λ bs. read .ensures .0 bs ∙ rw (c .before .before .before .before .byte-at .ensures, c .before .before .before .byte-at2 .ensures) in
+    λ allowed. known-missing s (args .at) b (blank .ensures .place) allowed (read .result) h _ (c .enum-told .given .1)
 
 pub known-operator-spec : {M : Type 1} → statement M
 known-operator-spec =
@@ -60,9 +72,7 @@ known-operator-spec =
     byte-at-requires-2
     operator-of-requires
     enum-known-operator
-    add-known-value
-    known-value-requires
+    add-next
     enum-told
-    known-value-requires-2
     returns
     returns-2)

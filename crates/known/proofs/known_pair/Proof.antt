@@ -5,7 +5,7 @@ use borrow.Author.Needs.{needs}
 use lib.ListN.{drop}
 use Rattle.lists.specs.Runs.{Part}
 use Rattle.known.specs.Known.{Known}
-use Rattle.known.proofs.Accepted.{content-holds, key-holds}
+use Rattle.known.proofs.Accepted.{content-holds, behind-holds, key-holds}
 use Rattle.known.proofs.known_pair.Statement.{statement}
 use Rattle.rules.specs.Pair as pair
 use Rattle.known.proofs.known_pair.Tie as tie
@@ -31,8 +31,26 @@ known-key-requires c κs = search needs
 known-argument-requires : tie.Need-known-argument-requires
 known-argument-requires c κs = omega (arith, c .before .before .upper-end .ensures .within, c .before .before .before .blank-end .ensures .within)
 
+known-operator-requires : tie.Need-known-operator-requires
+known-operator-requires c κs = c .known-argument .ensures .next-in
+
+known-value-requires : tie.Need-known-value-requires
+known-value-requires c κs = let argument = c .before .known-argument .ensures in (argument .from, argument .within)
+
 returns : tie.Need-returns
-returns c = let Q : Part pair.Pair → Type 0 = λ q. Known (c .before .before .before .before .before .before .args .line .now) q (c .known-argument .result) in content-holds Q (drop (c .before .before .before .before .before .before .args .at) (c .before .before .before .before .before .before .args .line .now)) (key-holds Q (c .before .before .before .before .before .before .args .line .now) (c .before .before .before .before .before .before .args .at) (c .before .before .before .before .blank-end .result) (c .before .before .before .upper-end .result) (c .before .before .before .before .blank-end .ensures .place) (c .before .before .before .upper-end .ensures .place) (λ row e. c .known-argument .ensures row (c .before .known-key .ensures row e)))
+returns c =
+    let args = c .before .before .before .before .before .before .before .before .args in
+    let s = args .line .now in
+    let blank = c .before .before .before .before .before .before .blank-end in
+    let upper = c .before .before .before .before .before .upper-end in
+    let argument = c .before .before .known-argument in
+    let operator = c .before .known-operator in
+    let Q : Part pair.Pair → Type 0 = λ q. Known s q (c .known-value .result) in
+    content-holds Q (drop (args .at) s)
+    (key-holds Q s (args .at) (blank .result) (upper .result) (blank .ensures .place) (upper .ensures .place)
+    (λ row e.
+    behind-holds Q s (upper .result) row (argument .result) (argument .ensures) (operator .result) (operator .ensures)
+    (rw (← c .before .before .before .known-key .ensures row e) (c .known-value .ensures))))
 
 pub known-pair-spec : {M : Type 1} → statement M
 known-pair-spec =
@@ -45,4 +63,6 @@ known-pair-spec =
     part-known-key-end
     known-key-requires
     known-argument-requires
+    known-operator-requires
+    known-value-requires
     returns)
