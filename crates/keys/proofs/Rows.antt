@@ -1,6 +1,6 @@
 -- Laws of the table: a row is found by its name alone, and stands at one place.
 -- Assumes nothing.
-use Prim.Native.Nat.{ℕ, suc, _≤_, _<_}
+use Prim.Native.Nat.{ℕ, zero, suc, _≤_, _<_}
 use mathlib.Core.Path.{_≡_, refl, sym, ap, subst, _∙_}
 use mathlib.Core.Bool.{Bool, true, false}
 use mathlib.Core.List.{List, [], _∷_}
@@ -96,5 +96,12 @@ pub last-key : (k : ℕ) → 19 ≤ k → rules.OPTIONS ≡ keyIn k rows
 unfolding bytes rows
 last-key k h = ⊎-elim (λ e. rw (← e)) (λ l. rw (nth-beyond rows k l)) (eq-or-lt-of-le h)
 
-pub past : {n k : ℕ} → n ≤ k → (k ≡ n → ⊥) → suc n ≤ k
-past h e = omega arith
+-- k is none of the first n numbers, as a match that goes on knows it
+unfoldable pub Unlike : ℕ → ℕ → Type 0
+Unlike k zero = Unit {0}
+Unlike k (suc n) = Unlike k n × (k ≡ n → ⊥)
+
+pub beyond : (k n : ℕ) → Unlike k n → n ≤ k
+unfolding Unlike
+beyond k zero r = omega arith
+beyond k (suc n) (r, e) = let h = beyond k n r in omega arith

@@ -1,9 +1,8 @@
 -- `keys::key_at` meets its contract.
 -- Assumes nothing.
-use Prim.Native.Nat.{zero-le}
 use Rattle.rules.specs.Key.{rows}
 use Rattle.lists.specs.Quoted.{bytes}
-use Rattle.keys.proofs.Rows.{last-key, past}
+use Rattle.keys.proofs.Rows.{last-key, Unlike, beyond}
 use Rattle.keys.proofs.key_at.Statement.{statement}
 use Rattle.keys.proofs.key_at.Tie as tie
 
@@ -84,7 +83,8 @@ unfolding bytes rows
 returns-19 c = rw (c .match .keys19)
 
 returns-20 : tie.Need-returns-20
-returns-20 c = let r = c .match .rest in last-key (c .before .args .place) (past (past (past (past (past (past (past (past (past (past (past (past (past (past (past (past (past (past (past zero-le (r .0 .0 .0 .0 .0 .0 .0 .0 .0 .0 .0 .0 .0 .0 .0 .0 .0 .0 .1)) (r .0 .0 .0 .0 .0 .0 .0 .0 .0 .0 .0 .0 .0 .0 .0 .0 .0 .1)) (r .0 .0 .0 .0 .0 .0 .0 .0 .0 .0 .0 .0 .0 .0 .0 .0 .1)) (r .0 .0 .0 .0 .0 .0 .0 .0 .0 .0 .0 .0 .0 .0 .0 .1)) (r .0 .0 .0 .0 .0 .0 .0 .0 .0 .0 .0 .0 .0 .0 .1)) (r .0 .0 .0 .0 .0 .0 .0 .0 .0 .0 .0 .0 .0 .1)) (r .0 .0 .0 .0 .0 .0 .0 .0 .0 .0 .0 .0 .1)) (r .0 .0 .0 .0 .0 .0 .0 .0 .0 .0 .0 .1)) (r .0 .0 .0 .0 .0 .0 .0 .0 .0 .0 .1)) (r .0 .0 .0 .0 .0 .0 .0 .0 .0 .1)) (r .0 .0 .0 .0 .0 .0 .0 .0 .1)) (r .0 .0 .0 .0 .0 .0 .0 .1)) (r .0 .0 .0 .0 .0 .0 .1)) (r .0 .0 .0 .0 .0 .1)) (r .0 .0 .0 .0 .1)) (r .0 .0 .0 .1)) (r .0 .0 .1)) (r .0 .1)) (r .1))
+unfolding Unlike
+returns-20 c = last-key (c .before .args .place) (beyond (c .before .args .place) 19 (c .match .rest))
 
 pub key-at-spec : {M : Type 1} → statement M
 key-at-spec =
