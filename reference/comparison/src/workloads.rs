@@ -23,7 +23,8 @@ pub fn counter() -> Device {
     parse_device(form).expect("the form describes a sound device")
 }
 
-/// The texts with what the daemon takes on them, then the jumps.
+/// The texts with what the daemon takes on them, then jumps, then texts that ask little of a reader and much of what
+/// the engine does beside reading.
 pub fn workloads() -> Vec<Workload> {
     vec![
         plain_miss(),
@@ -35,7 +36,11 @@ pub fn workloads() -> Vec<Workload> {
         jumps_far(),
         jumps_alike(),
         jumps_one_hash(),
+        jumps_nowhere(),
         jumps_over(),
+        short_lines(),
+        short_pairs(),
+        full_record(),
     ]
 }
 
@@ -113,7 +118,7 @@ fn site() -> Workload {
 fn jumps_far() -> Workload {
     let half = sizes::RULES / 2;
     let label = |i| format!("rope_counter_station_{i:04}");
-    jumps(
+    workload(
         "jumps_far",
         text_of(sizes::RULES, |i| {
             if i < half {
@@ -133,7 +138,7 @@ fn jumps_alike() -> Workload {
         let blocks: String = (0..7).rev().map(block).collect();
         format!("{:_<66}{blocks}", "rope")
     };
-    jumps(
+    workload(
         "jumps_alike",
         text_of(2 * half, |i| {
             if i < half {
@@ -145,28 +150,34 @@ fn jumps_alike() -> Workload {
     )
 }
 
-/// 256 jumps that are not taken, all to the last of 256 labels of 32 bytes that have one hash: the slowest
-/// arrangement that is known.
+/// 256 jumps that are not taken, all to the last of 256 labels of 32 bytes that have one hash.
 fn jumps_one_hash() -> Workload {
-    let half = sizes::RULES / 2;
-    let labels: Vec<String> = ends_of_one_hash()
-        .map(|end| format!("{:_<25}{end}", "rope"))
-        .collect();
-    jumps(
-        "jumps_one_hash",
-        text_of(2 * half, |i| {
-            if i < half {
-                format!(r#"TAG=="x",GOTO="{}""#, labels[half - 1])
-            } else {
-                format!(r#"LABEL="{}""#, labels[i - half])
-            }
-        }),
-    )
+    let labels = labels_of_one_hash();
+    let last = labels.len() - 1;
+    workload("jumps_one_hash", text_of_jumps(&labels[last], &labels))
+}
+
+/// 255 jumps to a label that is not there, before 255 others with its hash. The first is refused.
+fn jumps_nowhere() -> Workload {
+    let labels = labels_of_one_hash();
+    let (missing, others) = labels.split_last().expect("there are 256");
+    workload("jumps_nowhere", text_of_jumps(missing, others))
+}
+
+/// As many jumps to a label as there are labels, then the labels.
+fn text_of_jumps(label: &str, labels: &[String]) -> Vec<u8> {
+    text_of(2 * labels.len(), |i| {
+        if i < labels.len() {
+            format!(r#"TAG=="x",GOTO="{label}""#)
+        } else {
+            format!(r#"LABEL="{}""#, labels[i - labels.len()])
+        }
+    })
 }
 
 /// One jump that is taken, over 510 rules, to the last.
 fn jumps_over() -> Workload {
-    jumps(
+    workload(
         "jumps_over",
         text_of(sizes::RULES, |i| match i {
             0 => String::from(r#"GOTO="end""#),
@@ -176,7 +187,42 @@ fn jumps_over() -> Workload {
     )
 }
 
-fn jumps(name: &'static str, text: Vec<u8>) -> Workload {
+/// Comments without a word.
+fn short_lines() -> Workload {
+    workload("short_lines", text_of(16_384, |_| String::from("#")))
+}
+
+/// Four assignments a rule, of one letter each.
+fn short_pairs() -> Workload {
+    workload(
+        "short_pairs",
+        text_of(sizes::RULES, |_| {
+            String::from(r#"TAG+="a",TAG+="b",TAG+="c",TAG+="d""#)
+        }),
+    )
+}
+
+/// A record that is filled, then a link that comes and goes before all that was filled in.
+fn full_record() -> Workload {
+    let properties = 28;
+    let filled = properties + sizes::TAGS + sizes::RUNS;
+    workload(
+        "full_record",
+        text_of(sizes::RULES, |i| {
+            if i < properties {
+                format!(r#"ENV{{FILLED_{i:057}}}="{i:0256}""#)
+            } else if i < properties + sizes::TAGS {
+                format!(r#"TAG+="{i:064}""#)
+            } else if i < filled {
+                format!(r#"RUN+="{i:0256}""#)
+            } else {
+                String::from(r#"SYMLINK+="x",SYMLINK-="x""#)
+            }
+        }),
+    )
+}
+
+fn workload(name: &'static str, text: Vec<u8>) -> Workload {
     Workload {
         name,
         text,
@@ -192,15 +238,22 @@ fn ends_of_one_hash() -> impl Iterator<Item = &'static str> {
     include_str!("labels_of_one_hash.txt").lines()
 }
 
+fn labels_of_one_hash() -> Vec<String> {
+    ends_of_one_hash()
+        .map(|end| format!("{:_<25}{end}", "rope"))
+        .collect()
+}
+
 #[cfg(test)]
 mod tests {
     use super::*;
+    use reference::Outcome;
     use std::collections::HashSet;
 
     /// As crate `jumps` has it.
-    fn hash_of(name: &str) -> u32 {
-        name.bytes().fold(0, |hash: u32, byte| {
-            hash.wrapping_mul(16_777_619).wrapping_add(byte.into())
+    fn hash_of(name: &str) -> u16 {
+        name.bytes().fold(0, |hash: u16, byte| {
+            hash.wrapping_mul(403).wrapping_add(byte.into())
         })
     }
 
@@ -213,14 +266,20 @@ mod tests {
     #[test]
     fn ends_have_one_hash() {
         let ends: HashSet<&str> = ends_of_one_hash().collect();
-        let hashes: HashSet<u32> = ends.iter().map(|end| hash_of(end)).collect();
+        let hashes: HashSet<u16> = ends.iter().map(|end| hash_of(end)).collect();
         assert_eq!((ends.len(), hashes.len()), (256, 1));
     }
 
     #[test]
-    fn texts_are_accepted() {
+    fn all_texts_run_but_one() {
+        let device = counter();
+        let outcome = Outcome::fresh(&device).encode();
+        let device = device.encode();
+        let target = &mut [0; sizes::OUTCOME_TARGET];
         for Workload { name, text, .. } in workloads().into_iter().chain(family()) {
-            assert_eq!(reference::check(&text).number, 0, "{name}");
+            let answer = reference::run(&text, &device, &outcome, target);
+            let refused = if name == "jumps_nowhere" { 19 } else { 0 };
+            assert_eq!(answer.number, refused, "{name}");
         }
     }
 

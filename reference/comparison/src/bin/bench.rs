@@ -9,11 +9,12 @@ use std::time::Instant;
 use comparison::workloads::{counter, family, workloads, Workload};
 use comparison::Linked;
 use reference::compare::{run_reply, Engine, Reference};
-use reference::{sizes, Outcome};
+use reference::{generate, sizes, Outcome};
 
 const USAGE: &str = "usage: bench
        bench list                       name, bytes, rules and the daemon's instructions of each text
-       bench count ENGINE TEXT TIMES    run a text so often with an engine, linked or reference";
+       bench count ENGINE TEXT TIMES    run a text so often with an engine, linked or reference
+       bench worst CASES                the generated cases whose runs take longest beside the reference";
 
 /// How often each text is run by each engine, in turns; the best time of all counts.
 const RUNS: usize = 400;
@@ -35,6 +36,7 @@ fn main() -> ExitCode {
             Some(())
         }
         ["count", engine, text, times] => count(engine, text, times),
+        ["worst", cases] => show_worst(cases),
         _ => None,
     };
     if done.is_none() {
@@ -71,15 +73,21 @@ impl Bench {
     /// Runs a text and gives the nanoseconds that it took.
     fn run(&mut self, engine: &dyn Engine, text: &[u8]) -> f64 {
         let start = Instant::now();
-        let answer = engine.run(
+        black_box(engine.run(
             black_box(text),
             &self.device,
             &self.outcome,
             &mut self.target,
-        );
-        let time = start.elapsed();
-        assert_eq!(answer[0], 0, "an accepted text");
-        time.as_nanos() as f64
+        ));
+        start.elapsed().as_nanos() as f64
+    }
+
+    /// The best times of the linked engine and of the reference.
+    fn times_of_both(&mut self, runs: usize, text: &[u8]) -> [f64; 2] {
+        best(runs, |which| match which {
+            0 => self.run(&Linked, text),
+            _ => self.run(&Reference, text),
+        })
     }
 
     fn assert_engines_agree(&self, text: &[u8]) {
@@ -100,14 +108,11 @@ fn best<const N: usize>(runs: usize, mut run: impl FnMut(usize) -> f64) -> [f64;
     best
 }
 
-/// The best times of the linked engine and of the reference.
+/// The best times of the linked engine and of the reference on the counter.
 fn times_of_both(text: &[u8]) -> [f64; 2] {
     let mut bench = Bench::new(&[]);
     bench.assert_engines_agree(text);
-    best(RUNS, |which| match which {
-        0 => bench.run(&Linked, text),
-        _ => bench.run(&Reference, text),
-    })
+    bench.times_of_both(RUNS, text)
 }
 
 // ---- texts
@@ -174,6 +179,60 @@ fn show_growth() {
         println!("{:14} {:9.1} us {growth:>6}", workload.name, ours / 1e3);
         before = Some(ours);
     }
+}
+
+// ---- generated cases
+
+/// A few runs tell the cases that may be slow; these are timed again.
+const RUNS_OF_A_CASE: usize = 4;
+const WORST: usize = 20;
+
+fn show_worst(cases: &str) -> Option<()> {
+    let cases: u64 = cases.parse().ok()?;
+    let seeds: Vec<u64> = (0..cases).collect();
+    let suspects = slowest(&seeds, RUNS_OF_A_CASE, 10 * WORST);
+    let suspects: Vec<u64> = suspects.into_iter().map(|(seed, _)| seed).collect();
+    println!(
+        "{:>8} {:>6} {:>9} {:>13} {:>8}  case",
+        "seed", "bytes", "us a run", "reference us", "ratio"
+    );
+    for (seed, times) in slowest(&suspects, RUNS, WORST) {
+        let case = generate::case(seed);
+        println!(
+            "{seed:8} {:6} {:9.2} {:13.2} {:8.2}  {}",
+            case.text.len(),
+            times[0] / 1e3,
+            times[1] / 1e3,
+            ratio(times),
+            case.shape,
+        );
+    }
+    Some(())
+}
+
+/// The cases with the highest ratios, and their times.
+fn slowest(seeds: &[u64], runs: usize, most: usize) -> Vec<(u64, [f64; 2])> {
+    let mut timed: Vec<(u64, [f64; 2])> = seeds
+        .iter()
+        .map(|&seed| (seed, times_of_case(seed, runs)))
+        .collect();
+    timed.sort_by(|(_, first), (_, second)| ratio(*second).total_cmp(&ratio(*first)));
+    timed.truncate(most);
+    timed
+}
+
+fn ratio([ours, reference]: [f64; 2]) -> f64 {
+    ours / reference
+}
+
+fn times_of_case(seed: u64, runs: usize) -> [f64; 2] {
+    let case = generate::case(seed);
+    let mut bench = Bench {
+        device: case.device,
+        outcome: case.outcome,
+        target: vec![0; sizes::OUTCOME_TARGET],
+    };
+    bench.times_of_both(runs, &case.text)
 }
 
 // ---- one pattern
