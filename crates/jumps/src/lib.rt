@@ -224,7 +224,7 @@ fn put_labels(
 
 // The first rule that has a jump, or the number of rules.
 fn first_jump(jumps: &[u16; ROOM], count: usize) -> usize
-    requires { ⌜ (length (now jumps) ≡ 7 * mostRules) × (count ≤ mostRules) ⌝ }
+    requires { ⌜ count ≤ mostRules ⌝ }
     ensures { λ r. ⌜ (r ≤ count) × ((text : List ℕ) → settledFrom text (now (jumps .entry)) count r ≡ settledFrom text (now (jumps .entry)) count 0) ⌝ }
 {
     let mut i: usize = 0;

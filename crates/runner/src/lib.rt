@@ -22,7 +22,8 @@ pub enum Mode {
     Seek(usize, usize),
 }
 
-// A line was passed over; its rule began and did not match; it matched, and left the record in a layout and the run in a mode; or it is refused.
+// A line was passed over; its rule began and did not match; it matched, and left the record in a layout and the run in
+// a mode; or it is refused.
 pub enum LineRan {
     Skipped,
     Missed,

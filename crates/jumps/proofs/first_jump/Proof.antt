@@ -20,13 +20,13 @@ loop-holds : tie.Need-loop-holds Inv-loop μ-loop
 loop-holds c = (omega arith, λ text. refl)
 
 mul-number-at : tie.Need-mul-number-at Inv-loop μ-loop
-mul-number-at c = omega (arith, c .loop-test .taken, c .before .before .pre .1)
+mul-number-at c = omega (arith, c .loop-test .taken, c .before .before .pre)
 
 add-number-at : tie.Need-add-number-at Inv-loop μ-loop
-add-number-at c = omega (arith, c .loop-test .taken, c .before .before .pre .1)
+add-number-at c = omega (arith, c .loop-test .taken, c .before .before .pre)
 
 number-at-requires : tie.Need-number-at-requires Inv-loop μ-loop
-number-at-requires c κs = omega (arith, c .loop-test .taken, c .before .before .pre .1)
+number-at-requires c κs = omega (arith, c .loop-test .taken, c .before .before .pre)
 
 returns : tie.Need-returns Inv-loop μ-loop
 returns c = c .before .before .before .loop .inv

@@ -1,8 +1,12 @@
 -- `jumps::is_label` meets its contract: names with different hashes differ, and others are compared as they are written.
 -- Assumes nothing.
-use mathlib.Core.Path.{sym, _∙_}
+use Prim.Native.Nat.{ℕ}
+use mathlib.Core.Path.{sym, ap₂, _∙_}
+use mathlib.Core.Bool.{Bool}
 use native.Mathlib.Omega.{arith}
 use borrow.Author.Needs.{needs}
+use Rattle.lists.specs.Bytes.{sameBytes}
+use Rattle.pairs.specs.Answers.{part}
 use Rattle.jumps.proofs.Names.{label-none, label-same, label-hash}
 use Rattle.jumps.proofs.is_label.Statement.{statement}
 use Rattle.jumps.proofs.is_label.Tie as tie
@@ -50,7 +54,10 @@ same-long-requires : tie.Need-same-long-requires
 same-long-requires c κs = search needs
 
 returns-3 : tie.Need-returns-3
-returns-3 c = (rw (c .before .before .before .before .before .number-at2 .ensures, c .before .before .before .number-at3 .ensures) at (c .same-long .ensures)) ∙ label-same (c .before .before .before .before .before .before .before .before .before .args .text .now) (c .before .before .before .before .before .before .before .before .before .args .jumps .now) (c .before .before .before .before .before .before .before .before .before .args .at) (c .before .before .before .before .before .before .before .before .before .args .start) (c .before .before .before .before .before .before .before .before .before .args .end) (c .before .before .before .before .before .before .before .before .before .args .hash) (c .before .before .before .before .before .before .before .before .before .pre .2) (c .before .before .before .before .before .before .before .before .before .pre .1) (λ z. c .before .before .before .before .if2 .left (c .before .before .before .before .before .number-at2 .ensures ∙ z))
+returns-3 c =
+    let args = c .before .before .before .before .before .before .before .before .before .args in
+    let named : ℕ → ℕ → Bool = λ s e. sameBytes (part (args .text .now) (args .start) (args .end)) (part (args .text .now) s e) in
+    c .same-long .ensures ∙ ap₂ named (c .before .before .before .before .before .number-at2 .ensures) (c .before .before .before .number-at3 .ensures) ∙ label-same (c .before .before .before .before .before .before .before .before .before .args .text .now) (c .before .before .before .before .before .before .before .before .before .args .jumps .now) (c .before .before .before .before .before .before .before .before .before .args .at) (c .before .before .before .before .before .before .before .before .before .args .start) (c .before .before .before .before .before .before .before .before .before .args .end) (c .before .before .before .before .before .before .before .before .before .args .hash) (c .before .before .before .before .before .before .before .before .before .pre .2) (c .before .before .before .before .before .before .before .before .before .pre .1) (λ z. c .before .before .before .before .if2 .left (c .before .before .before .before .before .number-at2 .ensures ∙ z))
 
 pub is-label-spec : {M : Type 1} → statement M
 is-label-spec =

@@ -21,7 +21,7 @@ abbrev μ-loop : tie.MeasureT-loop
 μ-loop text jumps count i₀ heads₀ later i heads = count - i
 
 first-jump-requires : tie.Need-first-jump-requires Inv-loop μ-loop
-first-jump-requires c κs = (c .before .pre .1 .room, c .before .pre .1 .few)
+first-jump-requires c κs = c .before .pre .1 .few
 
 returns : tie.Need-returns Inv-loop μ-loop
 returns c = λ rs d. sym (settle-end (c .before .before .before .args .text .now) (c .before .before .before .args .jumps .now) (c .before .first-jump .result) (c .before .before .before .args .count) (omega (arith, c .if1 .taken))) ∙ c .before .first-jump .ensures .1 (c .before .before .before .args .text .now) ∙ noted-settle (c .before .before .before .args .text .now) (c .before .before .before .args .jumps .now) (c .before .before .before .args .count) rs d
