@@ -4,7 +4,7 @@
 
 #include "spillfinch.h"
 
-/* ttyUSB0 with one property and no parents; the README of reference/ shows how such records are packed from text. */
+/* ttyUSB0 with one property and no parents; the README of rust/reference shows how such records are packed from text. */
 static const uint8_t device[] = "\x10\x10\xbc\x00\x00\x00\x40"            /* one device; add; node 188:0; 1 property */
                                 "\x10\x07" "ID_MODEL" "counter"           /* key 8 bytes, value 7 */
                                 "\x0a\x86\x00\x00" "/devices/usb1/ttyUSB0" "tty"; /* path 21 bytes, subsystem 3, no driver, no attributes */
