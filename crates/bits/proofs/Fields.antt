@@ -2,19 +2,21 @@
 -- Assumes nothing.
 use Prim.Native.Nat.{ℕ, zero, suc, _+_, _*_, _/_, _%_, _^_, _≤_, _<_}
 use mathlib.Core.Path.{_≡_, refl, sym, ap, ap₂, _∙_}
+use mathlib.Core.Bool.{Bool, true, false}
 use mathlib.Core.List.{List, [], _∷_, _++_, map}
 use native.Mathlib.Nat.{mod-eq-of-lt}
 use native.Mathlib.Omega.{arith}
 use lib.ListN.{length, take, drop, length-append, length-drop}
+use lib.Dec.{eqb}
 use lib.Seq.{take-all, take-at, drop-at, drop-drop, length-take-le, take-add, append-snoc}
 use Rattle.lists.specs.Bytes.{Bytes}
 use Rattle.lists.specs.Lists.{All}
 use Rattle.lists.proofs.Lists.{All-append, cat-append}
 use Rattle.lists.proofs.Moves.{ap-at, drop-past, bytes-take}
 use Rattle.bits.specs.Bits.{toBits, fromBits, bitsOf, bytesOf, numberAt, putBits, putAt}
-use Rattle.bits.specs.Fields.{Field, width, fieldBits, packed, fieldsAt}
+use Rattle.bits.specs.Fields.{Field, width, fieldBits, packed, fieldsAt, bit, flagAt}
 use Rattle.bits.proofs.Bits.{Bits, length-toBits, bits-toBits, toBits-append, from-to, from-append, to-from-at, length-bits, bits-bits, bits-take, bits-part, length-bytes, bytes-bytes, bits-bytes, bytes-bits}
-use Rattle.bits.proofs.Numbers.{number-front}
+use Rattle.bits.proofs.Numbers.{number-lt, number-front}
 use Rattle.bits.proofs.Puts.{put-front}
 
 -- ---- the bits
@@ -171,3 +173,21 @@ packed-digits fs k w =
     ∙ ap (bytesOf k) (sym (to-from-at (8 * k) (fieldBits fs) (length-fields fs ∙ w) (bits-fields fs)))
     ∙ bytes-digits k (fromBits (fieldBits fs))
     ∙ ap (digits k) (fields-number fs)
+
+-- ---- flags
+
+pub bit-small : (b : Bool) → bit b < 2
+bit-small true = omega arith
+bit-small false = omega arith
+
+pub eqb-bit : (b : Bool) → eqb (bit b) 1 ≡ b
+eqb-bit true = refl
+eqb-bit false = refl
+
+pub bit-eqb : (n : ℕ) → n < 2 → bit (eqb n 1) ≡ n
+bit-eqb zero h = refl
+bit-eqb (suc zero) h = refl
+bit-eqb (suc (suc n)) h = absurd (omega arith)
+
+pub bit-flag : (bs : List ℕ) (at : ℕ) → bit (flagAt bs at) ≡ numberAt bs at 1
+bit-flag bs at = bit-eqb (numberAt bs at 1) (number-lt bs at 1)

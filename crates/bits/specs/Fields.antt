@@ -1,7 +1,9 @@
 -- Fields packed one behind the other.
 -- Assumes nothing.
 use Prim.Native.Nat.{ℕ, _+_, _/_}
+use mathlib.Core.Bool.{Bool, true, false}
 use mathlib.Core.List.{List, [], _∷_}
+use lib.Dec.{eqb}
 use Rattle.lists.specs.Lists.{cat}
 use Rattle.bits.specs.Bits.{toBits, bytesOf, numberAt}
 
@@ -26,3 +28,12 @@ packed fs = bytesOf (width fs / 8) (fieldBits fs)
 abbrev pub fieldsAt : List ℕ → ℕ → List ℕ → List Field
 fieldsAt s at [] = []
 fieldsAt s at (n ∷ ns) = (n, numberAt s at n) ∷ fieldsAt s (at + n) ns
+
+-- a flag as one bit
+abbrev pub bit : Bool → ℕ
+bit true = 1
+bit false = 0
+
+-- the flag at a bit of some bytes
+abbrev pub flagAt : List ℕ → ℕ → Bool
+flagAt bs at = eqb (numberAt bs at 1) 1

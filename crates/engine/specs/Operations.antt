@@ -10,13 +10,12 @@ use Rattle.lists.specs.Lists.{cat}
 use Rattle.lists.specs.Checked.{Checked, refused, ok, _>>=_, _>>_, require, found, Placed, line, onLine}
 use Rattle.lists.specs.Refusal.{Refusal, target-short, device-bad, outcome-bad}
 use Rattle.lists.specs.Sizes.{fullestOutcome, fullestRunList}
-use Rattle.bits.specs.Fields.{Field, packed}
+use Rattle.bits.specs.Fields.{Field, packed, bit}
 use Rattle.entries.specs.Entry.{Property}
 use Rattle.rules.specs.Reading.{reader}
 use Rattle.device.specs.Device as D
 use Rattle.device.specs.Device.{Device, chain}
 use Rattle.outcome.specs.State as O
-use Rattle.outcome.specs.Head.{bit}
 use Rattle.outcome.specs.State.{State, Run}
 use Rattle.text.specs.Engine.{Engine}
 use Rattle.text.specs.Run as generic

@@ -15,8 +15,8 @@ use Rattle.lists.proofs.Moves.{ap-at}
 use Rattle.bits.specs.Bits.{numberAt}
 use Rattle.bits.specs.Fields.{packed}
 use Rattle.bits.proofs.Fields.{read-packed, length-packed}
-use Rattle.outcome.specs.Head.{bit, flagAt}
-use Rattle.outcome.proofs.Head.{bit-small, eqb-bit}
+use Rattle.bits.specs.Fields.{bit, flagAt}
+use Rattle.bits.proofs.Fields.{bit-small, eqb-bit}
 use Rattle.engine.specs.Operations.{Command, commandFields, encCommand, listFields, runList}
 use Rattle.engine.specs.Listing.{escaped, lineOf, commandLine}
 use Rattle.insertion.specs.declared.Put.{Put}

@@ -5,7 +5,7 @@ use mathlib.Core.Path.{_≡_}
 use mathlib.Core.List.{List, [], _++_}
 use lib.ListN.{length, take, drop}
 use Rattle.bits.specs.Bits.{numberAt}
-use Rattle.outcome.specs.Head.{flagAt}
+use Rattle.bits.specs.Fields.{flagAt}
 use Rattle.engine.specs.Operations.{Command}
 use Rattle.engine.specs.Listing.{commandLine}
 use Rattle.listing_commands.specs.declared.CommandHead.{CommandHead}

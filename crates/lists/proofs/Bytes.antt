@@ -1,6 +1,6 @@
 -- Laws of lists of bytes: equality both ways, membership, distinctness, no NUL.
 -- Assumes nothing.
-use Prim.Native.Nat.{ℕ, zero, suc, _+_, _<_}
+use Prim.Native.Nat.{ℕ, zero, suc, _+_, _<_, _≤_}
 use mathlib.Core.Path.{_≡_, refl, sym, ap, ap₂, _∙_, subst}
 use mathlib.Core.Bool.{Bool, true, false, not, _&&_, _||_, or-false, or-assoc}
 use mathlib.Core.List.{List, [], _∷_, _++_, map}
@@ -11,7 +11,7 @@ use lib.ListN.{length, getD, drop}
 use lib.Seq.{getD-append-add, drop-nil}
 use Rattle.lists.specs.Lists.{all, any, reject}
 use Rattle.lists.specs.Bytes.{Bytes, isSpace, isDigit, sameBytes, holds, clean, among, distinct}
-use Rattle.lists.specs.Runs.{Part, span, spanStep, onto, splitStep, splitAt, lastOf, trim, trimStep, endDigits}
+use Rattle.lists.specs.Runs.{Part, span, spanStep, onto, splitStep, splitAt, lastOf, trim, trimStep, endDigits, chomp}
 use Rattle.lists.proofs.Lists.{pick-both}
 use Rattle.lists.proofs.Tests.{and-both, both-and, neither, eqb-sym}
 
@@ -108,6 +108,21 @@ pub trim-clean : (x : List ℕ) → clean x ≡ true → clean (trim x) ≡ true
 unfolding trim
 trim-clean [] h = refl
 trim-clean (b ∷ x) h = let (p, q) = and-both (not (eqb b 0)) (clean x) h in trimStep-clean (isSpace b) b (trim x) p (trim-clean x q)
+
+pub chomp-clean : (x : List ℕ) → clean x ≡ true → clean (chomp x) ≡ true
+unfolding chomp
+chomp-clean [] h = refl
+chomp-clean (b ∷ x) h = let (p, q) = and-both (not (eqb b 0)) (clean x) h in trimStep-clean (eqb b 10) b (chomp x) p (chomp-clean x q)
+
+trimStep-size : (t : Bool) (b : ℕ) (bs : List ℕ) → length (trimStep t b bs) ≤ suc (length bs)
+trimStep-size true b [] = omega arith
+trimStep-size true b (c ∷ cs) = omega arith
+trimStep-size false b bs = omega arith
+
+pub chomp-size : (x : List ℕ) → length (chomp x) ≤ length x
+unfolding chomp
+chomp-size [] = omega arith
+chomp-size (b ∷ x) = omega (arith, trimStep-size (eqb b 10) b (chomp x), chomp-size x)
 
 pub digits-clean : (x : List ℕ) → clean x ≡ true → clean (endDigits x) ≡ true
 unfolding endDigits

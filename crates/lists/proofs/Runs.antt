@@ -109,16 +109,17 @@ module _ (p : ℕ → Bool) (s : List ℕ) (i : ℕ) where
 
 -- ---- between separators
 
-record Cons (ls : List (List ℕ)) : Type 0 where
-  first : List ℕ
-  rest : List (List ℕ)
-  is : ls ≡ first ∷ rest
+-- there is a first part
+pub record Cons (ls : List (List ℕ)) : Type 0 where
+  pub first : List ℕ
+  pub rest : List (List ℕ)
+  pub is : ls ≡ first ∷ rest
 
-step-cons : (t : Bool) (b : ℕ) (ls : List (List ℕ)) → Cons ls → Cons (splitStep t b ls)
+pub step-cons : (t : Bool) (b : ℕ) (ls : List (List ℕ)) → Cons ls → Cons (splitStep t b ls)
 step-cons true b ls c = record { first = []; rest = ls; is = refl }
 step-cons false b ls c = record { first = b ∷ c .first; rest = c .rest; is = ap (onto b) (c .is) }
 
-step-append : (t : Bool) (b : ℕ) (ls ms : List (List ℕ)) → Cons ls → splitStep t b (ls ++ ms) ≡ splitStep t b ls ++ ms
+pub step-append : (t : Bool) (b : ℕ) (ls ms : List (List ℕ)) → Cons ls → splitStep t b (ls ++ ms) ≡ splitStep t b ls ++ ms
 step-append true b ls ms c = refl
 step-append false b ls ms c = rw (c .is)
 

@@ -1,12 +1,12 @@
--- Document 01, Numbers given back: the refusals, in the order of its table, and their numbers.
+-- Document 01, Numbers given back: the refusals, in the order of its table, and their numbers; those of document 02 name their Item.
 -- Assumes nothing.
 use Prim.Native.Nat.{ℕ}
 
 pub data Refusal : Type 0 where
   target-short text-long : Refusal
-  line-bad key-bad argument-bad operator-bad value-bad content-bad pair-extra comma-missing rule-extra label-missing : Refusal
-  device-bad outcome-bad : Refusal
-  substitution-long link-bad list-full owner-bad mode-bad : Refusal
+  line-bad key-bad argument-bad operator-bad value-bad content-bad pair-extra comma-missing rule-extra label-missing line-open file-twice : Refusal
+  device-bad outcome-bad too-new sheet-bad set-bad : Refusal
+  substitution-long link-bad list-full owner-bad mode-bad command-missing mode-shared : Refusal
 
 abbrev pub number : Refusal → ℕ
 -- target below 17,611 bytes (close: 8,225)
@@ -33,10 +33,20 @@ number comma-missing = 17
 number rule-extra = 18
 -- GOTO without a later LABEL
 number label-missing = 19
+-- document 02, Item 10: a join that nothing follows; checked before the line's 10
+number line-open = 20
+-- document 02, Item 11: two files of equal name and rank
+number file-twice = 21
 -- device record faulty or over 16,384 bytes
 number device-bad = 3
 -- outcome record faulty
 number outcome-bad = 4
+-- document 02, Item 5: output or watch set where edition 1 is wanted
+number too-new = 5
+-- document 02, Item 6: answer sheet faulty
+number sheet-bad = 6
+-- document 02, Items 7, 11, 14: a set over its size or against its layout
+number set-bad = 7
 -- substituted text over 512 bytes
 number substitution-long = 30
 -- link over 128 bytes, starting with `/`, or with an empty, `.` or `..` component
@@ -47,3 +57,7 @@ number list-full = 32
 number owner-bad = 33
 -- mode faulty
 number mode-bad = 34
+-- document 02, Item 6: command that is not on the answer sheet
+number command-missing = 35
+-- document 02, Item 8: mode that lets others write
+number mode-shared = 36

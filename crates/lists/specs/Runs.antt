@@ -69,6 +69,11 @@ unfoldable pub trim : List ℕ → List ℕ
 trim [] = []
 trim (b ∷ bs) = trimStep (isSpace b) b (trim bs)
 
+-- document 02, Item 6: without the newlines at its end
+unfoldable pub chomp : List ℕ → List ℕ
+chomp [] = []
+chomp (b ∷ bs) = trimStep (eqb b 10) b (chomp bs)
+
 unfoldable pub endsInSpace : List ℕ → Bool
 endsInSpace [] = false
 endsInSpace (b ∷ []) = isSpace b

@@ -72,6 +72,20 @@ mostOwner = 32
 abbrev pub mostMode : ℕ
 mostMode = 4
 
+-- document 02, Item 5: a program's last output
+abbrev pub mostOutput : ℕ
+mostOutput = 512
+
+-- document 02, Item 6: an answer sheet, its entries, and the command of an entry
+abbrev pub mostSheet : ℕ
+mostSheet = 32768
+
+abbrev pub mostReplies : ℕ
+mostReplies = 64
+
+abbrev pub mostCommand : ℕ
+mostCommand = 512
+
 -- ---- what is made
 
 -- a substituted text

@@ -1,42 +1,23 @@
 -- The header is read back, what was read was so written, and a field put anew gives the header with that field.
 -- Assumes nothing.
-use Prim.Native.Nat.{ℕ, zero, suc, _<_}
+use Prim.Native.Nat.{ℕ, _<_}
 use mathlib.Core.Path.{_≡_, refl, sym, ap, _∙_}
-use mathlib.Core.Bool.{Bool, true, false}
 use mathlib.Core.List.{List, [], _∷_, _++_}
 use native.Mathlib.Omega.{arith}
 use lib.ListN.{length}
 use lib.Dec.{eqb}
 use Rattle.lists.specs.Bytes.{Bytes}
 use Rattle.bits.specs.Bits.{numberAt, putAt}
-use Rattle.bits.specs.Fields.{Field, packed, fieldsAt}
+use Rattle.bits.specs.Fields.{Field, packed, fieldsAt, bit, flagAt}
 use Rattle.bits.proofs.Numbers.{number-lt}
 use Rattle.bits.proofs.Fields as F
-use Rattle.bits.proofs.Fields.{length-packed}
+use Rattle.bits.proofs.Fields.{length-packed, bit-small, eqb-bit, bit-flag}
 use Rattle.entries.specs.Parse.{got}
 use Rattle.entries.specs.Entry.{exactly}
 use Rattle.entries.proofs.Heads as heads
 use Rattle.entries.proofs.Heads.{numberOf, head-read, withNumber, placeOf, widthOf, head-put}
 use Rattle.entries.proofs.Entries as entries
-use Rattle.outcome.specs.Head.{Head, bit, fields, header, flagAt, headOf}
-
--- ---- flags
-
-pub bit-small : (b : Bool) → bit b < 2
-bit-small true = omega arith
-bit-small false = omega arith
-
-pub eqb-bit : (b : Bool) → eqb (bit b) 1 ≡ b
-eqb-bit true = refl
-eqb-bit false = refl
-
-pub bit-eqb : (n : ℕ) → n < 2 → bit (eqb n 1) ≡ n
-bit-eqb zero h = refl
-bit-eqb (suc zero) h = refl
-bit-eqb (suc (suc n)) h = absurd (omega arith)
-
-pub bit-flag : (bs : List ℕ) (at : ℕ) → bit (flagAt bs at) ≡ numberAt bs at 1
-bit-flag bs at = bit-eqb (numberAt bs at 1) (number-lt bs at 1)
+use Rattle.outcome.specs.Head.{Head, fields, header, headOf}
 
 -- ---- numbers
 

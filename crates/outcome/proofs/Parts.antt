@@ -14,16 +14,15 @@ use Rattle.lists.specs.Bytes.{Bytes, okText}
 use Rattle.lists.proofs.Tests.{and-both, both-and}
 use Rattle.lists.proofs.Records.{bytes-first}
 use Rattle.bits.specs.Bits.{numberAt}
-use Rattle.bits.specs.Fields.{Field, packed, fieldsAt}
+use Rattle.bits.specs.Fields.{Field, packed, fieldsAt, flagAt}
+use Rattle.bits.proofs.Fields.{bit-small, eqb-bit, bit-flag}
 use Rattle.entries.specs.Parse.{Parse, got, bind}
 use Rattle.entries.specs.Entry.{exactly}
 use Rattle.entries.proofs.Rows.{Laws, through}
 use Rattle.entries.proofs.Heads.{numberOf, head-read, head-back}
 use Rattle.entries.proofs.Entries.{kept, keep-there, exactly-back, head-there}
 use Rattle.outcome.specs.Content.{okOwner}
-use Rattle.outcome.specs.Head.{flagAt}
 use Rattle.outcome.specs.State.{Run, modeSet, modeBits, modeOf, okModeBits, okRun, runFields, encRun, runAt, runOn, oneRun, oneOwner}
-use Rattle.outcome.proofs.Head.{bit-small, eqb-bit, bit-flag}
 
 -- ---- mode
 

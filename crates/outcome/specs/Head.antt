@@ -1,11 +1,10 @@
 -- Document 01, Packed records: the outcome record's first 11 bytes.
 -- Assumes nothing.
 use Prim.Native.Nat.{ℕ}
-use mathlib.Core.Bool.{Bool, true, false}
+use mathlib.Core.Bool.{Bool}
 use mathlib.Core.List.{List, [], _∷_}
-use lib.Dec.{eqb}
 use Rattle.bits.specs.Bits.{numberAt}
-use Rattle.bits.specs.Fields.{Field, packed}
+use Rattle.bits.specs.Fields.{Field, packed, bit, flagAt}
 
 -- which keys are closed, in the record's order
 pub record Closed : Type 0 where
@@ -30,11 +29,6 @@ pub record Head : Type 0 where
   pub tags : ℕ
   pub runs : ℕ
 
--- a flag as one bit
-abbrev pub bit : Bool → ℕ
-bit true = 1
-bit false = 0
-
 abbrev pub fields : Head → List Field
 fields h =
     (4, h .edition)
@@ -57,10 +51,6 @@ fields h =
 
 unfoldable pub header : Head → List ℕ
 header h = packed (fields h)
-
--- the flag at a bit of some bytes
-abbrev pub flagAt : List ℕ → ℕ → Bool
-flagAt bs at = eqb (numberAt bs at 1) 1
 
 abbrev pub closedOf : List ℕ → Closed
 closedOf bs =

@@ -10,13 +10,13 @@ use lib.Dec.{leb, eqb}
 use Rattle.lists.specs.Lists.{pick, cat, all}
 use Rattle.lists.specs.Bytes.{distinct, okText}
 use Rattle.bits.specs.Bits.{numberAt}
-use Rattle.bits.specs.Fields.{Field, packed}
+use Rattle.bits.specs.Fields.{Field, packed, bit, flagAt}
 use Rattle.entries.specs.Parse.{Parse, got, bad, keep, bind, many}
 use Rattle.entries.specs.Entry.{exactly, encText, oneText, Property, okProp, encProp, oneProp, keys}
 use Rattle.device.specs.Device.{Device}
 use Rattle.lists.specs.Sizes.{mostChain, mostLinks, mostProperties, mostTags, mostTag, mostRuns, mostValue}
 use Rattle.template.specs.Template.{wellFormed}
-use Rattle.outcome.specs.Head.{Closed, Head, header, headOf, bit, flagAt}
+use Rattle.outcome.specs.Head.{Closed, Head, header, headOf}
 use Rattle.outcome.specs.Content.{okLink, okOwner}
 
 -- a program to run later: its type, the place of the matched device (0 is none), its template

@@ -18,7 +18,7 @@ use Rattle.rows.specs.declared.Kind.the-variants as kind
 use Rattle.rows.specs.declared.Entry.{Entry}
 use Rattle.rows.proofs.Turns.{place-name}
 use Rattle.rows.proofs.Readers.{Reads, leb-more, short, head-cut, head-whole}
-use Rattle.outcome.specs.Head.{flagAt}
+use Rattle.bits.specs.Fields.{flagAt}
 use Rattle.outcome.specs.State.{Run, okRun, runAt, runOn, oneRun}
 use Rattle.outcome_check.specs.Check.{okRunOf}
 

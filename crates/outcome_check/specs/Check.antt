@@ -12,7 +12,8 @@ use Rattle.bits.specs.Bits.{numberAt}
 use Rattle.entries.specs.Parse.{got}
 use Rattle.rows.specs.Row.{Row, names}
 use Rattle.rows.specs.declared.Kind.the-variants as kind
-use Rattle.outcome.specs.Head.{flagAt, headOf}
+use Rattle.bits.specs.Fields.{flagAt}
+use Rattle.outcome.specs.Head.{headOf}
 use Rattle.outcome.specs.State.{State, okRun, ownerOn, apart, ended}
 use Rattle.outcome_check.specs.declared.Counts.{Counts}
 use Rattle.outcome_target.specs.Layout.{layoutOf}

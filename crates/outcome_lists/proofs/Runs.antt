@@ -12,7 +12,7 @@ use Rattle.lists.specs.Checked.{Checked, refused, ok, Holds}
 use Rattle.lists.specs.Refusal.{Refusal, list-full}
 use Rattle.lists.proofs.Moves.{ap-at}
 use Rattle.bits.specs.Bits.{numberAt}
-use Rattle.outcome.specs.Head.{bit}
+use Rattle.bits.specs.Fields.{bit}
 use Rattle.outcome.specs.State.{State, Run, Runs, Good, okRun, encRun}
 use Rattle.outcome.specs.Change.{withRuns}
 use Rattle.outcome.specs.Edits.{append}

@@ -9,7 +9,7 @@ use rows::Kind;
 ghost use mathlib.Core.Path.{_≡_};
 ghost use mathlib.Core.Bool.{true};
 ghost use Rattle.lists.specs.Sizes.{mostRuns};
-ghost use Rattle.outcome.specs.Head.{bit};
+ghost use Rattle.bits.specs.Fields.{bit};
 ghost use Rattle.outcome.specs.State.{okRun};
 ghost use Rattle.outcome.specs.Change.{withRuns};
 ghost use Rattle.outcome.specs.Edits.{append, addEntry, removeEntry};

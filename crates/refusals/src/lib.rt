@@ -1,4 +1,4 @@
-// The refusals of document 01's table, and their numbers.
+// The refusals of document 01's table and of document 02's Items, and their numbers.
 ghost use mathlib.Core.Path.{_≡_};
 ghost use Rattle.lists.specs.Refusal as refusal;
 ghost use Rattle.refusals.specs.Refusals.{refusalOf};
@@ -16,13 +16,20 @@ pub enum Refusal {
     CommaMissing,
     RuleExtra,
     LabelMissing,
+    LineOpen,
+    FileTwice,
     DeviceBad,
     OutcomeBad,
+    TooNew,
+    SheetBad,
+    SetBad,
     SubstitutionLong,
     LinkBad,
     ListFull,
     OwnerBad,
     ModeBad,
+    CommandMissing,
+    ModeShared,
 }
 
 pub fn number(r: Refusal) -> u32
@@ -41,12 +48,19 @@ pub fn number(r: Refusal) -> u32
         Refusal::CommaMissing => 17,
         Refusal::RuleExtra => 18,
         Refusal::LabelMissing => 19,
+        Refusal::LineOpen => 20,
+        Refusal::FileTwice => 21,
         Refusal::DeviceBad => 3,
         Refusal::OutcomeBad => 4,
+        Refusal::TooNew => 5,
+        Refusal::SheetBad => 6,
+        Refusal::SetBad => 7,
         Refusal::SubstitutionLong => 30,
         Refusal::LinkBad => 31,
         Refusal::ListFull => 32,
         Refusal::OwnerBad => 33,
         Refusal::ModeBad => 34,
+        Refusal::CommandMissing => 35,
+        Refusal::ModeShared => 36,
     }
 }

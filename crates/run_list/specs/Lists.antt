@@ -8,7 +8,7 @@ use Rattle.lists.specs.Lists.{cat}
 use Rattle.lists.specs.Checked.{Checked, refused, ok}
 use Rattle.lists.specs.Refusal.{Refusal, substitution-long}
 use Rattle.bits.specs.Fields.{Field}
-use Rattle.outcome.specs.Head.{bit}
+use Rattle.bits.specs.Fields.{bit}
 use Rattle.engine.specs.Operations.{Command, encCommand, runList}
 use Rattle.insertion.specs.Append.{Placed}
 use Rattle.insertion.specs.declared.Put.{Put}

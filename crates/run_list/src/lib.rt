@@ -13,7 +13,7 @@ ghost use lib.ListN.{length};
 ghost use Rattle.lists.specs.Sizes.{fullestRunList};
 ghost use Rattle.bits.specs.Fields.{packed};
 ghost use Rattle.template.specs.Template.{wellFormed};
-ghost use Rattle.outcome.specs.Head.{bit};
+ghost use Rattle.bits.specs.Fields.{bit};
 ghost use Rattle.engine.specs.Substitute.{filled};
 ghost use Rattle.engine.specs.Operations.{commands};
 ghost use Rattle.substitution.specs.Places.{Sourced, OfSource};

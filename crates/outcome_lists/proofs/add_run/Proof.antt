@@ -5,7 +5,7 @@ use lib.ListN.{length}
 use Prim.Native.Nat.{_<_}
 use Rattle.row_edits.proofs.Rows.{run-size}
 use Rattle.outcome_target.proofs.Rows.{runs-row, row-count}
-use Rattle.outcome.specs.Head.{bit}
+use Rattle.bits.specs.Fields.{bit}
 use Rattle.outcome_lists.specs.Lists.{runOf}
 use Rattle.outcome_lists.proofs.Runs.{append-last, append-full, run-room, run-grown}
 use native.Mathlib.Omega.{arith}
