@@ -22,7 +22,7 @@ use Rattle.assignment.specs.Assignment.{Assignable, Assignables}
 abbrev Content : Part Pair → Type 0
 Content q = sound (q .value .key) (q .value .op) (q .value .value) ≡ true
 
-any-holds : {A : Type 0} (c : Checked Refusal A) → Holds (λ (_ : A). Unit {0}) c
+pub any-holds : {R A : Type 0} (c : Checked R A) → Holds (λ (_ : A). Unit {0}) c
 any-holds (refused f) = tt
 any-holds (ok a) = tt
 

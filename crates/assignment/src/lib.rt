@@ -1,27 +1,18 @@
 // The assignments of a rule that matched, from left to right.
 ghost use mathlib.Core.Path.{_≡_};
-ghost use mathlib.Core.Bool.{false};
-ghost use Prim.Native.Nat.{ℕ, _≤_};
+ghost use Prim.Native.Nat.{_≤_};
 ghost use Rattle.keys.specs.Table.{operatorOf};
 ghost use Rattle.rules.specs.Key as rules;
 ghost use Rattle.records.specs.Records.{Ready};
-ghost use Rattle.assignment.specs.Assignment.{RuleFrom, Readable, PairAssigned, AllAssigned, noteJump, JumpOf};
+ghost use Rattle.assignment.specs.Assignment.{RuleRows, Readable, PairAssigned, AllAssigned};
 use assign_env::Escape;
 use assign_key::Assigned;
 use assign_key::Work;
 use device_lookup::Chain;
-use keys::Key;
 use keys::Operator;
 use outcome_target::Layout;
-use pairs::Pair;
-use refusals::Refusal;
-use rule_pairs::MarkFound;
-
-// What a rule leaves: a layout, with where the name of its GOTO is written in its line; or it is refused.
-pub enum Done {
-    Left(Layout, MarkFound),
-    Refused(Refusal),
-}
+use records::Change;
+use table::Entry;
 
 fn is_match(operator: Operator) -> bool
     ensures { λ r. ⌜ r ≡ rules.isMatch (operatorOf operator) ⌝ }
@@ -36,41 +27,27 @@ fn is_match(operator: Operator) -> bool
     }
 }
 
-// One pair that assigns, with its value unescaped.
-fn assign_value(
-    line: &[u8],
-    pair: Pair,
+// One row; a match asks nothing here.
+fn assign_pair(
+    values: &[u8],
+    entry: Entry,
     t: &mut [u8],
     work: Work,
     dev: &[u8],
     chain: Chain,
     place: usize,
 ) -> Assigned
-    requires { ⌜ Readable (now line) pair × Ready (now dev) chain (now t) (work .layout) × (place ≤ chain .len) × (rules.isMatch (operatorOf (pair .operator)) ≡ false) ⌝ }
-    ensures { λ r. ⌜ PairAssigned (now (line .entry)) pair (now (dev .entry)) chain place (now (t .entry)) work (now (t .exit)) r ⌝ }
+    requires { ⌜ Readable (now values) entry × Ready (now dev) chain (now t) (work .layout) × (place ≤ chain .len) ⌝ }
+    ensures { λ r. ⌜ PairAssigned (now (values .entry)) entry (now (dev .entry)) chain place (now (t .entry)) work (now (t .exit)) r ⌝ }
 {
-    let key = pair.key;
-    let operator = pair.operator;
-    let from = pair.arg_start;
-    let to = pair.arg_end;
-    let start = pair.start;
-    let end = pair.end;
-    let len = pair.len;
-    if end - start == len {
-        return assign_key::assign(
-            t,
-            work,
-            dev,
-            chain,
-            place,
-            key,
-            operator,
-            &line[from..to],
-            &line[start..end],
-        );
+    let key = entry.key;
+    let operator = entry.operator;
+    let start = entry.start;
+    let middle = entry.middle;
+    let end = entry.end;
+    if is_match(operator) {
+        return Assigned::Left(work);
     }
-    let mut value = [0u8; 256];
-    let n = pairs::value_into(line, start, end, &mut value);
     assign_key::assign(
         t,
         work,
@@ -79,84 +56,41 @@ fn assign_value(
         place,
         key,
         operator,
-        &line[from..to],
-        &value[..n],
+        &values[start..middle],
+        &values[middle..end],
     )
 }
 
-// One pair; a match asks nothing here.
-fn assign_pair(
-    line: &[u8],
-    pair: Pair,
-    t: &mut [u8],
-    work: Work,
-    dev: &[u8],
-    chain: Chain,
-    place: usize,
-) -> Assigned
-    requires { ⌜ Readable (now line) pair × Ready (now dev) chain (now t) (work .layout) × (place ≤ chain .len) ⌝ }
-    ensures { λ r. ⌜ PairAssigned (now (line .entry)) pair (now (dev .entry)) chain place (now (t .entry)) work (now (t .exit)) r ⌝ }
-{
-    let operator = pair.operator;
-    if is_match(operator) {
-        return Assigned::Left(work);
-    }
-    assign_value(line, pair, t, work, dev, chain, place)
-}
-
-// The number of the key GOTO.
-const GOTO: u8 = 18;
-
-// The GOTO: one that was found before, or this pair if it is one.
-fn note_jump(pair: Pair, jump: MarkFound) -> MarkFound
-    ensures { λ r. ⌜ r ≡ noteJump pair jump ⌝ }
-{
-    match jump {
-        MarkFound::At(s, e) => MarkFound::At(s, e),
-        MarkFound::Missing => {
-            let key = pair.key;
-            if rule_pairs::key_number(key) == GOTO {
-                MarkFound::At(pair.start, pair.end)
-            } else {
-                MarkFound::Missing
-            }
-        }
-    }
-}
-
-// All pairs from a place of the line on.
+// The rows of a rule, from a place to another.
 pub fn assign_all(
-    line: &[u8],
-    at: usize,
+    values: &[u8],
+    rows: &[u16],
+    from: usize,
+    to: usize,
     t: &mut [u8],
     layout: Layout,
     dev: &[u8],
     chain: Chain,
     place: usize,
-) -> Done
-    requires { ⌜ RuleFrom (now line) at × Ready (now dev) chain (now t) layout × (place ≤ chain .len) ⌝ }
-    ensures { λ r. ⌜ AllAssigned (now (line .entry)) at (now (dev .entry)) chain place (now (t .entry)) layout (now (t .exit)) r × JumpOf (now (line .entry)) at r ⌝ }
+) -> Change
+    requires { ⌜ RuleRows (now values) (now rows) from to × Ready (now dev) chain (now t) layout × (place ≤ chain .len) ⌝ }
+    ensures { λ r. ⌜ AllAssigned (now (values .entry)) (now (rows .entry)) from to (now (dev .entry)) chain place (now (t .entry)) layout (now (t .exit)) r ⌝ }
 {
     let mut work = Work {
         layout,
         escape: Escape::Unset,
     };
-    let mut i = at;
-    let mut jump = MarkFound::Missing;
-    loop {
-        let pair = rule_pairs::pair_at(line, i);
-        match assign_pair(line, pair, t, work, dev, chain, place) {
+    let mut i = from;
+    while i < to {
+        let entry = table::pair_at(rows, i);
+        match assign_pair(values, entry, t, work, dev, chain, place) {
             Assigned::Left(next) => {
                 work = next;
+                i += 1;
             }
-            Assigned::Refused(refusal) => return Done::Refused(refusal),
+            Assigned::Refused(refusal) => return Change::Refused(refusal),
         }
-        jump = note_jump(pair, jump);
-        let behind = pair.next;
-        if line.len() <= behind {
-            let left = work.layout;
-            return Done::Left(left, jump);
-        }
-        i = behind + 1;
     }
+    let left = work.layout;
+    Change::Left(left)
 }

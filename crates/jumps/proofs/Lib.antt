@@ -1,4 +1,3 @@
-pub mod Names
-pub mod Rows
-pub mod Noted
-pub mod Table
+pub mod Goes
+pub mod Labels
+pub mod Nineteen

@@ -1,3 +1,2 @@
-pub mod Names
-pub mod Noted
-pub mod Table
+pub mod Jumps
+pub mod Labels

@@ -1,48 +1,14 @@
-// The labels and jumps of a text, noted rule by rule while its lines are read: the first GOTO without a later LABEL.
+// The rule that a GOTO goes to.
 ghost use mathlib.Core.Path.{_≡_};
 ghost use mathlib.Core.List.{List};
-ghost use Prim.Native.Nat.{ℕ, _+_, _-_, _*_, _≤_, _<_};
+ghost use Prim.Native.Nat.{ℕ, _+_, _*_, _≤_, _<_};
 ghost use lib.ListN.{length, getD};
-ghost use Rattle.lists.specs.Lists.{isSome};
-ghost use Rattle.lists.specs.Checked.{Placed};
-ghost use Rattle.lists.specs.Sizes.{mostText, mostRules};
-ghost use Rattle.text.specs.Reading as text-reading;
-ghost use Rattle.rules.specs.Pair.{Rule};
-ghost use Rattle.rules.specs.Reading.{reader, unescape};
-ghost use Rattle.pairs.specs.Answers.{part};
-ghost use Rattle.rule_pairs.specs.Marks.{MarkIn};
-ghost use Rattle.jumps.specs.Names.{mixed, hashOf, Name, MarkPut};
-ghost use Rattle.jumps.specs.Noted.{marks, nameAt, rows, NameAt, isAnswered, Noted, NotedOne, settledFrom, settledBy};
-ghost use Rattle.jumps.specs.Table.{Table};
-use rule_pairs::MarkFound;
+ghost use Rattle.lists.specs.Sizes.{mostRules};
+ghost use Rattle.table.specs.Rules.{Rules};
+ghost use Rattle.jumps.specs.Jumps.{labelled, FoundIs, JumpIs, UpTo, SettledIs};
+ghost use Rattle.jumps.specs.Labels.{mixed, hashOf, nameAt, Labels, Before};
 
-// A rule takes seven numbers: its line; where its label's name starts and ends in the text, and that name's hash; the
-// same three of its jump. The place of a missing name is 0, where no name can start.
-const ROOM: usize = 3584;
-
-// ---- numbers of two bytes
-
-fn short(n: usize) -> u16
-    requires { ⌜ n < 65536 ⌝ }
-    ensures { λ r. ⌜ r ≡ n ⌝ }
-{
-    n as u16
-}
-
-fn long(n: u16) -> usize
-    ensures { λ r. ⌜ r ≡ n ⌝ }
-{
-    n as usize
-}
-
-fn number_at(jumps: &[u16; ROOM], at: usize) -> usize
-    requires { ⌜ at < 7 * mostRules ⌝ }
-    ensures { λ r. ⌜ r ≡ getD (now (jumps .entry)) at 0 ⌝ }
-{
-    long(jumps[at])
-}
-
-// ---- noting a rule
+// ---- the hash of a name
 
 fn mix(hash: usize, b: u8) -> usize
     requires { ⌜ hash < 65536 ⌝ }
@@ -63,198 +29,228 @@ fn hash_of(name: &[u8]) -> usize
     hash
 }
 
-// Puts the name of a mark of the line that starts at a place of the text.
-fn put_mark(jumps: &mut [u16; ROOM], at: usize, line: &[u8], start: usize, mark: MarkFound)
-    requires { ⌜ (length (now jumps) ≡ 7 * mostRules) × (at + 3 ≤ 7 * mostRules) × (start + length (now line) ≤ mostText) × MarkIn (now line) mark ⌝ }
-    ensures { λ _. ⌜ MarkPut (now (line .entry)) start mark at (now (jumps .entry)) (now (jumps .exit)) ⌝ }
-{
-    match mark {
-        MarkFound::At(s, e) => {
-            let hash = hash_of(&line[s..e]);
-            jumps[at] = short(start + s);
-            jumps[at + 1] = short(start + e);
-            jumps[at + 2] = short(hash);
-        }
-        MarkFound::Missing => {
-            jumps[at] = 0;
-        }
-    }
-}
+// ---- the labels of the rules behind a place
 
-// Notes the rule of a line, behind those noted before it.
-pub fn note(
-    jumps: &mut [u16; ROOM],
-    count: usize,
-    number: usize,
-    line: &[u8],
-    start: usize,
-    label: MarkFound,
-    goto: MarkFound,
-)
-    requires { ⌜ (length (now jumps) ≡ 7 * mostRules) × (count < mostRules) × (number < 65536) × (start + length (now line) ≤ mostText) × MarkIn (now line) label × MarkIn (now line) goto ⌝ }
-    ensures { λ _. ⌜ NotedOne (now (line .entry)) start number label goto (now (jumps .entry)) count (now (jumps .exit)) ⌝ }
-{
-    let at = count * 7;
-    jumps[at] = short(number);
-    put_mark(jumps, at + 1, line, start, label);
-    put_mark(jumps, at + 4, line, start, goto);
-}
-
-// ---- each jump finds its label
-
-// The labels of the rules behind a place stand in a table, by the last byte of their hashes: for each of its 256 values
-// one more than the first rule that has such a label, and for each such rule one more than the next, or 0.
-
-pub enum Settled {
-    All,
-    // the line of the first jump that finds none
-    Missing(usize),
-}
-
-// Whether the label noted at a place is the name that is written from start to end.
-fn is_label(
-    text: &[u8],
-    jumps: &[u16; ROOM],
-    at: usize,
-    start: usize,
-    end: usize,
-    hash: usize,
-) -> bool
-    requires { ⌜ (at + 3 ≤ 7 * mostRules) × NameAt (now text) (now jumps) at × Name (now text) start end hash ⌝ }
-    ensures { λ r. ⌜ r ≡ text-reading.hasLabel (unescape (part (now (text .entry)) start end)) (nameAt (now (text .entry)) (now (jumps .entry)) at) ⌝ }
-{
-    if number_at(jumps, at + 2) != hash {
-        return false;
-    }
-    let s = number_at(jumps, at);
-    if s == 0 {
-        return false;
-    }
-    let e = number_at(jumps, at + 1);
-    scan::same_long(&text[start..end], &text[s..e])
-}
-
-// Whether a rule that stands in the table has the label that is written from start to end.
-fn has_label(
-    text: &[u8],
-    jumps: &[u16; ROOM],
-    heads: &[usize; 256],
-    later: &[usize; 512],
-    start: usize,
-    end: usize,
-    hash: usize,
-) -> bool
-    requires { ⌜ ((n : ℕ) × ((m : ℕ) × Table (now text) (now jumps) n m (now heads) (now later))) × Name (now text) start end hash ⌝ }
-    ensures { λ r. ⌜ ((n m : ℕ) → Table (now (text .entry)) (now (jumps .entry)) n m (now (heads .entry)) (now (later .entry)) → r ≡ isSome (text-reading.goesTo marks (unescape (part (now (text .entry)) start end)) (rows (now (text .entry)) (now (jumps .entry)) m (n - m)))) ⌝ }
-{
-    let mut next = heads[hash % 256];
-    while next != 0 {
-        let i = next - 1;
-        if is_label(text, jumps, i * 7 + 1, start, end, hash) {
-            return true;
-        }
-        next = later[i];
-    }
-    false
-}
-
-// Whether the jump of a rule, if it has one, finds its label in the table of the rules behind it.
-fn is_answered(
-    text: &[u8],
-    jumps: &[u16; ROOM],
-    heads: &[usize; 256],
-    later: &[usize; 512],
-    i: usize,
-) -> bool
-    requires { ⌜ ((n : ℕ) × Table (now text) (now jumps) n (i + 1) (now heads) (now later)) ⌝ }
-    ensures { λ r. ⌜ ((n : ℕ) → Table (now (text .entry)) (now (jumps .entry)) n (i + 1) (now (heads .entry)) (now (later .entry)) → r ≡ isAnswered (nameAt (now (text .entry)) (now (jumps .entry)) (i * 7 + 4)) (rows (now (text .entry)) (now (jumps .entry)) (i + 1) (n - (i + 1)))) ⌝ }
-{
-    let at = i * 7 + 4;
-    let start = number_at(jumps, at);
-    if start == 0 {
-        return true;
-    }
-    let end = number_at(jumps, at + 1);
-    let hash = number_at(jumps, at + 2);
-    has_label(text, jumps, heads, later, start, end, hash)
-}
+// They stand in lists by the last byte of their hashes: for each of its 256 values one more than the first rule that has
+// such a label, and for each such rule one more than the next, or 0.
 
 // Puts the label of a rule, if it has one, before those of the rules behind it.
-fn put_label(jumps: &[u16; ROOM], i: usize, heads: &mut [usize; 256], later: &mut [usize; 512])
-    requires { ⌜ ((text : List ℕ) × ((n : ℕ) × Table text (now jumps) n (i + 1) (now heads) (now later))) ⌝ }
-    ensures { λ _. ⌜ ((text : List ℕ) (n : ℕ) → Table text (now (jumps .entry)) n (i + 1) (now (heads .entry)) (now (later .entry)) → Table text (now (jumps .entry)) n i (now (heads .exit)) (now (later .exit))) ⌝ }
+fn put_label(
+    values: &[u8],
+    rows: &[u16],
+    labels: &[u16],
+    i: usize,
+    hashes: &mut [u16; 512],
+    heads: &mut [u16; 256],
+    later: &mut [u16],
+)
+    requires { ⌜ (i < length (now labels)) × ((t : List ℕ) × ((m : ℕ) × ((used : ℕ) × ((n : ℕ) × Rules (now values) (now rows) t (now labels) m used n × Labels (now values) (now rows) (now labels) (now hashes) (now heads) (now later) (i + 1) n)))) ⌝ }
+    ensures { λ _. ⌜ ((n : ℕ) → Labels (now (values .entry)) (now (rows .entry)) (now (labels .entry)) (now (hashes .entry)) (now (heads .entry)) (now (later .entry)) (i + 1) n → Labels (now (values .entry)) (now (rows .entry)) (now (labels .entry)) (now (hashes .exit)) (now (heads .exit)) (now (later .exit)) i n) × Before i (now (later .entry)) (now (later .exit)) ⌝ }
 {
-    if number_at(jumps, i * 7 + 1) == 0 {
+    let row = table::number_at(labels, i);
+    if row == 0 {
         return;
     }
-    let b = number_at(jumps, i * 7 + 3) % 256;
+    let at = (row - 1) * 4;
+    let start = table::number_at(rows, at + 2);
+    let end = table::number_at(rows, at + 3);
+    let hash = hash_of(&values[start..end]);
+    let b = hash % 256;
+    hashes[i] = table::short(hash);
     later[i] = heads[b];
-    heads[b] = i + 1;
-}
-
-// Takes the label of a rule, if it has one, from before those of the rules behind it.
-fn take_label(jumps: &[u16; ROOM], i: usize, heads: &mut [usize; 256], later: &[usize; 512])
-    requires { ⌜ ((text : List ℕ) × ((n : ℕ) × Table text (now jumps) n i (now heads) (now later) × (i < n))) ⌝ }
-    ensures { λ _. ⌜ ((text : List ℕ) (n : ℕ) → Table text (now (jumps .entry)) n i (now (heads .entry)) (now (later .entry)) → i < n → Table text (now (jumps .entry)) n (i + 1) (now (heads .exit)) (now (later .entry))) ⌝ }
-{
-    if number_at(jumps, i * 7 + 1) == 0 {
-        return;
-    }
-    let b = number_at(jumps, i * 7 + 3) % 256;
-    heads[b] = later[i];
+    heads[b] = table::short(i + 1);
 }
 
 // Puts the labels of the rules from a place on, from the last to the first.
 fn put_labels(
-    jumps: &[u16; ROOM],
+    values: &[u8],
+    rows: &[u16],
+    labels: &[u16],
     from: usize,
     count: usize,
-    heads: &mut [usize; 256],
-    later: &mut [usize; 512],
+    hashes: &mut [u16; 512],
+    heads: &mut [u16; 256],
+    later: &mut [u16],
 )
-    requires { ⌜ ((text : List ℕ) × Table text (now jumps) count count (now heads) (now later)) × (from ≤ count) ⌝ }
-    ensures { λ _. ⌜ ((text : List ℕ) → Table text (now (jumps .entry)) count count (now (heads .entry)) (now (later .entry)) → Table text (now (jumps .entry)) count from (now (heads .exit)) (now (later .exit))) ⌝ }
+    requires { ⌜ (from ≤ count) × (count ≤ length (now labels)) × ((t : List ℕ) × ((m : ℕ) × ((used : ℕ) × Rules (now values) (now rows) t (now labels) m used count))) × Labels (now values) (now rows) (now labels) (now hashes) (now heads) (now later) count count ⌝ }
+    ensures { λ _. ⌜ Labels (now (values .entry)) (now (rows .entry)) (now (labels .entry)) (now (hashes .exit)) (now (heads .exit)) (now (later .exit)) from count × Before from (now (later .entry)) (now (later .exit)) ⌝ }
 {
     let mut i = count;
     while from < i {
         i -= 1;
-        put_label(jumps, i, heads, later);
+        put_label(values, rows, labels, i, hashes, heads, later);
     }
 }
 
-// The first rule that has a jump, or the number of rules.
-fn first_jump(jumps: &[u16; ROOM], count: usize) -> usize
-    requires { ⌜ count ≤ mostRules ⌝ }
-    ensures { λ r. ⌜ (r ≤ count) × ((text : List ℕ) → settledFrom text (now (jumps .entry)) count r ≡ settledFrom text (now (jumps .entry)) count 0) ⌝ }
+// Takes the label of a rule, if it has one, from before those of the rules behind it.
+fn take_label(labels: &[u16], i: usize, hashes: &[u16; 512], heads: &mut [u16; 256], later: &[u16])
+    requires { ⌜ (i < length (now labels)) × ((v : List ℕ) × ((r : List ℕ) × ((n : ℕ) × (i < n) × Labels v r (now labels) (now hashes) (now heads) (now later) i n))) ⌝ }
+    ensures { λ _. ⌜ ((v r : List ℕ) (n : ℕ) → i < n → Labels v r (now (labels .entry)) (now (hashes .entry)) (now (heads .entry)) (now (later .entry)) i n → Labels v r (now (labels .entry)) (now (hashes .entry)) (now (heads .exit)) (now (later .entry)) (i + 1) n) ⌝ }
+{
+    if table::number_at(labels, i) == 0 {
+        return;
+    }
+    let b = table::long(hashes[i]) % 256;
+    heads[b] = later[i];
+}
+
+// Whether the label of a rule, by its row, is a name that has this hash.
+fn is_label(
+    values: &[u8],
+    rows: &[u16],
+    labels: &[u16],
+    hashes: &[u16; 512],
+    i: usize,
+    name: &[u8],
+    hash: usize,
+) -> bool
+    requires { ⌜ (hash ≡ hashOf (now name)) × (i < mostRules) × (i < length (now labels)) × (0 < getD (now labels) i 0) × ((t : List ℕ) × ((m : ℕ) × ((used : ℕ) × ((n : ℕ) × (i < n) × Rules (now values) (now rows) t (now labels) m used n)))) ⌝ }
+    ensures { λ r. ⌜ ((t : List ℕ) (m used n : ℕ) → i < n → Rules (now (values .entry)) (now (rows .entry)) t (now (labels .entry)) m used n → getD (now (hashes .entry)) i 0 ≡ hashOf (nameAt (now (values .entry)) (now (rows .entry)) (now (labels .entry)) i) → r ≡ labelled (now (values .entry)) (now (rows .entry)) t (now (name .entry)) i) ⌝ }
+{
+    if table::long(hashes[i]) != hash {
+        return false;
+    }
+    let at = (table::number_at(labels, i) - 1) * 4;
+    let s = table::number_at(rows, at + 2);
+    let e = table::number_at(rows, at + 3);
+    scan::same_long(name, &values[s..e])
+}
+
+// One more than the first of these rules that has a name for a label, or 0.
+fn find_label(
+    values: &[u8],
+    rows: &[u16],
+    labels: &[u16],
+    hashes: &[u16; 512],
+    heads: &[u16; 256],
+    later: &[u16],
+    name: &[u8],
+    hash: usize,
+) -> usize
+    requires { ⌜ (hash ≡ hashOf (now name)) × ((t : List ℕ) × ((m : ℕ) × ((used : ℕ) × ((from : ℕ) × ((n : ℕ) × (n ≤ length (now labels)) × Rules (now values) (now rows) t (now labels) m used n × Labels (now values) (now rows) (now labels) (now hashes) (now heads) (now later) from n))))) ⌝ }
+    ensures { λ r. ⌜ ((t : List ℕ) (m used from n : ℕ) → Rules (now (values .entry)) (now (rows .entry)) t (now (labels .entry)) m used n → Labels (now (values .entry)) (now (rows .entry)) (now (labels .entry)) (now (hashes .entry)) (now (heads .entry)) (now (later .entry)) from n → FoundIs (now (values .entry)) (now (rows .entry)) t (now (name .entry)) from n r) ⌝ }
+{
+    let mut next = table::long(heads[hash % 256]);
+    while next != 0 {
+        let i = next - 1;
+        if is_label(values, rows, labels, hashes, i, name, hash) {
+            return next;
+        }
+        next = table::number_at(later, i);
+    }
+    0
+}
+
+// ---- the jumps of all rules
+
+pub enum Jump {
+    // one more than the rule that it goes to, or 0 where there is none
+    Is(usize),
+    Nowhere,
+}
+
+// The jump of a rule, by the labels of the rules behind it.
+fn jump_of(
+    values: &[u8],
+    rows: &[u16],
+    rules: &[u16],
+    labels: &[u16],
+    hashes: &[u16; 512],
+    heads: &[u16; 256],
+    later: &[u16],
+    i: usize,
+    count: usize,
+) -> Jump
+    requires { ⌜ (i < count) × (count ≤ length (now labels)) × (count * 4 ≤ length (now rules)) × ((m : ℕ) × ((used : ℕ) × Rules (now values) (now rows) (now rules) (now labels) m used count)) × Labels (now values) (now rows) (now labels) (now hashes) (now heads) (now later) (i + 1) count ⌝ }
+    ensures { λ r. ⌜ ((m used : ℕ) → Rules (now (values .entry)) (now (rows .entry)) (now (rules .entry)) (now (labels .entry)) m used count → JumpIs (now (values .entry)) (now (rows .entry)) (now (rules .entry)) i count r) ⌝ }
+{
+    let row = table::number_at(rules, i * 4 + 3);
+    if row == 0 {
+        return Jump::Is(0);
+    }
+    let at = (row - 1) * 4;
+    let start = table::number_at(rows, at + 2);
+    let end = table::number_at(rows, at + 3);
+    let name = &values[start..end];
+    let hash = hash_of(name);
+    let found = find_label(values, rows, labels, hashes, heads, later, name, hash);
+    if found == 0 {
+        return Jump::Nowhere;
+    }
+    Jump::Is(found)
+}
+
+// The first rule that has a jump, or the number of rules; those before it have none.
+fn first_jump(rules: &[u16], jumps: &mut [u16], count: usize) -> usize
+    requires { ⌜ (count < 65535) × (count ≤ length (now jumps)) × (count * 4 ≤ length (now rules)) ⌝ }
+    ensures { λ r. ⌜ (r ≤ count) × ((v s l : List ℕ) (m used : ℕ) → Rules v s (now (rules .entry)) l m used count → UpTo v s (now (rules .entry)) count (now (jumps .exit)) r) ⌝ }
 {
     let mut i: usize = 0;
     while i < count {
-        if number_at(jumps, i * 7 + 4) != 0 {
+        if table::number_at(rules, i * 4 + 3) != 0 {
             return i;
         }
+        jumps[i] = 0;
         i += 1;
     }
     i
 }
 
-// The first GOTO without a later LABEL, when all rules are noted.
-pub fn settle(text: &[u8], jumps: &[u16; ROOM], count: usize) -> Settled
-    requires { ⌜ ((rs : List (Placed Rule)) × Noted (now text) (now jumps) count rs) ⌝ }
-    ensures { λ r. ⌜ ((rs : List (Placed Rule)) → Noted (now (text .entry)) (now (jumps .entry)) count rs → settledBy r ≡ text-reading.settle reader rs) ⌝ }
+pub enum Settled {
+    All,
+    // the line of the first jump that goes nowhere
+    Missing(usize),
+}
+
+// Puts for each rule where its jump goes. Behind the rule at hand the jumps hold the lists of labels.
+pub fn settle(
+    values: &[u8],
+    rows: &[u16],
+    rules: &[u16],
+    labels: &[u16],
+    jumps: &mut [u16],
+    count: usize,
+) -> Settled
+    requires { ⌜ (count ≤ mostRules) × (count ≤ length (now labels)) × (count ≤ length (now jumps)) × (count * 4 ≤ length (now rules)) × ((m : ℕ) × ((used : ℕ) × Rules (now values) (now rows) (now rules) (now labels) m used count)) ⌝ }
+    ensures { λ r. ⌜ ((m used : ℕ) → Rules (now (values .entry)) (now (rows .entry)) (now (rules .entry)) (now (labels .entry)) m used count → SettledIs (now (values .entry)) (now (rows .entry)) (now (rules .entry)) count (now (jumps .exit)) r) ⌝ }
 {
-    let mut i = first_jump(jumps, count);
+    let mut i = first_jump(rules, jumps, count);
     if i == count {
         return Settled::All;
     }
-    let mut heads: [usize; 256] = [0; 256];
-    let mut later: [usize; 512] = [0; 512];
-    put_labels(jumps, i, count, &mut heads, &mut later);
+    let mut hashes: [u16; 512] = [0; 512];
+    let mut heads: [u16; 256] = [0; 256];
+    put_labels(
+        values,
+        rows,
+        labels,
+        i,
+        count,
+        &mut hashes,
+        &mut heads,
+        jumps,
+    );
     while i < count {
-        take_label(jumps, i, &mut heads, &later);
-        if !is_answered(text, jumps, &heads, &later, i) {
-            return Settled::Missing(number_at(jumps, i * 7));
+        take_label(labels, i, &hashes, &mut heads, jumps);
+        match jump_of(
+            values,
+            rows,
+            rules,
+            labels,
+            &hashes,
+            &heads,
+            jumps,
+            i,
+            count,
+        ) {
+            Jump::Is(k) => {
+                jumps[i] = table::short(k);
+                i += 1;
+            }
+            Jump::Nowhere => {
+                return Settled::Missing(table::number_at(rules, i * 4));
+            }
         }
-        i += 1;
     }
     Settled::All
 }

@@ -16,7 +16,7 @@ use Rattle.scan.specs.Groups.{AboveFrom}
 use Rattle.scan.proofs.Groups.{above-climb}
 use Rattle.pairs.specs.Answers.{part}
 use Rattle.pairs.proofs.Parts.{part-cons, part-none}
-use Rattle.lines.specs.Answers.{CleanLine}
+use Rattle.lines.specs.Ends.{CleanLine}
 
 -- the end of the line that starts at a place
 abbrev endOf : List ℕ → ℕ → ℕ

@@ -1,4 +1,1 @@
 pub mod Ends
-pub mod Names
-pub mod Pairs
-pub mod Line

@@ -7,8 +7,8 @@ use mathlib.Core.List.{List}
 use Rattle.rules.specs.Key.{Key, ACTION, DEVPATH, KERNEL, KERNELS, SUBSYSTEM, SUBSYSTEMS, DRIVER, DRIVERS, ATTR, ATTRS, ENV, SYMLINK, TAG, OWNER, GROUP, MODE, RUN, LABEL, GOTO, OPTIONS, Op, equal, unequal, assign, add, remove, final, isMatch}
 use Rattle.rules.specs.Pair.{Pair}
 use Rattle.keys.specs.Table.{keyOf, operatorOf}
-use Rattle.pairs.specs.Answers.{pairOf}
-use Rattle.pairs.specs.declared.Pair as pairs
+use Rattle.table.specs.Table.{entryOf}
+use Rattle.table.specs.declared.Entry.{Entry}
 use Rattle.device.specs.Device.{Member, Device}
 use Rattle.outcome.specs.State.{State}
 use Rattle.engine.specs.Match.{valueHolds, listHolds, attrHolds, keyHolds, pairHolds, isParent, parentHolds}
@@ -124,11 +124,11 @@ other-key OPTIONS m p e = refl
 
 -- ---- as code asks
 
-module _ (line : List ℕ) (r : pairs.Pair) (u : Subject) (e : u ≡ subjectOf (keyOf (r .key))) where
+module _ (line : List ℕ) (r : Entry) (u : Subject) (e : u ≡ subjectOf (keyOf (r .key))) where
   pub event-judged : (v : Subject) → v ≡ atEvent u (operatorOf (r .operator)) → (d : Device) (m : Member) (s : State) → m ≡ d .event
-      → (b : Bool) → b ≡ pairOn v (pairOf line r) d m s → pairHolds d s (pairOf line r) ≡ b
+      → (b : Bool) → b ≡ pairOn v (entryOf line r) d m s → pairHolds d s (entryOf line r) ≡ b
   event-judged v f d m s g b h =
-      let p : Pair = pairOf line r in
+      let p : Pair = entryOf line r in
       pair-subject d s p
       ∙ sym
       (h
@@ -136,10 +136,10 @@ module _ (line : List ℕ) (r : pairs.Pair) (u : Subject) (e : u ≡ subjectOf (
       ∙ ap (λ (w : Member). pairOn (atEvent (subjectOf (p .key)) (p .op)) p d w s) g)
 
   pub parent-judged : (v : Subject) → v ≡ atParent u → (d : Device) (m : Member) (s : State)
-      → (b : Bool) → b ≡ pairOn v (pairOf line r) d m s → parentHolds (keyOf (r .key)) m (pairOf line r) ≡ b
+      → (b : Bool) → b ≡ pairOn v (entryOf line r) d m s → parentHolds (keyOf (r .key)) m (entryOf line r) ≡ b
   parent-judged v f d m s b h =
-      parent-subject (keyOf (r .key)) d m s (pairOf line r)
-      ∙ sym (h ∙ ap (λ (w : Subject). pairOn w (pairOf line r) d m s) (f ∙ ap atParent e))
+      parent-subject (keyOf (r .key)) d m s (entryOf line r)
+      ∙ sym (h ∙ ap (λ (w : Subject). pairOn w (entryOf line r) d m s) (f ∙ ap atParent e))
 
   pub parent-here : (b : Bool) → b ≡ isParentSubject u → isParent (keyOf (r .key)) ≡ b
   parent-here b f = parent-key (keyOf (r .key)) ∙ sym (f ∙ ap isParentSubject e)

@@ -1,43 +1,43 @@
--- The first parent key of an accepted line and the matched device: a turn of the loop over the pairs.
+-- The first parent key of a rule and the matched device: a turn of the loop over its rows.
 -- Assumes nothing.
-use Prim.Native.Nat.{ℕ, zero, suc, _+_, _≤_, _<_}
+use Prim.Native.Nat.{ℕ, zero, suc, _+_, _-_, _≤_, _<_}
 use mathlib.Core.Path.{_≡_, refl, sym, ap, _∙_, subst}
 use mathlib.Core.Bool.{Bool, true, false, _&&_, _||_, true≢false}
 use mathlib.Core.List.{List, [], _∷_}
 use mathlib.Core.Option.{Option, none, some}
 use native.Mathlib.Nat.{not-suc-le-zero}
-use lib.ListN.{length, drop}
-use Rattle.rules.specs.Pair as rules
-use Rattle.rules.specs.Pairs.{Pairs}
+use Rattle.rules.specs.Pair.{Pair}
 use Rattle.keys.specs.Table.{keyOf}
-use Rattle.pairs.specs.Answers.{pairOf}
-use Rattle.pairs.specs.declared.Pair.{Pair}
-use Rattle.rule_pairs.specs.Here.{PairsFrom, Here}
-use Rattle.rule_pairs.proofs.Walk.{last-pair, more-pairs}
+use Rattle.table.specs.Table.{entryOf, pairsFrom, Got}
+use Rattle.table.specs.declared.Entry.{Entry}
+use Rattle.table.proofs.Pairs.{pairs-end, rows-here}
 use Rattle.device.specs.Device.{Member, Device, chain}
 use Rattle.engine.specs.Match.{isParent, hasParents, parentHolds, parentsHold, nearest, placeOf}
 use Rattle.matching.specs.Answers.{placeNext}
 use Rattle.matching.proofs.Keys.{other-key}
 use Rattle.matching.proofs.Search.{some-same, none-some, near-alike, near-from, place-by}
 
--- no parent key stands before place i: what is asked of some pairs is asked of those from there on
-pub record Rest (line : List ℕ) (i : ℕ) (ps : List rules.Pair) : Type 0 where
-  pub pairs : List rules.Pair
-  pub stand : Pairs (drop i line) pairs
-  pub has : hasParents ps ≡ hasParents pairs
-  pub hold : (m : Member) → parentsHold m ps ≡ parentsHold m pairs
+-- no parent key stands before these pairs: what is asked of all is asked of them
+pub record Rest (ps qs : List Pair) : Type 0 where
+  pub has : hasParents ps ≡ hasParents qs
+  pub hold : (m : Member) → parentsHold m ps ≡ parentsHold m qs
 
--- what is known of the matched device at place i
-abbrev pub Known : List ℕ → ℕ → Device → List rules.Pair → ℕ → Type 0
-Known line i d ps zero = Rest line i ps
-Known line i d ps (suc k) = (hasParents ps ≡ true) × (nearest 1 (chain d) ps ≡ some (suc k))
+-- what is known of the matched device before the pairs qs of ps
+abbrev pub Known : Device → List Pair → List Pair → ℕ → Type 0
+Known d ps qs zero = Rest ps qs
+Known d ps qs (suc k) = (hasParents ps ≡ true) × (nearest 1 (chain d) ps ≡ some (suc k))
 
-pub known-start : (line : List ℕ) (at : ℕ) (d : Device) (ps : List rules.Pair) → Pairs (drop at line) ps → Known line at d ps 0
-known-start line at d ps h = record { pairs = ps; stand = h; has = refl; hold = λ m. refl }
+pub known-start : (d : Device) (ps : List Pair) → Known d ps ps 0
+known-start d ps = record { has = refl; hold = λ m. refl }
 
-known-suc : (line : List ℕ) (i : ℕ) (d : Device) (ps : List rules.Pair) (p : ℕ) → 1 ≤ p → hasParents ps ≡ true → nearest 1 (chain d) ps ≡ some p → Known line i d ps p
-known-suc line i d ps zero l h e = absurd (not-suc-le-zero l)
-known-suc line i d ps (suc k) l h e = (h, e)
+known-suc : (d : Device) (ps qs : List Pair) (p : ℕ) → 1 ≤ p → hasParents ps ≡ true → nearest 1 (chain d) ps ≡ some p → Known d ps qs p
+known-suc d ps qs zero l h e = absurd (not-suc-le-zero l)
+known-suc d ps qs (suc k) l h e = (h, e)
+
+pub known-end : (d : Device) (ps : List Pair) (v r : List ℕ) (i n place : ℕ) → n ≤ i → Known d ps (pairsFrom v r i (n - i)) place → placeOf d ps ≡ some place
+unfolding hasParents
+known-end d ps v r i n zero h w = place-by d ps false (w .has ∙ rw (pairs-end v r i n h))
+known-end d ps v r i n (suc k) h w = place-by d ps true (w .0) ∙ w .1
 
 -- ---- the place behind a pair
 
@@ -57,68 +57,29 @@ next-asked (suc k) b o l e = absurd (not-suc-le-zero l)
 
 -- ---- a turn
 
-module _ (line : List ℕ) (i : ℕ) (from : PairsFrom line i) (r : Pair) (here : Here line i r) (d : Device) (ps : List rules.Pair) where
-  -- what the search from here on gives
-  abbrev Answers : ℕ → Bool → Option ℕ → Type 0
-  Answers place b o = (qs : List rules.Pair) → Pairs (drop i line) qs → o ≡ placeNext place b (nearest 1 (chain d) qs)
-
-  -- a device that was found before stays
-  stays : (k : ℕ) (b : Bool) (o : Option ℕ) → Answers (suc k) b o → o ≡ some (suc k)
-  stays k b o e = go from
-    where
-      go : PairsFrom line i → o ≡ some (suc k)
-      go (l, (qs, q)) = e qs q
-
-  has-here : isParent (keyOf (r .key)) ≡ true → (qs : List rules.Pair) → Pairs (drop i line) qs → hasParents qs ≡ true
-  unfolding hasParents
-  has-here e [] q = absurd q
-  has-here e (x ∷ xs) q = let f = here x xs q in rw (← f .is, e)
+module _ (v r : List ℕ) (i n : ℕ) (e : Entry) (got : Got r i e) (h : i < n) (d : Device) (ps : List Pair) where
+  abbrev rows : ℕ → List Pair
+  rows j = pairsFrom v r j (n - j)
 
   -- the pair at hand has the first parent key
-  asked : isParent (keyOf (r .key)) ≡ true → (w : Rest line i ps) (o : Option ℕ) → Answers 0 true o → (hasParents ps ≡ true) × (nearest 1 (chain d) ps ≡ o)
-  asked e w o f = (w .has ∙ has-here e (w .pairs) (w .stand), near-alike ps (w .pairs) (w .hold) 1 (chain d) ∙ sym (f (w .pairs) (w .stand)))
+  asked : isParent (keyOf (e .key)) ≡ true → Rest ps (rows i) → (hasParents ps ≡ true) × (nearest 1 (chain d) ps ≡ nearest 1 (chain d) (rows i))
+  unfolding hasParents
+  asked t w = (w .has ∙ rw (rows-here v r i n e got h, t), near-alike ps (rows i) (w .hold) 1 (chain d))
 
   -- it has none
-  other-next : isParent (keyOf (r .key)) ≡ false → r .next < length line → Rest line i ps → Rest line (r .next + 1) ps
+  other-next : isParent (keyOf (e .key)) ≡ false → Rest ps (rows i) → Rest ps (rows (i + 1))
   unfolding hasParents parentsHold
-  other-next e b w = go (w .pairs) (w .stand) (w .has) (w .hold)
-    where
-      go : (qs : List rules.Pair) → Pairs (drop i line) qs → hasParents ps ≡ hasParents qs → ((m : Member) → parentsHold m ps ≡ parentsHold m qs) → Rest line (r .next + 1) ps
-      go [] q u v = absurd q
-      go (x ∷ xs) q u v =
-          let f = here x xs q in
-          record {
-            pairs = xs;
-            stand = more-pairs line i r x xs f b;
-            has = u ∙ rw (← f .is, e);
-            hold = λ m. v m ∙ rw (← f .is, other-key (keyOf (r .key)) m (pairOf line r) e);
-          }
+  other-next t w = record {
+    has = w .has ∙ rw (rows-here v r i n e got h, t);
+    hold = λ m. w .hold m ∙ rw (rows-here v r i n e got h, other-key (keyOf (e .key)) m (entryOf v e) t);
+  }
 
-  other-last : isParent (keyOf (r .key)) ≡ false → length line ≤ r .next → Rest line i ps → hasParents ps ≡ false
-  unfolding hasParents
-  other-last e b w = go (w .pairs) (w .stand) (w .has)
-    where
-      go : (qs : List rules.Pair) → Pairs (drop i line) qs → hasParents ps ≡ hasParents qs → hasParents ps ≡ false
-      go [] q u = absurd q
-      go (x ∷ xs) q u = let f = here x xs q in u ∙ rw (← f .is, e, last-pair line i r x xs f b)
+  pub known-next : (place p : ℕ) (b : Bool) → isParent (keyOf (e .key)) ≡ b → Known d ps (rows i) place → some p ≡ placeNext place b (nearest 1 (chain d) (rows i)) → Known d ps (rows (i + 1)) p
+  known-next zero p true t w f = let (a, b) = asked t w in known-suc d ps (rows (i + 1)) p (near-from 1 (chain d) ps p (b ∙ sym f)) a (b ∙ sym f)
+  known-next zero p false t w f = subst (λ (k : ℕ). Known d ps (rows (i + 1)) k) (sym (some-same p 0 f)) (other-next t w)
+  known-next (suc k) p b t w f = subst (λ (j : ℕ). Known d ps (rows (i + 1)) j) (sym (some-same p (suc k) f)) w
 
-  -- a zero that was answered for no parent key
-  zero-is : (p : ℕ) → Rest line i ps → Answers 0 false (some p) → p ≡ 0
-  zero-is p w f = some-same p 0 (f (w .pairs) (w .stand))
-
-  pub known-next : (place p : ℕ) (b : Bool) → isParent (keyOf (r .key)) ≡ b → r .next < length line → Known line i d ps place → Answers place b (some p) → Known line (r .next + 1) d ps p
-  known-next zero p true e l w f =
-      let (h, n) = asked e w (some p) f in
-      known-suc line (r .next + 1) d ps p (near-from 1 (chain d) ps p n) h n
-  known-next zero p false e l w f = subst (λ (k : ℕ). Known line (r .next + 1) d ps k) (sym (zero-is p w f)) (other-next e l w)
-  known-next (suc k) p b e l w f = subst (λ (j : ℕ). Known line (r .next + 1) d ps j) (sym (some-same p (suc k) (stays k b (some p) f))) w
-
-  pub known-last : (place p : ℕ) (b : Bool) → isParent (keyOf (r .key)) ≡ b → length line ≤ r .next → Known line i d ps place → Answers place b (some p) → placeOf d ps ≡ some p
-  known-last zero p true e l w f = let (h, n) = asked e w (some p) f in place-by d ps true h ∙ n
-  known-last zero p false e l w f = place-by d ps false (other-last e l w) ∙ ap (λ (k : ℕ). some k) (sym (zero-is p w f))
-  known-last (suc k) p b e l w f = place-by d ps true (w .0) ∙ w .1 ∙ sym (stays k b (some p) f)
-
-  pub known-missed : (place : ℕ) (b : Bool) → isParent (keyOf (r .key)) ≡ b → Known line i d ps place → Answers place b none → placeOf d ps ≡ none
-  known-missed zero true e w f = let (h, n) = asked e w none f in place-by d ps true h ∙ n
-  known-missed zero false e w f = absurd (none-some 0 (f (w .pairs) (w .stand)))
-  known-missed (suc k) b e w f = absurd (none-some (suc k) (stays k b none f))
+  pub known-missed : (place : ℕ) (b : Bool) → isParent (keyOf (e .key)) ≡ b → Known d ps (rows i) place → none ≡ placeNext place b (nearest 1 (chain d) (rows i)) → placeOf d ps ≡ none
+  known-missed zero true t w f = let (a, b) = asked t w in place-by d ps true a ∙ b ∙ sym f
+  known-missed zero false t w f = absurd (none-some 0 f)
+  known-missed (suc k) b t w f = absurd (none-some (suc k) f)

@@ -1,16 +1,13 @@
 -- What a rule is judged on, as the code has it, and what is answered of it.
 -- Assumes nothing.
-use Prim.Native.Nat.{ℕ}
+use Prim.Native.Nat.{ℕ, _-_}
 use mathlib.Core.Path.{_≡_}
 use mathlib.Core.Bool.{Bool}
 use mathlib.Core.List.{List}
 use mathlib.Core.Option.{some}
-use lib.ListN.{drop}
+use lib.ListN.{length}
 use Rattle.rules.specs.Key.{Op}
-use Rattle.rules.specs.Pair.{Pair}
-use Rattle.rules.specs.Pairs.{Pairs}
-use Rattle.pairs.specs.declared.Pair as pairs
-use Rattle.rule_pairs.specs.Here.{PairsFrom, Here}
+use Rattle.table.specs.Table.{pairsFrom}
 use Rattle.device.specs.Device.{Member, Device, chain, decode}
 use Rattle.device.specs.Places.{Lies}
 use Rattle.outcome.specs.State.{State}
@@ -47,23 +44,13 @@ pub record Begun (dev : List ℕ) (places : Chain) (t : List ℕ) (lay : Layout)
 abbrev pub ListHolds : Texts → Op → List ℕ → List ℕ → Layout → Bool → Type 0
 ListHolds list op value t lay r = (n : ℕ) (s : State) → Held n t lay s → r ≡ judged op (someMatches value (textsIn list s))
 
--- a pair that was read at a place of the line from which on it holds pairs
-pub record PairAt (line : List ℕ) (i : ℕ) (r : pairs.Pair) : Type 0 where
-  pub from : PairsFrom line i
-  pub here : Here line i r
+-- the pairs from the i-th row up to the n-th
+abbrev pub NearestOf : List ℕ → List ℕ → ℕ → ℕ → List ℕ → Chain → List ℕ → Layout → Matched → Type 0
+NearestOf v r i n dev places t lay o = ((x : Begun dev places t lay) → placeIn o ≡ nearest 1 (chain (x .device)) (pairsFrom v r i (n - i))) × Within o (places .len)
 
-abbrev pub Stands : List ℕ → pairs.Pair → Type 0
-Stands line r = (i : ℕ) × PairAt line i r
+abbrev pub NextOf : ℕ → Bool → List ℕ → List ℕ → ℕ → ℕ → List ℕ → Chain → List ℕ → Layout → Matched → Type 0
+NextOf place parent v r i n dev places t lay o =
+    ((x : Begun dev places t lay) → placeIn o ≡ placeNext place parent (nearest 1 (chain (x .device)) (pairsFrom v r i (n - i)))) × Within o (places .len)
 
--- the pairs from that place on
-abbrev pub NearestOf : List ℕ → pairs.Pair → List ℕ → Chain → List ℕ → Layout → Matched → Type 0
-NearestOf line first dev places t lay r =
-    ((x : Begun dev places t lay) (i : ℕ) → PairAt line i first → (ps : List Pair) → Pairs (drop i line) ps → placeIn r ≡ nearest 1 (chain (x .device)) ps) × Within r (places .len)
-
-abbrev pub NextOf : ℕ → Bool → List ℕ → pairs.Pair → List ℕ → Chain → List ℕ → Layout → Matched → Type 0
-NextOf place parent line pair dev places t lay r =
-    ((x : Begun dev places t lay) (i : ℕ) → PairAt line i pair → (ps : List Pair) → Pairs (drop i line) ps → placeIn r ≡ placeNext place parent (nearest 1 (chain (x .device)) ps)) × Within r (places .len)
-
-abbrev pub MatchedOf : List ℕ → ℕ → List ℕ → Chain → List ℕ → Layout → Matched → Type 0
-MatchedOf line at dev places t lay r =
-    ((x : Begun dev places t lay) (ps : List Pair) → Pairs (drop at line) ps → placeIn r ≡ matched (x .device) (x .state) ps) × Within r (places .len)
+abbrev pub MatchedOf : List ℕ → List ℕ → ℕ → ℕ → List ℕ → Chain → List ℕ → Layout → Matched → Type 0
+MatchedOf v r i n dev places t lay o = ((x : Begun dev places t lay) → placeIn o ≡ matched (x .device) (x .state) (pairsFrom v r i (n - i))) × Within o (places .len)

@@ -4,19 +4,17 @@
 ghost use mathlib.Core.Path.{_≡_};
 ghost use Prim.Native.Nat.{_≤_};
 ghost use Rattle.keys.specs.Table.{keyOf, operatorOf};
-ghost use Rattle.pairs.specs.Answers.{pairOf};
-ghost use Rattle.pairs.specs.Bounds.{PairIn};
-ghost use Rattle.rule_pairs.specs.Here.{PairsFrom};
+ghost use Rattle.table.specs.Table.{entryOf, Segment, EntryIn};
 ghost use Rattle.matching.specs.Subjects.{subjectOf, isParentSubject, atEvent, atParent, subjectHolds, pairOn};
 ghost use Rattle.outcome_target.specs.Held.{Holds};
-ghost use Rattle.matching.specs.Judging.{Judging, Begun, ListHolds, Stands, NearestOf, NextOf, MatchedOf};
+ghost use Rattle.matching.specs.Judging.{Judging, Begun, ListHolds, NearestOf, NextOf, MatchedOf};
 use device_lookup::Chain;
 use keys::Key;
 use keys::Operator;
 use match_device::Part;
 use outcome_target::Layout;
 use outcome_target::Texts;
-use pairs::Pair;
+use table::Entry;
 
 // ---- what a pair is judged on
 
@@ -144,43 +142,28 @@ fn subject_holds(
     }
 }
 
-// A value without an escape is a part of the line; another is unescaped first.
+// A row of the table at one device.
 fn pair_holds(
-    line: &[u8],
-    pair: Pair,
+    values: &[u8],
+    entry: Entry,
     subject: Subject,
     dev: &[u8],
     at: usize,
     t: &[u8],
     layout: Layout,
 ) -> bool
-    requires { ⌜ PairIn (now line) pair × Judging (now dev) at (now t) layout ⌝ }
-    ensures { λ r. ⌜ ((x : Judging (now (dev .entry)) at (now (t .entry)) layout) → r ≡ pairOn subject (pairOf (now (line .entry)) pair) (x .device) (x .member) (x .state)) ⌝ }
+    requires { ⌜ EntryIn (now values) entry × Judging (now dev) at (now t) layout ⌝ }
+    ensures { λ r. ⌜ ((x : Judging (now (dev .entry)) at (now (t .entry)) layout) → r ≡ pairOn subject (entryOf (now (values .entry)) entry) (x .device) (x .member) (x .state)) ⌝ }
 {
-    let operator = pair.operator;
-    let arg_start = pair.arg_start;
-    let arg_end = pair.arg_end;
-    let start = pair.start;
-    let end = pair.end;
-    if pair.len == end - start {
-        return subject_holds(
-            subject,
-            operator,
-            &line[arg_start..arg_end],
-            &line[start..end],
-            dev,
-            at,
-            t,
-            layout,
-        );
-    }
-    let mut value = [0u8; 256];
-    let n = pairs::value_into(line, start, end, &mut value);
+    let operator = entry.operator;
+    let start = entry.start;
+    let middle = entry.middle;
+    let end = entry.end;
     subject_holds(
         subject,
         operator,
-        &line[arg_start..arg_end],
-        &value[..n],
+        &values[start..middle],
+        &values[middle..end],
         dev,
         at,
         t,
@@ -196,10 +179,19 @@ pub enum Matched {
     Missed,
 }
 
-// The nearest device at which the parent keys from a pair on hold.
-fn nearest(line: &[u8], first: Pair, dev: &[u8], chain: Chain, t: &[u8], layout: Layout) -> Matched
-    requires { ⌜ Stands (now line) first × Begun (now dev) chain (now t) layout ⌝ }
-    ensures { λ r. ⌜ NearestOf (now (line .entry)) first (now (dev .entry)) chain (now (t .entry)) layout r ⌝ }
+// The nearest device at which the parent keys of the rows from a place to another hold.
+fn nearest(
+    values: &[u8],
+    rows: &[u16],
+    from: usize,
+    to: usize,
+    dev: &[u8],
+    chain: Chain,
+    t: &[u8],
+    layout: Layout,
+) -> Matched
+    requires { ⌜ (from ≤ to) × Segment (now values) (now rows) to × Begun (now dev) chain (now t) layout ⌝ }
+    ensures { λ r. ⌜ NearestOf (now (values .entry)) (now (rows .entry)) from to (now (dev .entry)) chain (now (t .entry)) layout r ⌝ }
 {
     let devices = chain.len;
     let places = chain.at;
@@ -209,13 +201,16 @@ fn nearest(line: &[u8], first: Pair, dev: &[u8], chain: Chain, t: &[u8], layout:
             break 'search Matched::Missed;
         }
         let device = places[k];
-        let mut pair = first;
+        let mut i = from;
         loop {
-            let key = pair.key;
-            let next = pair.next;
+            if to <= i {
+                break 'search Matched::At(k + 1);
+            }
+            let entry = table::pair_at(rows, i);
+            let key = entry.key;
             if !pair_holds(
-                line,
-                pair,
+                values,
+                entry,
                 at_parent(subject_of(key)),
                 dev,
                 device,
@@ -224,29 +219,28 @@ fn nearest(line: &[u8], first: Pair, dev: &[u8], chain: Chain, t: &[u8], layout:
             ) {
                 break;
             }
-            if line.len() <= next {
-                break 'search Matched::At(k + 1);
-            }
-            pair = rule_pairs::pair_at(line, next + 1);
+            i += 1;
         }
         k += 1;
     };
     place
 }
 
-// The place of the matched device behind a pair: 0 before the first parent key, which asks for all of them.
+// The place of the matched device behind a row: 0 before the first parent key, which asks for all of them.
 fn next_place(
     place: usize,
     parent: bool,
-    line: &[u8],
-    pair: Pair,
+    values: &[u8],
+    rows: &[u16],
+    i: usize,
+    to: usize,
     dev: &[u8],
     chain: Chain,
     t: &[u8],
     layout: Layout,
 ) -> Matched
-    requires { ⌜ (place ≤ chain .len) × Stands (now line) pair × Begun (now dev) chain (now t) layout ⌝ }
-    ensures { λ r. ⌜ NextOf place parent (now (line .entry)) pair (now (dev .entry)) chain (now (t .entry)) layout r ⌝ }
+    requires { ⌜ (place ≤ chain .len) × (i ≤ to) × Segment (now values) (now rows) to × Begun (now dev) chain (now t) layout ⌝ }
+    ensures { λ r. ⌜ NextOf place parent (now (values .entry)) (now (rows .entry)) i to (now (dev .entry)) chain (now (t .entry)) layout r ⌝ }
 {
     if 0 < place {
         return Matched::At(place);
@@ -254,36 +248,37 @@ fn next_place(
     if !parent {
         return Matched::At(0);
     }
-    nearest(line, pair, dev, chain, t, layout)
+    nearest(values, rows, i, to, dev, chain, t, layout)
 }
 
 // ---- a rule
 
-// Whether the rule whose pairs stand from `at` on matches, and at which device.
+// Whether the rule whose rows stand from a place to another matches, and at which device.
 pub fn match_rule(
-    line: &[u8],
-    at: usize,
+    values: &[u8],
+    rows: &[u16],
+    from: usize,
+    to: usize,
     dev: &[u8],
     chain: Chain,
     t: &[u8],
     layout: Layout,
 ) -> Matched
-    requires { ⌜ PairsFrom (now line) at × Begun (now dev) chain (now t) layout ⌝ }
-    ensures { λ r. ⌜ MatchedOf (now (line .entry)) at (now (dev .entry)) chain (now (t .entry)) layout r ⌝ }
+    requires { ⌜ (from ≤ to) × Segment (now values) (now rows) to × Begun (now dev) chain (now t) layout ⌝ }
+    ensures { λ r. ⌜ MatchedOf (now (values .entry)) (now (rows .entry)) from to (now (dev .entry)) chain (now (t .entry)) layout r ⌝ }
 {
     let places = chain.at;
     let event = places[0];
     let mut place: usize = 0;
-    let mut i = at;
-    loop {
-        let pair = rule_pairs::pair_at(line, i);
-        let key = pair.key;
-        let operator = pair.operator;
-        let next = pair.next;
+    let mut i = from;
+    while i < to {
+        let entry = table::pair_at(rows, i);
+        let key = entry.key;
+        let operator = entry.operator;
         let subject = subject_of(key);
         if !pair_holds(
-            line,
-            pair,
+            values,
+            entry,
             at_event(subject, operator),
             dev,
             event,
@@ -293,13 +288,22 @@ pub fn match_rule(
             return Matched::Missed;
         }
         let parent = is_parent(subject);
-        let Matched::At(found) = next_place(place, parent, line, pair, dev, chain, t, layout) else {
+        let Matched::At(found) = next_place(
+            place,
+            parent,
+            values,
+            rows,
+            i,
+            to,
+            dev,
+            chain,
+            t,
+            layout,
+        ) else {
             return Matched::Missed;
         };
         place = found;
-        if line.len() <= next {
-            return Matched::At(place);
-        }
-        i = next + 1;
+        i += 1;
     }
+    Matched::At(place)
 }

@@ -1,2 +1,4 @@
+pub mod Line
+pub mod Rules
 pub mod Lines
-pub mod Texts
+pub mod Whole

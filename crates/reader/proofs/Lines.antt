@@ -1,12 +1,14 @@
--- The lines of a text one by one: what each adds to the rules noted before it.
+-- The lines of a text one by one: what each adds to the rules of the table.
 -- Assumes nothing.
 use Prim.Native.Nat.{ℕ, suc, _+_, _-_, _*_, _≤_, _<_}
 use mathlib.Core.Path.{_≡_, refl, sym, ap, _∙_}
+use mathlib.Core.Bool.{Bool, true, false}
 use mathlib.Core.List.{List, [], _∷_, _++_, map, append-assoc, append-nil}
 use native.Mathlib.Numerals.{add-one}
 use native.Mathlib.Omega.{arith}
-use lib.ListN.{length}
-use Rattle.lists.specs.Lists.{All}
+use borrow.Author.Tests.{ltb-true, ltb-false}
+use lib.Dec.{ltb}
+use lib.ListN.{length, getD}
 use Rattle.lists.specs.Checked.{Checked, refused, ok, _>>=_, Placed, line, inPlace}
 use Rattle.lists.specs.Refusal.{Refusal, rule-extra}
 use Rattle.lists.specs.Runs.{spanAt}
@@ -15,61 +17,40 @@ use Rattle.scan.specs.Ends.{isNot}
 use Rattle.text.specs.Engine as text
 use Rattle.text.specs.Reading.{collect}
 use Rattle.text.proofs.Places.{linesAt, lines-start, lines-step, lines-end}
-use Rattle.rules.specs.Pair.{Rule, labelOf, gotoOf}
+use Rattle.rules.specs.Pair.{Rule}
 use Rattle.rules.specs.Reading.{readLine}
 use Rattle.pairs.specs.Answers.{part}
-use Rattle.lines.specs.Names.{Names, named}
-use Rattle.jumps.specs.Noted.{Noted}
-use Rattle.jumps.proofs.Noted.{noted-none}
-use Rattle.reader.specs.Read.{collected, readsAt, Numbered, UpTo}
+use Rattle.table.specs.Table.{ruleAt, rulesFrom, Rows}
+use Rattle.table.specs.Rules.{RuleIn}
+use Rattle.rule_lines.specs.declared.Fill.{Fill}
+use Rattle.rule_lines.specs.Filling.{held}
+use Rattle.rule_lines.specs.Answers.{Grown}
+use Rattle.reader.specs.declared.Counts.{Counts}
+use Rattle.reader.specs.Read.{collected, readsAt, start, UpTo, RulePut}
+use Rattle.reader.proofs.Rules.{rules-kept, rule-in-kept, rule-new, rule-in-new}
+use Rattle.table.proofs.Rules.{rules-snoc}
 
--- ---- a line that was read
-
-pub named-skip : (x : text.LineRead Rule) → text.skip ≡ named x → x ≡ text.skip
-named-skip text.skip e = refl
-named-skip (text.fault f) e = let z : _≡_ {A = ℕ} 0 1 = cc in absurd (omega arith)
-named-skip (text.rule r) e = let z : _≡_ {A = ℕ} 0 1 = cc in absurd (omega arith)
-
-pub named-fault : (f : Refusal) (x : text.LineRead Rule) → text.fault f ≡ named x → x ≡ text.fault f
-named-fault f text.skip e = let z : _≡_ {A = ℕ} 0 1 = cc in absurd (omega arith)
-named-fault f (text.fault g) e = let w : g ≡ f = cc in ap (λ (h : Refusal). text.fault h) w
-named-fault f (text.rule r) e = let z : _≡_ {A = ℕ} 0 1 = cc in absurd (omega arith)
-
-pub record NamedRule (m : Names) (x : text.LineRead Rule) : Type 0 where
-  pub rule : Rule
-  pub is : x ≡ text.rule rule
-  pub label : labelOf rule ≡ m .label
-  pub goto : gotoOf rule ≡ m .goto
-
-pub named-rule : (m : Names) (x : text.LineRead Rule) → text.rule m ≡ named x → NamedRule m x
-named-rule m text.skip e = let z : _≡_ {A = ℕ} 0 1 = cc in absurd (omega arith)
-named-rule m (text.fault f) e = let z : _≡_ {A = ℕ} 0 1 = cc in absurd (omega arith)
-named-rule m (text.rule r) e =
-    let w : record { label = labelOf r; goto = gotoOf r } ≡ m = cc in
-    record { rule = r; is = refl; label = ap (λ (n : Names). n .label) w; goto = ap (λ (n : Names). n .goto) w }
-
--- ---- before the first line, and behind the last
+abbrev Rules : Type 0
+Rules = List (Placed Rule)
 
 behind-none : (c : Checked (Placed Refusal) (List (Placed Rule))) → c ≡ (c >>= λ (qs : List (Placed Rule)). ok ([] ++ qs))
 behind-none (refused f) = refl
 behind-none (ok qs) = refl
 
-pub upto-start : (t l : List ℕ) → length l ≡ 7 * mostRules → UpTo t 0 1 0 l []
-upto-start t l h = record {
-  noted = noted-none t l h;
-  whole = rw (lines-start t) (behind-none (collected t));
-  numbered = tt;
+pub upto-start : (x v r t l : List ℕ) → length t ≡ mostRules * 4 → length l ≡ mostRules → UpTo x v r t l 0 1 (record { rules = 0; rows = 0; used = 0 })
+unfolding rulesFrom
+upto-start x v r t l a b = record {
+  few = omega arith;
+  rules-room = a;
+  labels-room = b;
+  rows = record { filled = omega arith; room = omega arith; within = λ i h. absurd (omega arith) };
+  rules = λ i h. absurd (omega arith);
+  whole = rw (lines-start x) (behind-none (collected x));
 }
 
-pub upto-end : (t : List ℕ) (at n count : ℕ) (l : List ℕ) (rs : List (Placed Rule)) → UpTo t at n count l rs → length t < at → collected t ≡ ok rs
+pub upto-end : (x v r t l : List ℕ) (at n : ℕ) (c : Counts) → UpTo x v r t l at n c → length x < at → collected x ≡ ok (rulesFrom v r t 0 (c .rules))
 unfolding collect
-upto-end t at n count l rs u h = u .whole ∙ rw (lines-end t at n h, append-nil rs)
-
--- ---- one line
-
-numbered-snoc : (rs : List (Placed Rule)) (n : ℕ) (r : Rule) → n < 65536 → Numbered rs → Numbered (rs ++ (line n r ∷ []))
-numbered-snoc [] n r h k = (h, tt)
-numbered-snoc (p ∷ rs) n r h (a, k) = (a, numbered-snoc rs n r h k)
+upto-end x v r t l at n c u h = u .whole ∙ rw (lines-end x at n h, append-nil (rulesFrom v r t 0 (c .rules)))
 
 behind-rule : (rs : List (Placed Rule)) (p : Placed Rule) (c : Checked (Placed Refusal) (List (Placed Rule)))
     → ((c >>= λ (qs : List (Placed Rule)). ok (p ∷ qs)) >>= λ (qs : List (Placed Rule)). ok (rs ++ qs))
@@ -77,38 +58,52 @@ behind-rule : (rs : List (Placed Rule)) (p : Placed Rule) (c : Checked (Placed R
 behind-rule rs p (refused f) = refl
 behind-rule rs p (ok qs) = ap ok (sym (append-assoc rs (p ∷ []) qs))
 
-module _ (t : List ℕ) (at end n count : ℕ) (l : List ℕ) (rs : List (Placed Rule)) (u : UpTo t at n count l rs) (h : at ≤ length t) (e : end ≡ spanAt (isNot 10) t at) where
+module _ (x v r t l : List ℕ) (at end n : ℕ) (c : Counts) (u : UpTo x v r t l at n c) (h : at ≤ length x) (e : end ≡ spanAt (isNot 10) x at) where
   abbrev here : text.LineRead Rule
-  here = readLine (part t at end)
+  here = readLine (part x at end)
 
   abbrev after : List (Placed (text.LineRead Rule))
-  after = readsAt t (end + 1) (n + 1)
+  after = readsAt x (end + 1) (n + 1)
 
-  first : readsAt t at n ≡ line n here ∷ after
-  first = rw (add-one n) (ap (λ (ls : List (Placed (List ℕ))). map (inPlace readLine) ls) (lines-step t at end n h e))
+  first : readsAt x at n ≡ line n here ∷ after
+  first = rw (add-one n) (ap (λ (ls : List (Placed (List ℕ))). map (inPlace readLine) ls) (lines-step x at end n h e))
 
-  whole : collected t ≡ (collect (mostRules - count) (line n here ∷ after) >>= λ (qs : List (Placed Rule)). ok (rs ++ qs))
+  whole : collected x ≡ (collect (mostRules - c .rules) (line n here ∷ after) >>= λ (qs : List (Placed Rule)). ok (rulesFrom v r t 0 (c .rules) ++ qs))
   whole = rw first at (u .whole)
 
-  pub upto-skip : here ≡ text.skip → UpTo t (end + 1) (n + 1) count l rs
+  pub upto-skip : here ≡ text.skip → UpTo x v r t l (end + 1) (n + 1) c
   unfolding collect
-  upto-skip x = record { noted = u .noted; whole = whole ∙ rw x; numbered = u .numbered }
+  upto-skip y = record { few = u .few; rules-room = u .rules-room; labels-room = u .labels-room; rows = u .rows; rules = u .rules; whole = whole ∙ rw y }
 
-  pub upto-fault : (f : Refusal) → here ≡ text.fault f → collected t ≡ refused (line n f)
+  pub upto-fault : (f : Refusal) → here ≡ text.fault f → collected x ≡ refused (line n f)
   unfolding collect
-  upto-fault f x = whole ∙ rw x
+  upto-fault f y = whole ∙ rw y
 
-  module _ (r : Rule) (x : here ≡ text.rule r) where
-    pub upto-extra : mostRules ≤ count → collected t ≡ refused (line n rule-extra)
-    unfolding collect
-    upto-extra m = let z : mostRules - count ≡ 0 = omega arith in whole ∙ rw (x, z)
+  pub upto-extra : (p : Rule) → here ≡ text.rule p → mostRules ≤ c .rules → collected x ≡ refused (line n rule-extra)
+  unfolding collect
+  upto-extra p y m = let z : mostRules - c .rules ≡ 0 = omega arith in whole ∙ rw (y, z)
 
-    pub upto-rule : count < mostRules → n < 65536 → (l′ : List ℕ) → Noted t l′ (count + 1) (rs ++ (line n r ∷ [])) → UpTo t (end + 1) (n + 1) (count + 1) l′ (rs ++ (line n r ∷ []))
+  module _ (v′ r′ t′ l′ : List ℕ) (s : Fill) (m m′ : ℕ) (g : Grown (c .rows) (start (c .rows) (c .used)) v r m s v′ r′ m′) (y : here ≡ text.rule (held v′ r′ (c .rows) s))
+      (put : RulePut (c .rules) n (c .rows) s t l t′ l′) (few : c .rules < mostRules) where
+    rules-more : rulesFrom v′ r′ t′ 0 (c .rules + 1) ≡ rulesFrom v r t 0 (c .rules) ++ (line n (held v′ r′ (c .rows) s) ∷ [])
+    rules-more =
+        rules-snoc v′ r′ t′ (c .rules)
+        ∙ (λ i. rules-kept v r v′ r′ (c .rows) (c .used) (u .rows) (g .kept) t l t′ l′ (c .rules) (put .four .before) (put .before) (u .rules) i
+        ++ (rule-new v′ r′ t l t′ l′ (c .rules) n (c .rows) s put (g .held) i ∷ []))
+
+    pub upto-rule : UpTo x v′ r′ t′ l′ (end + 1) (n + 1) (record { rules = c .rules + 1; rows = s .rows; used = s .used })
     unfolding collect
-    upto-rule m b l′ d =
-        let z : mostRules - count ≡ suc (mostRules - (count + 1)) = omega arith in
+    upto-rule =
+        let z : mostRules - c .rules ≡ suc (mostRules - (c .rules + 1)) = omega arith in
         record {
-          noted = d;
-          whole = whole ∙ rw (x, z) (behind-rule rs (line n r) (collect (mostRules - (count + 1)) after));
-          numbered = numbered-snoc rs n r b (u .numbered);
+          few = omega arith;
+          rules-room = put .four .size ∙ u .rules-room;
+          labels-room = put .size ∙ u .labels-room;
+          rows = g .held .rows;
+          rules = λ i k. go i k (ltb i (c .rules)) refl;
+          whole = whole ∙ rw (y, z, rules-more) (behind-rule (rulesFrom v r t 0 (c .rules)) (line n (held v′ r′ (c .rows) s)) (collect (mostRules - (c .rules + 1)) after));
         }
+      where
+        go : (i : ℕ) → i < c .rules + 1 → (b : Bool) → ltb i (c .rules) ≡ b → RuleIn v′ r′ t′ l′ (s .rows) i
+        go i k true q = rule-in-kept v r v′ r′ (c .rows) (c .used) (u .rows) (g .kept) t l t′ l′ (c .rules) (put .four .before) (put .before) (u .rules) (s .rows) (g .rows) i (ltb-true i (c .rules) q)
+        go i k false q = let w : i ≡ c .rules = omega (arith, ltb-false i (c .rules) q) in rw w (rule-in-new v′ r′ t l t′ l′ (c .rules) n (c .rows) s put (g .held) (g .rows))

@@ -1,121 +1,199 @@
-// A rules text, read without a device: accepted, or refused by 2, by 10 to 18 line by line, or by 19.
+// A rules text, read into a table: 2, then 10 to 18 line by line, then 19.
 ghost use mathlib.Core.Path.{_≡_};
-ghost use Prim.Native.Nat.{_+_, _*_, _≤_, _<_};
+ghost use mathlib.Core.Bool.{false};
+ghost use Prim.Native.Nat.{ℕ, _+_, _-_, _*_, _≤_, _<_};
 ghost use lib.ListN.{length};
+ghost use Rattle.lists.specs.Bytes.{holds};
 ghost use Rattle.lists.specs.Sizes.{mostRules, mostText};
-ghost use Rattle.lines.specs.Answers.{CleanLine};
-ghost use Rattle.reader.specs.Read.{ReadTo, TakenIs, LinesAre, textBy, verdict};
+ghost use Rattle.lines.specs.Ends.{CleanLine};
+ghost use Rattle.table.specs.Table.{Rows};
+ghost use Rattle.rule_lines.specs.Filling.{Room};
+ghost use Rattle.reader.specs.Texts.{TextIs};
+ghost use Rattle.reader.specs.Read.{start, LineIs, UpTo, Fits, RulePut, TakenIs, LinesAre, Lends};
 use jumps::Settled;
 use lines::LineEnd;
-use lines::LineRead;
 use refusals::Refusal;
+use rule_lines::Fill;
+use rule_lines::PairsRead;
 
-// The room that noting the labels and jumps of 512 rules takes.
-const ROOM: usize = 3584;
+pub enum LineRead {
+    Skipped,
+    Fault(Refusal),
+    Rule(Fill),
+}
 
-// ---- a line
+// A line without its newline, and without NUL, behind n rows.
+fn read_line(line: &[u8], values: &mut [u8], rows: &mut [u16], n: usize, used: usize) -> LineRead
+    requires { ⌜ (holds 0 (now line) ≡ false) × Rows (now values) (now rows) n used × Room (length (now line) + 1) (now values) (now rows) (start n used) ⌝ }
+    ensures { λ r. ⌜ ((beyond : ℕ) → Room (beyond + length (now (line .entry)) + 1) (now (values .entry)) (now (rows .entry)) (start n used) → LineIs (now (line .entry)) beyond n used (now (values .entry)) (now (rows .entry)) (now (values .exit)) (now (rows .exit)) r) ⌝ }
+{
+    let at = scan::blank_end(line, 0);
+    let first = scan::byte_at(line, at);
+    if 1024 < line.len() {
+        return LineRead::Fault(Refusal::LineBad);
+    }
+    if line.len() <= at {
+        return LineRead::Skipped;
+    }
+    if first == b'#' {
+        return LineRead::Skipped;
+    }
+    match rule_lines::read_pairs(line, at, values, rows, n, used) {
+        PairsRead::Refused(f) => LineRead::Fault(f),
+        PairsRead::Read(fill) => LineRead::Rule(fill),
+    }
+}
+
+// ---- the rules
+
+// How many rules, rows and bytes of values a table holds.
+pub struct Counts {
+    pub rules: usize,
+    pub rows: usize,
+    pub used: usize,
+}
+
+fn put_rule(rules: &mut [u16], labels: &mut [u16], i: usize, number: usize, from: usize, fill: Fill)
+    requires { ⌜ (i < mostRules) × (length (now rules) ≡ mostRules * 4) × (length (now labels) ≡ mostRules) × (number < 65536) × (from ≤ fill .rows) × (fill .rows < 65536) × (fill .label ≤ fill .rows) × (fill .goto ≤ fill .rows) ⌝ }
+    ensures { λ _. ⌜ RulePut i number from fill (now (rules .entry)) (now (labels .entry)) (now (rules .exit)) (now (labels .exit)) ⌝ }
+{
+    table::put_four(rules, i * 4, number, from, fill.rows, fill.goto);
+    labels[i] = table::short(fill.label);
+}
 
 pub enum Taken {
     Refused(Refusal),
-    // the place of the next line, and the rules so far
-    Next(usize, usize),
+    // the place of the next line
+    Next(usize, Counts),
 }
 
-// Reads the line from a place to another, and notes its rule behind those of the lines before.
+// Reads the line from a place to another into the table, behind those before it.
 fn take_clean(
     text: &[u8],
     at: usize,
     end: usize,
     number: usize,
-    count: usize,
-    noted: &mut [u16; ROOM],
+    values: &mut [u8],
+    rows: &mut [u16],
+    rules: &mut [u16],
+    labels: &mut [u16],
+    counts: Counts,
 ) -> Taken
-    requires { ⌜ (length (now text) ≤ mostText) × (at ≤ length (now text)) × CleanLine (now text) at end × (number ≤ at + 1) × ReadTo (now text) at number count (now noted) ⌝ }
-    ensures { λ r. ⌜ TakenIs (now (text .entry)) at number (now (noted .exit)) r ⌝ }
+    requires { ⌜ (length (now text) ≤ mostText) × (at ≤ length (now text)) × CleanLine (now text) at end × (number ≤ at + 1) × UpTo (now text) (now values) (now rows) (now rules) (now labels) at number counts × Fits (length (now text) + 1 - at) (now values) (now rows) counts ⌝ }
+    ensures { λ r. ⌜ TakenIs (now (text .entry)) at number (now (values .exit)) (now (rows .exit)) (now (rules .exit)) (now (labels .exit)) r ⌝ }
 {
-    match lines::read_line(&text[at..end]) {
-        LineRead::Skipped => Taken::Next(end + 1, count),
+    let count = counts.rules;
+    let n = counts.rows;
+    match read_line(&text[at..end], values, rows, n, counts.used) {
+        LineRead::Skipped => Taken::Next(end + 1, counts),
         LineRead::Fault(f) => Taken::Refused(f),
-        LineRead::Rule(marks) => {
+        LineRead::Rule(fill) => {
             if 512 <= count {
                 return Taken::Refused(Refusal::RuleExtra);
             }
-            let label = marks.label;
-            let goto = marks.goto;
-            jumps::note(noted, count, number, &text[at..end], at, label, goto);
-            Taken::Next(end + 1, count + 1)
+            put_rule(rules, labels, count, number, n, fill);
+            let after = Counts {
+                rules: count + 1,
+                rows: fill.rows,
+                used: fill.used,
+            };
+            Taken::Next(end + 1, after)
         }
     }
 }
 
 // Reads the line at a place.
-fn take_line(text: &[u8], at: usize, number: usize, count: usize, noted: &mut [u16; ROOM]) -> Taken
-    requires { ⌜ (length (now text) ≤ mostText) × (at ≤ length (now text)) × (number ≤ at + 1) × ReadTo (now text) at number count (now noted) ⌝ }
-    ensures { λ r. ⌜ TakenIs (now (text .entry)) at number (now (noted .exit)) r ⌝ }
+fn take_line(
+    text: &[u8],
+    at: usize,
+    number: usize,
+    values: &mut [u8],
+    rows: &mut [u16],
+    rules: &mut [u16],
+    labels: &mut [u16],
+    counts: Counts,
+) -> Taken
+    requires { ⌜ (length (now text) ≤ mostText) × (at ≤ length (now text)) × (number ≤ at + 1) × UpTo (now text) (now values) (now rows) (now rules) (now labels) at number counts × Fits (length (now text) + 1 - at) (now values) (now rows) counts ⌝ }
+    ensures { λ r. ⌜ TakenIs (now (text .entry)) at number (now (values .exit)) (now (rows .exit)) (now (rules .exit)) (now (labels .exit)) r ⌝ }
 {
     match lines::line_end(text, at) {
-        LineEnd::At(end) => take_clean(text, at, end, number, count, noted),
+        LineEnd::At(end) => take_clean(text, at, end, number, values, rows, rules, labels, counts),
         LineEnd::Nul => Taken::Refused(Refusal::LineBad),
     }
 }
 
-// ---- the lines
-
 pub enum LinesRead {
     Refused(Refusal, usize),
-    // the number of rules
-    Rules(usize),
+    Rules(Counts),
 }
 
-fn read_lines(text: &[u8], noted: &mut [u16; ROOM]) -> LinesRead
-    requires { ⌜ (length (now text) ≤ mostText) × (length (now noted) ≡ 7 * mostRules) ⌝ }
-    ensures { λ r. ⌜ LinesAre (now (text .entry)) (now (noted .exit)) r ⌝ }
+// Reads all lines.
+pub fn read_lines(
+    text: &[u8],
+    values: &mut [u8],
+    rows: &mut [u16],
+    rules: &mut [u16],
+    labels: &mut [u16],
+) -> LinesRead
+    requires { ⌜ (length (now text) ≤ mostText) × Lends (length (now text)) (now values) (now rows) × (length (now rules) ≡ mostRules * 4) × (length (now labels) ≡ mostRules) ⌝ }
+    ensures { λ r. ⌜ LinesAre (now (text .entry)) (now (values .exit)) (now (rows .exit)) (now (rules .exit)) (now (labels .exit)) r ⌝ }
 {
     let mut at: usize = 0;
     let mut number: usize = 1;
-    let mut count: usize = 0;
+    let mut counts = Counts {
+        rules: 0,
+        rows: 0,
+        used: 0,
+    };
     while at <= text.len() {
-        match take_line(text, at, number, count, noted) {
+        match take_line(text, at, number, values, rows, rules, labels, counts) {
             Taken::Refused(f) => {
                 return LinesRead::Refused(f, number);
             }
-            Taken::Next(next, rules) => {
+            Taken::Next(next, after) => {
                 at = next;
                 number += 1;
-                count = rules;
+                counts = after;
             }
         }
     }
-    LinesRead::Rules(count)
+    LinesRead::Rules(counts)
 }
 
 // ---- a text
 
 pub enum TextRead {
-    Accepted,
-    // the refusal and its line
-    Refused(Refusal, u32),
+    Refused(Refusal, usize),
+    Accepted(Counts),
 }
 
-fn line_number(n: usize) -> u32
-    requires { ⌜ n < 65536 ⌝ }
-    ensures { λ r. ⌜ r ≡ n ⌝ }
-{
-    n as u32
-}
-
-pub fn read_text(text: &[u8]) -> TextRead
-    ensures { λ r. ⌜ textBy r ≡ verdict (now (text .entry)) ⌝ }
+// Reads a text into a table, with its jumps.
+pub fn read_text(
+    text: &[u8],
+    values: &mut [u8],
+    rows: &mut [u16],
+    rules: &mut [u16],
+    labels: &mut [u16],
+    jumps: &mut [u16],
+) -> TextRead
+    requires { ⌜ (length (now text) ≤ mostText → Lends (length (now text)) (now values) (now rows)) × (length (now rules) ≡ mostRules * 4) × (length (now labels) ≡ mostRules) × (length (now jumps) ≡ mostRules) ⌝ }
+    ensures { λ r. ⌜ TextIs (now (text .entry)) (now (values .exit)) (now (rows .exit)) (now (rules .exit)) (now (labels .exit)) (now (jumps .exit)) r ⌝ }
 {
     if 32768 < text.len() {
         return TextRead::Refused(Refusal::TextLong, 0);
     }
-    let mut noted: [u16; ROOM] = [0; ROOM];
-    match read_lines(text, &mut noted) {
-        LinesRead::Refused(f, n) => TextRead::Refused(f, line_number(n)),
-        LinesRead::Rules(count) => match jumps::settle(text, &noted, count) {
-            Settled::All => TextRead::Accepted,
-            Settled::Missing(n) => TextRead::Refused(Refusal::LabelMissing, line_number(n)),
+    match read_lines(text, values, rows, rules, labels) {
+        LinesRead::Refused(f, n) => TextRead::Refused(f, n),
+        LinesRead::Rules(counts) => match jumps::settle(
+            values,
+            rows,
+            rules,
+            labels,
+            jumps,
+            counts.rules,
+        ) {
+            Settled::All => TextRead::Accepted(counts),
+            Settled::Missing(n) => TextRead::Refused(Refusal::LabelMissing, n),
         },
     }
 }

@@ -5,13 +5,12 @@ use mathlib.Core.Path.{_≡_, sym, ap, _∙_, subst}
 use mathlib.Core.Bool.{false}
 use mathlib.Core.List.{List}
 use mathlib.Core.Option.{none, some}
-use native.Mathlib.Omega.{arith}
 use borrow.Author.Tests.{le-leb, lt-leb}
 use lib.ListN.{length, replicate}
 use Rattle.lists.proofs.Lists.{is-none}
 use Rattle.lists.specs.Lists.{isSome}
 use Rattle.lists.specs.Bytes.{Bytes}
-use Rattle.lists.specs.Checked.{Checked, refused, ok, _>>_, Placed, line}
+use Rattle.lists.specs.Checked.{refused, ok, Placed, line}
 use Rattle.lists.specs.Refusal.{Refusal, target-short, device-bad, outcome-bad}
 use Rattle.lists.specs.Sizes.{fullestOutcome}
 use Rattle.rules.specs.Pair.{Rule}
@@ -35,19 +34,9 @@ use Rattle.outcome_check.proofs.Answers.{sound-state, faulty-state}
 use Rattle.outcome_check.specs.Check.{checkedOf}
 use Rattle.outcome_check.specs.declared.Checked.the-variants.{Sound, Faulty}
 use Rattle.engine.specs.Operations.{engine, decodeFor, run}
-use Rattle.reader.specs.Read.{verdict}
 use Rattle.answers.specs.Answers.{answered, Refuses, Accepts}
 use Rattle.answers.specs.declared.Given.{Given}
 use Rattle.run.specs.Running.{Held}
-
--- ---- what the checks say
-
-pub text-refused : (t : List ℕ) (f : Placed Refusal) → refused f ≡ verdict t → readText reader t ≡ refused f
-text-refused t f e = go (readText reader t) e
-  where
-    go : (c : Checked (Placed Refusal) (List (Placed Rule))) → refused f ≡ (c >> ok (tt {0})) → c ≡ refused f
-    go (refused g) q = let w : f ≡ g = cc in ap refused (sym w)
-    go (ok rs) q = let z : _≡_ {A = ℕ} 0 1 = cc in absurd (omega arith)
 
 -- ---- in turn
 

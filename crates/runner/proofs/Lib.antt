@@ -1,3 +1,2 @@
-pub mod Modes
-pub mod Lines
-pub mod Texts
+pub mod Seek
+pub mod Running

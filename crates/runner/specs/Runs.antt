@@ -1,67 +1,69 @@
--- What running one line, and all lines, of an accepted text leaves.
+-- What running one rule, and all rules, of a table leaves.
 -- Assumes nothing.
-use Prim.Native.Nat.{ℕ, _+_, _≤_}
+use Prim.Native.Nat.{ℕ, _+_, _-_, _*_, _≤_, _<_}
 use mathlib.Core.Path.{_≡_}
 use mathlib.Core.List.{List}
-use lib.ListN.{length}
-use Rattle.lists.specs.Checked.{refused, ok, Placed, line}
+use lib.Dec.{eqb}
+use lib.ListN.{length, getD}
+use Rattle.lists.specs.Lists.{pick}
+use Rattle.lists.specs.Checked.{refused, ok, line}
+use Rattle.lists.specs.Sizes.{mostRules}
 use Rattle.refusals.specs.Refusals.{refusalOf}
-use Rattle.rules.specs.Reading.{reader, readLine}
-use Rattle.rules.specs.Pair.{Rule}
-use Rattle.pairs.specs.Answers.{part}
 use Rattle.device.specs.Device.{Device}
 use Rattle.device_lookup.specs.declared.Chain.{Chain}
 use Rattle.outcome.specs.State.{State}
 use Rattle.outcome_target.specs.declared.Layout.{Layout}
-use Rattle.lists.specs.Refusal as refusal
-use Rattle.text.specs.Engine.{fault}
-use Rattle.text.specs.Reading.{readText}
-use Rattle.text.specs.Running.{Ran, Halt, next, runFrom}
-use Rattle.text.specs.Rules.{runLine}
+use Rattle.text.specs.Running.{Ran, Halt, more, next, runFrom}
 use Rattle.engine.specs.Operations.{engine}
-use Rattle.records.specs.Records.{Denotes, Ready}
-use Rattle.runner.specs.Modes.{modeOf, Sought}
-use Rattle.runner.specs.declared.Mode.{Mode}
-use Rattle.runner.specs.declared.Mode.the-variants.{Next}
-use Rattle.runner.specs.declared.LineRan.{LineRan}
-use Rattle.runner.specs.declared.LineRan.the-variants as on
+use Rattle.records.specs.Records.{Denotes}
+use Rattle.table.specs.Table.{rulesFrom}
+use Rattle.jumps.specs.Jumps.{Jumps}
+use Rattle.assignment.specs.Assignment.{RuleRows}
+use Rattle.runner.specs.declared.RuleRan.{RuleRan}
+use Rattle.runner.specs.declared.RuleRan.the-variants as rule
 use Rattle.runner.specs.declared.TextRan.{TextRan}
 use Rattle.runner.specs.declared.TextRan.the-variants as all
 
--- ---- one line
+-- a table of n rules that may run
+pub record Runnable (v r t js : List ℕ) (n : ℕ) : Type 0 where
+  pub few : n ≤ mostRules
+  pub rules-room : n * 4 ≤ length t
+  pub jumps-room : n ≤ length js
+  pub rules : (i : ℕ) → i < n → RuleRows v r (getD t (i * 4 + 1) 0) (getD t (i * 4 + 2) 0)
+  pub jumps : Jumps v r t n js n
 
--- a line of a text, from start to end, that may run
-pub record LineReady (text : List ℕ) (start end : ℕ) (dev : List ℕ) (places : Chain) (t : List ℕ) (lay : Layout) (m : Mode) : Type 0 where
-  pub from : start ≤ end
-  pub within : end ≤ length text
-  pub faultless : (f : refusal.Refusal) → readLine (part text start end) ≡ fault f → ⊥
-  pub sought : Sought text m
-  pub ready : Ready dev places t lay
+-- the rule behind the i-th, if it matched and its jump is k
+abbrev pub behindOf : ℕ → ℕ → ℕ
+behindOf k i = pick (eqb k 0) (i + 1) (k - 1)
 
--- the run goes on in a layout and a mode, with v rules visited
-abbrev pub GoesOn : List ℕ → List ℕ → Chain → Device → List ℕ → Layout → Mode → ℕ → Ran State → Type 0
-GoesOn text dev places d t lay m v c = (s : State) × (c ≡ ok (record { mode = modeOf text m; state = s; visited = v })) × Denotes dev places t lay d s × Sought text m
+-- what the rules from the i-th on give
+abbrev pub runs : List ℕ → List ℕ → List ℕ → ℕ → Device → State → ℕ → Ran State
+runs v r t n d s i = runFrom engine d next s (rulesFrom v r t i (n - i))
 
--- the answer of a line beside what the definition gives; before the line the run stood in a layout and a mode, with v rules visited
-abbrev pub LineSays : List ℕ → List ℕ → Chain → Layout → Mode → Device → ℕ → ℕ → List ℕ → LineRan → Ran State → Type 0
-LineSays text dev places lay m d v n t′ on.Skipped c = GoesOn text dev places d t′ lay m v c
-LineSays text dev places lay m d v n t′ on.Missed c = GoesOn text dev places d t′ lay Next (v + 1) c
-LineSays text dev places lay m d v n t′ (on.Left lay′ m′) c = GoesOn text dev places d t′ lay′ m′ (v + 1) c
-LineSays text dev places lay m d v n t′ (on.Refused f) c = c ≡ refused (line n (refusalOf f))
+-- ---- one rule
 
-pub record LineRuns (text : List ℕ) (start end : ℕ) (dev : List ℕ) (places : Chain) (t : List ℕ) (lay : Layout) (m : Mode) (t′ : List ℕ) (r : LineRan) : Type 0 where
-  pub says : (d : Device) (s : State) → Denotes dev places t lay d s → (v n : ℕ) → LineSays text dev places lay m d v n t′ r (runLine engine d (modeOf text m) s v (line n (readLine (part text start end))))
-  pub length : length t′ ≡ length t
+abbrev pub RuleSays : List ℕ → List ℕ → List ℕ → ℕ → ℕ → List ℕ → Chain → List ℕ → Layout → List ℕ → RuleRan → Type 0
+RuleSays v r t n i dev places x lay x′ (rule.Next lay′ j) =
+    (i < j) × (j ≤ n) × ((d : Device) (s : State) → Denotes dev places x lay d s → (s′ : State) × Denotes dev places x′ lay′ d s′ × (runs v r t n d s i ≡ more 1 (runs v r t n d s′ j)))
+RuleSays v r t n i dev places x lay x′ (rule.Refused f) =
+    (d : Device) (s : State) → Denotes dev places x lay d s → runs v r t n d s i ≡ refused (line (getD t (i * 4) 0) (refusalOf f))
 
--- ---- all lines
+pub record RuleRuns (v r t : List ℕ) (n i : ℕ) (dev : List ℕ) (places : Chain) (x : List ℕ) (lay : Layout) (x′ : List ℕ) (o : RuleRan) : Type 0 where
+  pub says : RuleSays v r t n i dev places x lay x′ o
+  pub length : length x′ ≡ length x
 
-abbrev pub Accepted : List ℕ → Type 0
-Accepted text = (rs : List (Placed Rule)) × (readText reader text ≡ ok rs)
+-- ---- all rules
 
 abbrev pub Says : List ℕ → Chain → Device → List ℕ → TextRan → Ran State → Type 0
-Says dev places d t′ (all.Ended lay v) c = (h : Halt State) × (c ≡ ok h) × Denotes dev places t′ lay d (h .state) × (v ≡ h .visited)
-Says dev places d t′ (all.Refused f n) c = c ≡ refused (line n (refusalOf f))
+Says dev places d x′ (all.Ended lay k) c = (h : Halt State) × (c ≡ ok h) × Denotes dev places x′ lay d (h .state) × (k ≡ h .visited)
+Says dev places d x′ (all.Refused f n) c = c ≡ refused (line n (refusalOf f))
 
-pub record Runs (text dev : List ℕ) (places : Chain) (t : List ℕ) (lay : Layout) (t′ : List ℕ) (r : TextRan) : Type 0 where
-  pub says : (d : Device) (s : State) → Denotes dev places t lay d s → (rs : List (Placed Rule)) → readText reader text ≡ ok rs → Says dev places d t′ r (runFrom engine d next s rs)
-  pub length : length t′ ≡ length t
+-- the visited count and the line are small
+abbrev pub Small : TextRan → Type 0
+Small (all.Ended lay k) = k < 65536
+Small (all.Refused f n) = n < 65536
+
+pub record Runs (v r t : List ℕ) (n : ℕ) (dev : List ℕ) (places : Chain) (x : List ℕ) (lay : Layout) (x′ : List ℕ) (o : TextRan) : Type 0 where
+  pub says : (d : Device) (s : State) → Denotes dev places x lay d s → Says dev places d x′ o (runFrom engine d next s (rulesFrom v r t 0 n))
+  pub small : Small o
+  pub length : length x′ ≡ length x

@@ -23,7 +23,8 @@ use Rattle.rules.specs.Reading.{reader}
 use Rattle.engine.specs.Operations as operations
 use Rattle.engine.specs.Operations.{engine, run}
 use Rattle.engine.proofs.Laws.{engine-demand3}
-use Rattle.spillfinch.specs.Exports.{numbers, check, Gives}
+use Rattle.spillfinch.specs.Exports.{numbers, Gives}
+use Rattle.text_check.specs.Check.{check}
 use Rattle.spillfinch.specs.Joined.{Checked, numberIn, lineIn, visitedIn, Call, back, Ran, followed, InTurn, together, Fit, Sound, Demand3}
 
 -- ---- checks

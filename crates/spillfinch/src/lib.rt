@@ -1,13 +1,12 @@
 // The operations as a library for C and Rust. Each writes all 8 numbers of its answer, whatever it is given.
 
 use answers::Given;
-use reader::TextRead;
 ghost use mathlib.Core.Path.{_≡_};
 ghost use mathlib.Core.List.{List, []};
 ghost use lib.ListN.{length};
 ghost use Rattle.answers.specs.Answers.{answered};
 ghost use Rattle.engine.specs.Operations.{fresh as fresh-answer, close as close-answer};
-ghost use Rattle.spillfinch.specs.Exports.{numbers, check as check-answer, Gives, CheckGives, RunGives};
+ghost use Rattle.spillfinch.specs.Exports.{numbers, Gives, CheckGives, RunGives};
 
 fn put_answer(given: Given, answer: &mut [u32; 8])
     ensures { λ _. ⌜ now (answer .exit) ≡ numbers (answered given []) ⌝ }
@@ -24,20 +23,11 @@ fn put_answer(given: Given, answer: &mut [u32; 8])
     ];
 }
 
-fn check(text: &[u8]) -> Given
-    ensures { λ r. ⌜ answered r [] ≡ check-answer (now (text .entry)) ⌝ }
-{
-    match reader::read_text(text) {
-        TextRead::Accepted => answers::accepted(0, 0),
-        TextRead::Refused(f, n) => answers::refused(f, n as usize),
-    }
-}
-
 #[no_mangle]
 pub extern "C" fn spillfinch_check(text: &[u8], answer: &mut [u32; 8])
     ensures { λ _. ⌜ CheckGives (now (text .entry)) (now (answer .exit)) ⌝ }
 {
-    put_answer(check(text), answer);
+    put_answer(text_check::check(text), answer);
 }
 
 #[no_mangle]

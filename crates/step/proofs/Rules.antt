@@ -24,12 +24,9 @@ use Rattle.matching.specs.Judging.{Begun}
 use Rattle.matching.specs.declared.Matched.{Matched}
 use Rattle.matching.specs.declared.Matched.the-variants.{At, Missed}
 use Rattle.records.specs.Records.{Denotes}
-use Rattle.rule_pairs.specs.Marks.{Marked}
-use Rattle.rule_pairs.specs.declared.Mark.the-variants.{Goto}
-use Rattle.rule_pairs.specs.declared.MarkFound.{MarkFound}
-use Rattle.assignment.specs.Assignment.{AllSays, JumpOf}
-use Rattle.assignment.specs.declared.Done.{Done}
-use Rattle.assignment.specs.declared.Done.the-variants as done
+use Rattle.records.specs.declared.Change.{Change}
+use Rattle.records.specs.declared.Change.the-variants as change
+use Rattle.assignment.specs.Assignment.{AllSays}
 use Rattle.step.specs.Step.{Says}
 use Rattle.step.specs.declared.Stepped.the-variants as stepped
 
@@ -45,17 +42,14 @@ module _ (d : Device) (s : State) (ps : List Pair) (m : Matched) (e : placeIn m 
   unfolding engine.step stepAt
   step-at k q = ap (λ (o : Option ℕ). stepAt o d ps s) (sym e ∙ ap placeIn q)
 
-  module _ (dev : List ℕ) (places : Chain) (t : List ℕ) (lay : Layout) (h : Denotes dev places t lay d s) (k : ℕ) (q : m ≡ At k) (t′ : List ℕ) (x : Done)
+  module _ (dev : List ℕ) (places : Chain) (t : List ℕ) (lay : Layout) (h : Denotes dev places t lay d s) (k : ℕ) (q : m ≡ At k) (t′ : List ℕ) (x : Change)
       (c : AllSays (length (chain d)) t′ x (assignAll d k ps (begun s))) where
-    pub step-left : (lay′ : Layout) (jump : MarkFound) → x ≡ done.Left lay′ jump → Says dev places lay d s t′ (stepped.Left lay′ jump) (engine.step d ps s)
-    step-left lay′ jump w =
-        let (v, f, z) = subst (λ (x : Done). AllSays (length (chain d)) t′ x (assignAll d k ps (begun s))) w c in
+    pub step-left : (lay′ : Layout) → x ≡ change.Left lay′ → Says dev places lay d s t′ (stepped.Left lay′) (engine.step d ps s)
+    step-left lay′ w =
+        let (v, f, z) = subst (λ (x : Change). AllSays (length (chain d)) t′ x (assignAll d k ps (begun s))) w c in
         (v .state, step-at k q ∙ ap ended f, record { device = h .device; chained = h .chained; held = z })
 
-    pub step-refused : (y : Refusal) → x ≡ done.Refused y → engine.step d ps s ≡ refused (refusalOf y)
+    pub step-refused : (y : Refusal) → x ≡ change.Refused y → engine.step d ps s ≡ refused (refusalOf y)
     step-refused y w =
-        let f : assignAll d k ps (begun s) ≡ refused (refusalOf y) = subst (λ (x : Done). AllSays (length (chain d)) t′ x (assignAll d k ps (begun s))) w c in
+        let f : assignAll d k ps (begun s) ≡ refused (refusalOf y) = subst (λ (x : Change). AllSays (length (chain d)) t′ x (assignAll d k ps (begun s))) w c in
         step-at k q ∙ ap ended f
-
-pub jump-left : (line : List ℕ) (at : ℕ) (x : Done) (lay : Layout) (jump : MarkFound) → x ≡ done.Left lay jump → JumpOf line at x → Marked line at Goto jump
-jump-left line at x lay jump w j = subst (JumpOf line at) w j

@@ -6,7 +6,6 @@ ghost use Prim.Native.Nat.{_+_, _≤_};
 ghost use lib.ListN.{length};
 use libc::STDIN_FILENO;
 use libc::STDOUT_FILENO;
-use reader::TextRead;
 
 fn say(word: &[u8]) {
     io::write_all(STDOUT_FILENO, word);
@@ -130,15 +129,16 @@ fn put_text(text: &mut [u8], row: &[u8]) -> usize
 // ---- what is found
 
 fn judge(text: &[u8]) {
-    match reader::read_text(text) {
-        TextRead::Accepted => say(b"\taccepted\n"),
-        TextRead::Refused(f, line) => {
-            say(b"\trefused ");
-            say_number(refusals::number(f));
-            say(b" line ");
-            say_number(line);
-            say(b"\n");
-        }
+    let given = text_check::check(text);
+    let number = given.number;
+    if number == 0 {
+        say(b"\taccepted\n");
+    } else {
+        say(b"\trefused ");
+        say_number(number);
+        say(b" line ");
+        say_number(given.line);
+        say(b"\n");
     }
 }
 

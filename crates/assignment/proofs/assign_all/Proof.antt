@@ -1,61 +1,77 @@
 -- `assignment::assign_all` meets its contract.
 -- Assumes nothing.
-use Rattle.assignment.proofs.Assignment.{readable, further, Going, pairs-begin, still-ready, pairs-on, pairs-end, pairs-refused}
-use Rattle.assignment.proofs.Jumps.{NotedTo, pairs-from, jump-on, jump-end}
-use lib.ListN.{length}
-use Prim.Native.Nat.{_+_, _-_}
-use mathlib.Core.Path.{refl, sym, subst}
-use Rattle.rule_pairs.specs.Marks.{Marked}
-use Rattle.rule_pairs.specs.declared.Mark.the-variants.{Goto}
 use borrow.Author.Needs.{needs}
+use Prim.Native.Nat.{_-_}
 use native.Mathlib.Omega.{arith}
+use lib.ListN.{length}
+use Rattle.assignment.proofs.Rows.{Going, going-start, still-ready, going-end, readable, going-on, going-refused}
 use Rattle.assignment.proofs.assign_all.Statement.{statement}
 use Rattle.assignment.proofs.assign_all.Tie as tie
+use Rattle.assignment.proofs.assign_all.Reads as reads
+use Rattle.assignment.proofs.assign_all.Lts as lts
+use Rattle.table.proofs.pair_at.Reads as pair-at-reads
+use Rattle.assignment.proofs.assign_pair.Reads as assign-pair-reads
 
 abbrev Inv-loop : tie.InvT-loop
-Inv-loop line at t₀ dev chain place work₀ i₀ jump₀ t work i jump = Going line at t₀ dev chain place (work₀ .layout) t work i × NotedTo line at i jump
+Inv-loop values rows from to t₀ dev chain place work₀ i₀ t work i = Going values rows from to t₀ dev chain place (work₀ .layout) t work i
 
 abbrev μ-loop : tie.MeasureT-loop
-μ-loop line at t₀ dev chain place work₀ i₀ jump₀ t work i jump = length line - i
+μ-loop values rows from to t₀ dev chain place work₀ i₀ t work i = to - i
 
+-- src/lib.rt:84:5
 loop-holds : tie.Need-loop-holds Inv-loop μ-loop
-loop-holds c = (pairs-begin (c .before .before .before .args .line .now) (c .before .before .before .args .at) (c .before .before .before .args .t .now) (c .before .before .before .args .dev .now) (c .before .before .before .args .chain) (c .before .before .before .args .place) (c .before .before .before .args .layout) (c .before .before .before .pre .0), λ ps h. (ps, h, refl))
+loop-holds c = let a = c .before .before .before .before .args in going-start (a .values .now) (a .rows .now) (a .from) (a .to) (a .t .now) (a .dev .now) (a .chain) (a .place) (a .layout) (c .before .before .before .before .pre .0)
 
+-- src/lib.rt:85:13
 pair-at-requires : tie.Need-pair-at-requires Inv-loop μ-loop
-pair-at-requires c κs = let (m, (ps, h, a)) = c .loop .inv .0 .rule in (m, (ps, h))
+pair-at-requires c κs = omega (arith, c .before .before .before .before .before .before .pre .0 .rows .room, c .loop-test .taken)
 
+-- src/lib.rt:86:15
 assign-pair-requires : tie.Need-assign-pair-requires Inv-loop μ-loop
-assign-pair-requires c κs = (readable (c .before .before .before .before .before .before .args .line .now) (c .before .before .loop .i) (c .before .pair-at .result) (c .before .pair-at .ensures) (c .before .before .loop .inv .0 .rule), still-ready (c .before .before .before .before .before .before .args .line .now) (c .before .before .before .before .before .before .args .at) (c .before .before .before .before .before .before .args .t .now) (c .before .before .before .before .before .before .args .dev .now) (c .before .before .before .before .before .before .args .chain) (c .before .before .before .before .before .before .args .place) (c .before .before .before .before .before .before .args .layout) (c .before .before .loop .t) (c .before .before .loop .work) (c .before .before .loop .i) (c .before .before .loop .inv .0) (c .before .before .before .before .before .before .pre .0) (c .before .before .before .before .before .before .pre .1), c .before .before .before .before .before .before .pre .2)
+assign-pair-requires c κs = let a = c .before .before .before .before .before .before .before .before .args in let l = c .before .before .before .loop in let q = c .before .pair-at in (
+  readable (a .values .now) (a .rows .now) (a .from) (a .to) (a .t .now) (a .dev .now) (a .chain) (a .place) (a .layout) (l .t) (l .work) (l .i) (l .inv) (q .result) (q .ensures) (c .before .before .loop-test .taken) (c .before .before .before .before .before .before .before .before .pre .0 .rows),
+  still-ready (a .values .now) (a .rows .now) (a .from) (a .to) (a .t .now) (a .dev .now) (a .chain) (a .place) (a .layout) (l .t) (l .work) (l .i) (l .inv) (c .before .before .before .before .before .before .before .before .pre .1),
+  c .before .before .before .before .before .before .before .before .pre .2,
+)
 
+-- src/lib.rt:87:28
 enum-known-next : tie.Need-enum-known-next Inv-loop μ-loop
 enum-known-next c = search needs
 
+-- src/lib.rt:89:17
+add-i : tie.Need-add-i Inv-loop μ-loop
+add-i c = let f = c .before .before .before .before .before .before .before .before .before .before .before .before .before .before .fits in omega (arith, c .before .before .before .before .before .before .before .before .loop-test .taken)
+
+-- src/lib.rt:84:5
+loop-less : tie.Need-loop-less Inv-loop μ-loop
+loop-less c = omega (arith, c .before .before .before .before .before .before .before .before .loop-test .taken)
+
+-- src/lib.rt:84:5
+loop-again : tie.Need-loop-again Inv-loop μ-loop
+loop-again c = let a = c .before .before .before .before .before .before .before .before .before .before .before .before .before .before .args in let l = c .before .before .before .before .before .before .before .before .before .loop in let q = c .before .before .before .before .before .before .before .pair-at in let x = c .before .before .before .before .before .assign-pair in
+    going-on (a .values .now) (a .rows .now) (a .from) (a .to) (a .t .now) (a .dev .now) (a .chain) (a .place) (a .layout) (l .t) (l .work) (l .i) (l .inv) (q .result) (q .ensures) (c .before .before .before .before .before .before .before .before .loop-test .taken) _ (x .result) (x .ensures) _ (c .before .next .given .1) (search needs)
+
+-- src/lib.rt:91:31
 enum-known-refusal : tie.Need-enum-known-refusal Inv-loop μ-loop
 enum-known-refusal c = search needs
 
+-- src/lib.rt:91:43
 same-length : tie.Need-same-length Inv-loop μ-loop
 same-length c = search needs
 
+-- src/lib.rt:91:43
 returns : tie.Need-returns Inv-loop μ-loop
-returns c = (pairs-refused (c .before .before .before .before .before .before .before .before .before .before .before .before .args .line .now) (c .before .before .before .before .before .before .before .before .before .before .before .before .args .at) (c .before .before .before .before .before .before .before .before .before .before .before .before .args .t .now) (c .before .before .before .before .before .before .before .before .before .before .before .before .args .dev .now) (c .before .before .before .before .before .before .before .before .before .before .before .before .args .chain) (c .before .before .before .before .before .before .before .before .before .before .before .before .args .place) (c .before .before .before .before .before .before .before .before .before .before .before .before .args .layout) (c .before .before .before .before .before .before .before .before .loop .t) (c .before .before .before .before .before .before .before .before .loop .work) (c .before .before .before .before .before .before .before .before .loop .i) (c .before .before .before .before .before .before .before .before .loop .inv .0) (c .before .before .before .before .before .before .before .pair-at .result) (c .before .before .before .before .before .before .before .pair-at .ensures) _ (c .before .before .before .before .before .assign-pair .result) (search needs) (c .before .before .before .before .before .assign-pair .ensures) (c .before .refusal .given .0 .0) (c .before .refusal .given .1), tt)
+returns c = let a = c .before .before .before .before .before .before .before .before .before .before .before .before .before .before .args in let l = c .before .before .before .before .before .before .before .before .before .loop in let q = c .before .before .before .before .before .before .before .pair-at in let x = c .before .before .before .before .before .assign-pair in
+    going-refused (a .values .now) (a .rows .now) (a .from) (a .to) (a .t .now) (a .dev .now) (a .chain) (a .place) (a .layout) (l .t) (l .work) (l .i) (l .inv) (q .result) (q .ensures) (c .before .before .before .before .before .before .before .before .loop-test .taken) _ (x .result) (x .ensures) _ (c .before .refusal .given .1)
 
-note-jump-requires : tie.Need-note-jump-requires Inv-loop μ-loop
-note-jump-requires c κs = search needs
-
+-- src/lib.rt:65:1
 same-length-2 : tie.Need-same-length-2 Inv-loop μ-loop
-same-length-2 c = search needs
+same-length-2 c = c .before .before .loop .inv .room
 
+-- src/lib.rt:65:1
 returns-2 : tie.Need-returns-2 Inv-loop μ-loop
-returns-2 c = ((λ ps p d s h. pairs-end (c .before .before .before .before .before .before .before .before .before .before .before .before .before .before .before .args .line .now) (c .before .before .before .before .before .before .before .before .before .before .before .before .before .before .before .args .at) (c .before .before .before .before .before .before .before .before .before .before .before .before .before .before .before .args .t .now) (c .before .before .before .before .before .before .before .before .before .before .before .before .before .before .before .args .dev .now) (c .before .before .before .before .before .before .before .before .before .before .before .before .before .before .before .args .chain) (c .before .before .before .before .before .before .before .before .before .before .before .before .before .before .before .args .place) (c .before .before .before .before .before .before .before .before .before .before .before .before .before .before .before .args .layout) (c .before .before .before .before .before .before .before .before .before .before .before .loop .t) (c .before .before .before .before .before .before .before .before .before .before .before .loop .work) (c .before .before .before .before .before .before .before .before .before .before .before .loop .i) (c .before .before .before .before .before .before .before .before .before .before .before .loop .inv .0) (c .before .before .before .before .before .before .before .before .before .before .pair-at .result) (c .before .before .before .before .before .before .before .before .before .before .pair-at .ensures) _ (c .before .before .before .before .before .before .before .before .assign-pair .result) (search needs) (c .before .before .before .before .before .before .before .before .assign-pair .ensures) (c .before .before .before .before .next .given .0 .0) (c .before .before .before .before .next .given .1) (c .before .if1 .taken) ps p d s h (c .before .before .note-jump .result)), subst (Marked (c .before .before .before .before .before .before .before .before .before .before .before .before .before .before .before .args .line .now) (c .before .before .before .before .before .before .before .before .before .before .before .before .before .before .before .args .at) Goto) (sym (c .before .before .note-jump .ensures)) (jump-end (c .before .before .before .before .before .before .before .before .before .before .before .before .before .before .before .args .line .now) (c .before .before .before .before .before .before .before .before .before .before .before .before .before .before .before .args .at) (c .before .before .before .before .before .before .before .before .before .before .before .loop .i) (c .before .before .before .before .before .before .before .before .before .before .pair-at .result) (pairs-from (c .before .before .before .before .before .before .before .before .before .before .before .before .before .before .before .args .line .now) (c .before .before .before .before .before .before .before .before .before .before .before .loop .i) (c .before .before .before .before .before .before .before .before .before .before .before .loop .inv .0 .rule)) (c .before .before .before .before .before .before .before .before .before .before .pair-at .ensures) (c .before .before .before .before .before .before .before .before .before .before .before .loop .jump) (c .before .before .before .before .before .before .before .before .before .before .before .loop .inv .1) (c .before .if1 .taken)))
-
-add-i : tie.Need-add-i Inv-loop μ-loop
-add-i c = search needs
-
-loop-less : tie.Need-loop-less Inv-loop μ-loop
-loop-less c = let (m, (ps, h, a)) = c .before .before .before .before .before .before .before .before .before .before .loop .inv .0 .rule in let f = further (c .before .before .before .before .before .before .before .before .before .before .before .before .before .before .args .line .now) (c .before .before .before .before .before .before .before .before .before .before .loop .i) (c .before .before .before .before .before .before .before .before .before .pair-at .result) (c .before .before .before .before .before .before .before .before .before .pair-at .ensures) (c .before .before .before .before .before .before .before .before .before .before .loop .inv .0 .rule) in omega (arith, f, c .if1 .left, m)
-
-loop-again : tie.Need-loop-again Inv-loop μ-loop
-loop-again c = (pairs-on (c .before .before .before .before .before .before .before .before .before .before .before .before .before .before .args .line .now) (c .before .before .before .before .before .before .before .before .before .before .before .before .before .before .args .at) (c .before .before .before .before .before .before .before .before .before .before .before .before .before .before .args .t .now) (c .before .before .before .before .before .before .before .before .before .before .before .before .before .before .args .dev .now) (c .before .before .before .before .before .before .before .before .before .before .before .before .before .before .args .chain) (c .before .before .before .before .before .before .before .before .before .before .before .before .before .before .args .place) (c .before .before .before .before .before .before .before .before .before .before .before .before .before .before .args .layout) (c .before .before .before .before .before .before .before .before .before .before .loop .t) (c .before .before .before .before .before .before .before .before .before .before .loop .work) (c .before .before .before .before .before .before .before .before .before .before .loop .i) (c .before .before .before .before .before .before .before .before .before .before .loop .inv .0) (c .before .before .before .before .before .before .before .before .before .pair-at .result) (c .before .before .before .before .before .before .before .before .before .pair-at .ensures) _ (c .before .before .before .before .before .before .before .assign-pair .result) (search needs) (c .before .before .before .before .before .before .before .assign-pair .ensures) (c .before .before .before .next .given .0 .0) (c .before .before .before .next .given .1) (omega (arith, c .if1 .left)), subst (NotedTo (c .before .before .before .before .before .before .before .before .before .before .before .before .before .before .args .line .now) (c .before .before .before .before .before .before .before .before .before .before .before .before .before .before .args .at) (c .before .before .before .before .before .before .before .before .before .pair-at .result .next + 1)) (sym (c .before .note-jump .ensures)) (jump-on (c .before .before .before .before .before .before .before .before .before .before .before .before .before .before .args .line .now) (c .before .before .before .before .before .before .before .before .before .before .before .before .before .before .args .at) (c .before .before .before .before .before .before .before .before .before .before .loop .i) (c .before .before .before .before .before .before .before .before .before .pair-at .result) (pairs-from (c .before .before .before .before .before .before .before .before .before .before .before .before .before .before .args .line .now) (c .before .before .before .before .before .before .before .before .before .before .loop .i) (c .before .before .before .before .before .before .before .before .before .before .loop .inv .0 .rule)) (c .before .before .before .before .before .before .before .before .before .pair-at .ensures) (c .before .before .before .before .before .before .before .before .before .before .loop .jump) (c .before .before .before .before .before .before .before .before .before .before .loop .inv .1) (omega (arith, c .if1 .left))))
+returns-2 c = let a = c .before .before .before .before .before .before .before .args in let l = c .before .before .loop in
+    going-end (a .values .now) (a .rows .now) (a .from) (a .to) (a .t .now) (a .dev .now) (a .chain) (a .place) (a .layout) (l .t) (l .work) (l .i) (l .inv) (c .before .loop-test .left)
 
 pub assign-all-spec : {M : Type 1} → statement M
 assign-all-spec =
@@ -67,12 +83,11 @@ assign-all-spec =
     pair-at-requires
     assign-pair-requires
     enum-known-next
+    add-i
+    loop-less
+    loop-again
     enum-known-refusal
     same-length
     returns
-    note-jump-requires
     same-length-2
-    returns-2
-    add-i
-    loop-less
-    loop-again)
+    returns-2)

@@ -4,8 +4,8 @@ use Prim.Native.Nat.{ℕ, _+_, _-_, _≤_, _<_}
 use mathlib.Core.Path.{_≡_, refl, sym, _∙_, ap}
 use native.Mathlib.Omega.{arith}
 use lib.ListN.{length, drop}
-use Rattle.jumps.specs.Names.{hashFrom, hashOf}
-use Rattle.jumps.proofs.Names.{hash-step, hash-end}
+use Rattle.jumps.specs.Labels.{hashFrom, hashOf}
+use Rattle.jumps.proofs.Labels.{hash-step, hash-end}
 use Rattle.jumps.proofs.hash_of.Statement.{statement}
 use Rattle.jumps.proofs.hash_of.Tie as tie
 

@@ -1,80 +1,100 @@
--- `jumps::is_label` meets its contract: names with different hashes differ, and others are compared as they are written.
+-- `jumps::is_label` meets its contract: names with different hashes differ, and others are compared.
 -- Assumes nothing.
-use Prim.Native.Nat.{ℕ}
-use mathlib.Core.Path.{sym, ap₂, _∙_}
+use Prim.Native.Nat.{ℕ, _+_, _-_, _*_, _≤_, _<_}
+use mathlib.Core.Path.{_≡_, sym, ap₂, _∙_}
 use mathlib.Core.Bool.{Bool}
 use native.Mathlib.Omega.{arith}
-use borrow.Author.Needs.{needs}
+use lib.ListN.{length, getD}
 use Rattle.lists.specs.Bytes.{sameBytes}
 use Rattle.pairs.specs.Answers.{part}
-use Rattle.jumps.proofs.Names.{label-none, label-same, label-hash}
+use Rattle.jumps.proofs.Labels.{label-same, label-apart, name-places}
+use borrow.Author.Needs.{needs}
 use Rattle.jumps.proofs.is_label.Statement.{statement}
 use Rattle.jumps.proofs.is_label.Tie as tie
 
-add-number-at : tie.Need-add-number-at
-add-number-at c = search needs
+-- where the bytes of the label stand
+abbrev rowOf : (w : tie.Start) → ℕ
+rowOf w = getD (w .args .labels .now) (w .args .i) 0 - 1
+
+places : (w : tie.Start) → (getD (w .args .rows .now) (rowOf w * 4 + 2) 0 ≤ getD (w .args .rows .now) (rowOf w * 4 + 3) 0) × (getD (w .args .rows .now) (rowOf w * 4 + 3) 0 ≤ length (w .args .values .now)) × (rowOf w * 4 + 4 ≤ length (w .args .rows .now))
+places w =
+    let (t, (m, (used, (n, h, x)))) = w .pre .4 in
+    name-places (w .args .values .now) (w .args .rows .now) t (w .args .labels .now) m used n (w .args .i) x h (w .args .labels .now) (w .pre .3)
+
+start-is : (w : tie.After-number-at2) → w .number-at2 .result ≡ getD (w .before .before .before .before .before .before .before .before .before .args .rows .now) (rowOf (w .before .before .before .before .before .before .before .before .before) * 4 + 2) 0
+start-is w = rw (w .before .number-at .ensures .0) at (w .number-at2 .ensures .0)
+
+end-is : (w : tie.After-number-at3) → w .number-at3 .result ≡ getD (w .before .before .before .before .before .before .before .before .before .before .args .rows .now) (rowOf (w .before .before .before .before .before .before .before .before .before .before) * 4 + 3) 0
+end-is w = rw (w .before .before .number-at .ensures .0) at (w .number-at3 .ensures .0)
+
+mul-long : tie.Need-mul-long
+mul-long c = search needs
+
+element-copy-out-long : tie.Need-element-copy-out-long
+element-copy-out-long c = search needs
+
+long-requires : tie.Need-long-requires
+long-requires c κs = search needs
+
+returns : tie.Need-returns
+returns c = λ t m used n h x e. label-apart (c .before .before .before .before .before .before .before .args .values .now) (c .before .before .before .before .before .before .before .args .rows .now) t (c .before .before .before .before .before .before .before .args .labels .now) m used n (c .before .before .before .before .before .before .before .args .i) x h _ (c .before .before .before .before .before .before .before .pre .3) (λ q. c .if1 .taken (c .before .long .ensures .0 ∙ e ∙ q ∙ sym (c .before .before .before .before .before .before .before .pre .0)))
 
 number-at-requires : tie.Need-number-at-requires
 number-at-requires c κs = search needs
 
-returns : tie.Need-returns
-returns c = label-hash (c .before .before .before .args .text .now) (c .before .before .before .args .jumps .now) (c .before .before .before .args .at) (c .before .before .before .args .start) (c .before .before .before .args .end) (c .before .before .before .args .hash) (c .before .before .before .pre .2) (c .before .before .before .pre .1) (λ e. c .if1 .taken (c .before .number-at .ensures ∙ e))
+sub-at : tie.Need-sub-at
+sub-at c = search needs
+
+mul-at : tie.Need-mul-at
+mul-at c = omega (arith, places (c .before .before .before .before .before .before .before .before) .2, c .number-at .ensures .0, c .number-at .ensures .0)
+
+add-number-at : tie.Need-add-number-at
+add-number-at c = omega (arith, places (c .before .before .before .before .before .before .before .before) .2, c .number-at .ensures .0, c .number-at .ensures .0)
 
 number-at-requires-2 : tie.Need-number-at-requires-2
-number-at-requires-2 c κs = search needs
-
-returns-2 : tie.Need-returns-2
-returns-2 c = label-none (c .before .before .before .before .before .args .text .now) (c .before .before .before .before .before .args .jumps .now) (c .before .before .before .before .before .args .at) (c .before .before .before .before .before .args .start) (c .before .before .before .before .before .args .end) (c .before .before .before .before .before .args .hash) (c .before .before .before .before .before .pre .2) (c .before .before .before .before .before .pre .1) (sym (c .before .number-at2 .ensures) ∙ c .if2 .taken)
+number-at-requires-2 c κs = omega (arith, places (c .before .before .before .before .before .before .before .before) .2, c .number-at .ensures .0)
 
 add-number-at-2 : tie.Need-add-number-at-2
-add-number-at-2 c = search needs
+add-number-at-2 c = omega (arith, places (c .before .before .before .before .before .before .before .before .before) .2, c .before .number-at .ensures .0, c .before .number-at .ensures .0)
 
 number-at-requires-3 : tie.Need-number-at-requires-3
-number-at-requires-3 c κs = search needs
+number-at-requires-3 c κs = omega (arith, places (c .before .before .before .before .before .before .before .before .before) .2, c .before .number-at .ensures .0)
 
 sub-same-long : tie.Need-sub-same-long
-sub-same-long c = search needs
+sub-same-long c = let p = places (c .before .before .before .before .before .before .before .before .before .before) in omega (arith, p .0, p .1, start-is (c .before), end-is (c))
 
 part-same-long-start : tie.Need-part-same-long-start
-part-same-long-start c = search needs
+part-same-long-start c = let p = places (c .before .before .before .before .before .before .before .before .before .before) in omega (arith, p .0, p .1, start-is (c .before), end-is (c))
 
 part-same-long-end : tie.Need-part-same-long-end
-part-same-long-end c = search needs
-
-sub-same-long-2 : tie.Need-sub-same-long-2
-sub-same-long-2 c = let n = c .before .before .before .before .before .before .before .pre .1 (omega (arith, c .before .before .if2 .left, c .before .before .before .number-at2 .ensures)) in omega (arith, n .from, n .within, c .before .before .before .number-at2 .ensures, c .before .number-at3 .ensures)
-
-part-same-long-start-2 : tie.Need-part-same-long-start-2
-part-same-long-start-2 c = let n = c .before .before .before .before .before .before .before .pre .1 (omega (arith, c .before .before .if2 .left, c .before .before .before .number-at2 .ensures)) in omega (arith, n .from, n .within, c .before .before .before .number-at2 .ensures, c .before .number-at3 .ensures)
-
-part-same-long-end-2 : tie.Need-part-same-long-end-2
-part-same-long-end-2 c = let n = c .before .before .before .before .before .before .before .pre .1 (omega (arith, c .before .before .if2 .left, c .before .before .before .number-at2 .ensures)) in omega (arith, n .from, n .within, c .before .before .before .number-at2 .ensures, c .before .number-at3 .ensures)
+part-same-long-end c = let p = places (c .before .before .before .before .before .before .before .before .before .before) in omega (arith, p .0, p .1, start-is (c .before), end-is (c))
 
 same-long-requires : tie.Need-same-long-requires
 same-long-requires c κs = search needs
 
-returns-3 : tie.Need-returns-3
-returns-3 c =
-    let args = c .before .before .before .before .before .before .before .before .before .args in
-    let named : ℕ → ℕ → Bool = λ s e. sameBytes (part (args .text .now) (args .start) (args .end)) (part (args .text .now) s e) in
-    c .same-long .ensures ∙ ap₂ named (c .before .before .before .before .before .number-at2 .ensures) (c .before .before .before .number-at3 .ensures) ∙ label-same (c .before .before .before .before .before .before .before .before .before .args .text .now) (c .before .before .before .before .before .before .before .before .before .args .jumps .now) (c .before .before .before .before .before .before .before .before .before .args .at) (c .before .before .before .before .before .before .before .before .before .args .start) (c .before .before .before .before .before .before .before .before .before .args .end) (c .before .before .before .before .before .before .before .before .before .args .hash) (c .before .before .before .before .before .before .before .before .before .pre .2) (c .before .before .before .before .before .before .before .before .before .pre .1) (λ z. c .before .before .before .before .if2 .left (c .before .before .before .before .before .number-at2 .ensures ∙ z))
+returns-2 : tie.Need-returns-2
+returns-2 c = λ t m used n h x e.
+    let named : ℕ → ℕ → Bool = λ s f. sameBytes (c .before .before .before .before .before .before .before .before .before .before .before .before .args .name .now) (part (c .before .before .before .before .before .before .before .before .before .before .before .before .args .values .now) s f) in
+    c .same-long .ensures ∙ ap₂ named (start-is (c .before .before .before)) (end-is (c .before .before))
+    ∙ label-same (c .before .before .before .before .before .before .before .before .before .before .before .before .args .values .now) (c .before .before .before .before .before .before .before .before .before .before .before .before .args .rows .now) t (c .before .before .before .before .before .before .before .before .before .before .before .before .args .labels .now) m used n (c .before .before .before .before .before .before .before .before .before .before .before .before .args .i) x h _ (c .before .before .before .before .before .before .before .before .before .before .before .before .pre .3)
 
 pub is-label-spec : {M : Type 1} → statement M
 is-label-spec =
     tie.close
     (tie.spec
-    add-number-at
-    number-at-requires
+    mul-long
+    element-copy-out-long
+    long-requires
     returns
+    number-at-requires
+    sub-at
+    mul-at
+    add-number-at
     number-at-requires-2
-    returns-2
     add-number-at-2
     number-at-requires-3
     sub-same-long
     part-same-long-start
     part-same-long-end
-    sub-same-long-2
-    part-same-long-start-2
-    part-same-long-end-2
     same-long-requires
-    returns-3)
+    returns-2)

@@ -1,37 +1,32 @@
 -- `jumps::take_label` meets its contract.
 -- Assumes nothing.
 use mathlib.Core.Path.{sym, _∙_}
+use native.Mathlib.Omega.{arith}
+use Rattle.jumps.proofs.Labels.{take-nothing, take-front}
 use borrow.Author.Needs.{needs}
-use Rattle.jumps.proofs.Table.{take-nothing, take-front}
 use Rattle.jumps.proofs.take_label.Statement.{statement}
 use Rattle.jumps.proofs.take_label.Tie as tie
-
-mul-number-at : tie.Need-mul-number-at
-mul-number-at c = search needs
-
-add-number-at : tie.Need-add-number-at
-add-number-at c = search needs
 
 number-at-requires : tie.Need-number-at-requires
 number-at-requires c κs = search needs
 
 returns : tie.Need-returns
-returns c = λ text n tb k. take-nothing text (c .before .before .args .jumps .now) n (c .before .before .args .i) (c .before .before .args .heads .now) (c .before .before .args .later .now) tb k (sym (c .before .number-at .ensures) ∙ c .if1 .taken)
+returns c = λ v r n h ls. take-nothing v r (c .before .before .before .before .args .labels .now) (c .before .before .before .before .args .hashes .now) (c .before .before .before .before .args .heads .now) (c .before .before .before .before .args .later .now) (c .before .before .before .before .args .i) n ls h (sym (c .before .number-at .ensures .0) ∙ c .if1 .taken)
 
-mul-number-at-2 : tie.Need-mul-number-at-2
-mul-number-at-2 c = search needs
+mul-long : tie.Need-mul-long
+mul-long c = search needs
 
-add-number-at-2 : tie.Need-add-number-at-2
-add-number-at-2 c = search needs
+element-copy-out-long : tie.Need-element-copy-out-long
+element-copy-out-long c = search needs
 
-number-at-requires-2 : tie.Need-number-at-requires-2
-number-at-requires-2 c κs = search needs
+long-requires : tie.Need-long-requires
+long-requires c κs = search needs
 
 mul-heads : tie.Need-mul-heads
 mul-heads c = search needs
 
-element-copy-out-heads : tie.Need-element-copy-out-heads
-element-copy-out-heads c = search needs
+shared-slice-read-heads : tie.Need-shared-slice-read-heads
+shared-slice-read-heads c = search needs
 
 mul-heads-2 : tie.Need-mul-heads-2
 mul-heads-2 c = search needs
@@ -40,21 +35,19 @@ element-write-heads : tie.Need-element-write-heads
 element-write-heads c = search needs
 
 returns-2 : tie.Need-returns-2
-returns-2 c = λ text n tb k. rw (c .before .number-at2 .ensures) (take-front text (c .before .before .before .before .args .jumps .now) n (c .before .before .before .before .args .i) (c .before .before .before .before .args .heads .now) (c .before .before .before .before .args .later .now) tb k (λ z. c .before .before .if1 .left (c .before .before .before .number-at .ensures ∙ z)))
+returns-2 c = λ v r n h ls. rw (c .before .long .ensures .0) (take-front v r (c .before .before .before .before .before .before .before .args .labels .now) (c .before .before .before .before .before .before .before .args .hashes .now) (c .before .before .before .before .before .before .before .args .heads .now) (c .before .before .before .before .before .before .before .args .later .now) (c .before .before .before .before .before .before .before .args .i) n ls h (omega (arith, c .before .before .before .if1 .left, c .before .before .before .before .number-at .ensures .0)))
 
 pub take-label-spec : {M : Type 1} → statement M
 take-label-spec =
     tie.close
     (tie.spec
-    mul-number-at
-    add-number-at
     number-at-requires
     returns
-    mul-number-at-2
-    add-number-at-2
-    number-at-requires-2
+    mul-long
+    element-copy-out-long
+    long-requires
     mul-heads
-    element-copy-out-heads
+    shared-slice-read-heads
     mul-heads-2
     element-write-heads
     returns-2)

@@ -4,7 +4,7 @@ use Rattle.listing_record.specs.Lines.{textLines}
 use Rattle.listing_rows.proofs.Laws.{text-lines}
 use Rattle.listing_rows.specs.Lines.{entryLines}
 use Rattle.listing_lines.proofs.Laws.{behind-is}
-use Rattle.matching.proofs.Lists.{text-row}
+use Rattle.outcome_readers.proofs.Texts.{text-row}
 use Rattle.outcome_target.specs.Texts.{textsIn}
 use Rattle.rows.specs.declared.Kind.the-variants as kind
 use lib.ListN.{drop}

@@ -4,7 +4,7 @@ use Prim.Native.Nat.{ℕ}
 use mathlib.Core.List.{List}
 use mathlib.Core.Path.{ap, _∙_}
 use borrow.Author.Needs.{needs}
-use Rattle.matching.proofs.Lists.{text-row}
+use Rattle.outcome_readers.proofs.Texts.{text-row}
 use Rattle.engine.specs.Match.{judged, someMatches}
 use Rattle.keys.specs.Table.{operatorOf}
 use Rattle.matching.proofs.list_holds.Statement.{statement}

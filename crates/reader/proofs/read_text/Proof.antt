@@ -1,54 +1,141 @@
 -- `reader::read_text` meets its contract.
 -- Assumes nothing.
-use Rattle.reader.proofs.Texts.{settle-line, text-too-long, text-refused, text-settled, text-unsettled}
-use Rattle.reader.specs.Read.{LinesAre}
-use Rattle.reader.specs.declared.LinesRead.the-variants as lines
-use Rattle.refusals.specs.Refusals.{refusalOf}
-use Rattle.rules.specs.Reading.{reader}
-use Rattle.text.specs.Reading.{settle}
-use Rattle.lists.specs.Refusal.{label-missing}
-use Rattle.lists.specs.Checked.{refused, ok, line}
-use mathlib.Core.Path.{_≡_, sym}
+use Prim.Native.Nat.{_≤_}
+use mathlib.Core.Path.{_≡_}
 use native.Mathlib.Omega.{arith}
+use lib.ListN.{length}
+use Rattle.reader.specs.declared.LinesRead.{LinesRead}
+use Rattle.reader.specs.declared.LinesRead.the-variants as lines
+use Rattle.reader.specs.Read.{LinesAre}
+use Rattle.jumps.specs.declared.Settled.{Settled}
+use Rattle.jumps.specs.declared.Settled.the-variants as settled
+use Rattle.table.specs.Rules.{Rules}
+use Rattle.jumps.specs.Jumps.{SettledIs}
+use Rattle.reader.proofs.Whole.{text-too-long, text-refused, text-settled, text-unsettled}
 use borrow.Author.Needs.{needs}
 use Rattle.reader.proofs.read_text.Statement.{statement}
 use Rattle.reader.proofs.read_text.Tie as tie
+use Rattle.reader.proofs.read_text.Reads as reads
+use Rattle.reader.proofs.read_text.Lts as lts
+use Rattle.jumps.proofs.settle.Reads as settle-reads
+use Rattle.reader.proofs.read_lines.Reads as read-lines-reads
 
+lines-are : (w : tie.After-read-lines) (o : LinesRead) → w .read-lines .result ≡ o → LinesAre (w .before .before .before .before .before .before .before .before .before .before .before .before .args .text .now) (w .read-lines .last .1 .0) (w .read-lines .last .1 .1 .0) (w .read-lines .last .1 .1 .1 .0) (w .read-lines .last .1 .1 .1 .1 .0) o
+lines-are w o e = rw (← e) (w .read-lines .ensures)
+
+-- what was read before 19
+rules : (w : tie.After-counts) → LinesAre (w .before .before .before .before .before .before .before .before .before .before .before .before .before .before .before .before .before .before .before .before .before .before .args .text .now) (w .before .before .before .before .before .before .before .before .before .before .read-lines .last .1 .0) (w .before .before .before .before .before .before .before .before .before .before .read-lines .last .1 .1 .0) (w .before .before .before .before .before .before .before .before .before .before .read-lines .last .1 .1 .1 .0) (w .before .before .before .before .before .before .before .before .before .before .read-lines .last .1 .1 .1 .1 .0) (lines.Rules (w .counts .given .0 .0))
+rules w = lines-are (w .before .before .before .before .before .before .before .before .before .before) (lines.Rules (w .counts .given .0 .0)) (w .counts .given .1)
+
+held : (w : tie.After-counts) → let c = w .counts .given .0 .0 in Rules (w .before .before .before .before .before .before .before .before .before .before .read-lines .last .1 .0) (w .before .before .before .before .before .before .before .before .before .before .read-lines .last .1 .1 .0) (w .before .before .before .before .before .before .before .before .before .before .read-lines .last .1 .1 .1 .0) (w .before .before .before .before .before .before .before .before .before .before .read-lines .last .1 .1 .1 .1 .0) (c .rows) (c .used) (c .rules)
+held w = let x = rules w in record { rows = x .2; rules = x .3 }
+
+answered : (w : tie.After-settle) (o : Settled) → w .settle .result ≡ o
+    → let k = w .before .before .before .before .before .before .before .counts .given .0 .0 in
+    SettledIs (w .before .before .before .before .before .before .before .before .before .before .before .before .before .before .before .before .before .read-lines .last .1 .0) (w .before .before .before .before .before .before .before .before .before .before .before .before .before .before .before .before .before .read-lines .last .1 .1 .0) (w .before .before .before .before .before .before .before .before .before .before .before .before .before .before .before .before .before .read-lines .last .1 .1 .1 .0) (k .rules) (w .settle .last .1 .1 .1 .1 .0) o
+answered w o e = let k = w .before .before .before .before .before .before .before .counts .given .0 .0 in rw (← e) (w .settle .ensures (k .rows) (k .used) (held (w .before .before .before .before .before .before .before)))
+
+-- src/lib.rt:139:9
 returns : tie.Need-returns
-returns c = text-too-long (c .before .before .args .text .now) (c .if1 .taken)
+returns c = (omega arith, text-too-long (c .before .before .before .before .before .before .before .args .text .now) (c .if1 .taken))
 
+-- src/lib.rt:141:11
 read-lines-requires : tie.Need-read-lines-requires
-read-lines-requires c κs = search needs
+read-lines-requires c κs = (c .before .before .before .before .if1 .left, c .before .before .before .before .before .before .before .before .before .before .before .pre .0 (c .before .before .before .before .if1 .left), c .before .before .before .before .before .before .before .before .before .before .before .pre .1, c .before .before .before .before .before .before .before .before .before .before .before .pre .2)
 
+-- src/lib.rt:142:28
 enum-known-f : tie.Need-enum-known-f
 enum-known-f c = search needs
 
-line-number-requires : tie.Need-line-number-requires
-line-number-requires c κs = let s : LinesAre (c .before .before .before .before .before .before .before .args .text .now) (c .before .before .before .read-lines .last .1 .0) (lines.Refused (c .before .f .given .0 .0) (c .before .f .given .0 .1 .0)) = rw (c .before .f .given .1) at (c .before .before .before .read-lines .ensures) in s .0
+-- src/lib.rt:143:26
+enum-known-counts : tie.Need-enum-known-counts
+enum-known-counts c = search needs
 
-enum-known-count : tie.Need-enum-known-count
-enum-known-count c = search needs
-
+-- src/lib.rt:143:43
 settle-requires : tie.Need-settle-requires
-settle-requires c κs = let s : LinesAre (c .before .before .before .before .before .before .before .before .args .text .now) (c .before .before .before .before .read-lines .last .1 .0) (lines.Rules (c .before .before .count .given .0 .0)) = rw (c .before .before .count .given .1) at (c .before .before .before .before .read-lines .ensures) in (s .0, s .1)
+settle-requires c κs =
+    let x = rules (c .before .before .before .before .before .before) in
+    let k = c .before .before .before .before .before .before .counts .given .0 .0 in
+    let p = c .before .before .before .before .before .before .before .before .before .before .before .before .before .before .before .before .before .before .before .before .before .before .before .before .before .before .before .before .pre in
+    (omega (arith, x .1), omega (arith, x .1, c .before .before .before .before .before .before .before .before .before .before .before .before .before .before .before .before .read-lines .kept .1 .1 .1 .1 .0, p .2), omega (arith, x .1, p .3), omega (arith, x .1, c .before .before .before .before .before .before .before .before .before .before .before .before .before .before .before .before .read-lines .kept .1 .1 .1 .0, p .1), (k .rows, (k .used, held (c .before .before .before .before .before .before))))
 
+-- src/lib.rt:144:29
 enum-told : tie.Need-enum-told
 enum-told c = search needs
 
+-- src/lib.rt:145:30
 enum-known-n : tie.Need-enum-known-n
 enum-known-n c = search needs
 
-line-number-requires-2 : tie.Need-line-number-requires-2
-line-number-requires-2 c κs = let s : LinesAre (c .before .before .before .before .before .before .before .before .before .before .before .before .args .text .now) (c .before .before .before .before .before .before .before .before .read-lines .last .1 .0) (lines.Rules (c .before .before .before .before .before .before .count .given .0 .0)) = rw (c .before .before .before .before .before .before .count .given .1) at (c .before .before .before .before .before .before .before .before .read-lines .ensures) in let e : refused (line (c .before .n .given .0 .0) label-missing) ≡ settle reader (s .0) = rw (c .before .n .given .1) at (c .before .before .before .settle .ensures (s .0) (s .1)) in settle-line (s .0) (c .before .n .given .0 .0) label-missing (s .3) (sym e)
+-- src/lib.rt:127:1
+same-length : tie.Need-same-length
+same-length c = search needs
 
+-- src/lib.rt:127:1
+same-length-2 : tie.Need-same-length-2
+same-length-2 c = search needs
+
+-- src/lib.rt:127:1
+same-length-3 : tie.Need-same-length-3
+same-length-3 c = search needs
+
+-- src/lib.rt:127:1
+same-length-4 : tie.Need-same-length-4
+same-length-4 c = search needs
+
+-- src/lib.rt:127:1
 returns-2 : tie.Need-returns-2
-returns-2 c = let s : LinesAre (c .before .before .before .before .before .before .before .before .args .text .now) (c .before .before .before .before .read-lines .last .1 .0) (lines.Refused (c .before .before .f .given .0 .0) (c .before .before .f .given .0 .1 .0)) = rw (c .before .before .f .given .1) at (c .before .before .before .before .read-lines .ensures) in rw (c .line-number .ensures) (text-refused (c .before .before .before .before .before .before .before .before .args .text .now) (omega arith) (c .before .before .f .given .0 .1 .0) (refusalOf (c .before .before .f .given .0 .0)) (s .1))
+returns-2 c = let y = lines-are (c .before .before .before .before .before .before .before .before .before .before .before) (lines.Refused (c .before .f .given .0 .0) (c .before .f .given .0 .1 .0)) (c .before .f .given .1) in (y .0, text-refused (c .before .before .before .before .before .before .before .before .before .before .before .before .before .before .before .before .before .before .before .before .before .before .before .args .text .now) (c .before .before .before .before .before .before .before .before .before .before .before .before .before .before .before .before .if1 .left) _ _ (y .1))
 
+-- src/lib.rt:127:1
+same-length-5 : tie.Need-same-length-5
+same-length-5 c = search needs
+
+-- src/lib.rt:127:1
+same-length-6 : tie.Need-same-length-6
+same-length-6 c = search needs
+
+-- src/lib.rt:127:1
+same-length-7 : tie.Need-same-length-7
+same-length-7 c = search needs
+
+-- src/lib.rt:127:1
+same-length-8 : tie.Need-same-length-8
+same-length-8 c = search needs
+
+-- src/lib.rt:127:1
+same-length-9 : tie.Need-same-length-9
+same-length-9 c = search needs
+
+-- src/lib.rt:127:1
 returns-3 : tie.Need-returns-3
-returns-3 c = let s : LinesAre (c .before .before .before .before .before .before .before .before .before .before .before .args .text .now) (c .before .before .before .before .before .before .before .read-lines .last .1 .0) (lines.Rules (c .before .before .before .before .before .count .given .0 .0)) = rw (c .before .before .before .before .before .count .given .1) at (c .before .before .before .before .before .before .before .read-lines .ensures) in let e : ok 0 ≡ settle reader (s .0) = rw (c .enum-told .given .1) at (c .before .before .settle .ensures (s .0) (s .1)) in text-settled (c .before .before .before .before .before .before .before .before .before .before .before .args .text .now) (omega arith) (s .0) (s .2) (sym e)
+returns-3 c =
+    let a = answered (c .before .before .before .before) settled.All (c .enum-told .given .1) in
+    record { is = text-settled (c .before .before .before .before .before .before .before .before .before .before .before .before .before .before .before .before .before .before .before .before .before .before .before .before .before .before .before .before .before .before .before .before .before .args .text .now) (c .before .before .before .before .before .before .before .before .before .before .before .before .before .before .before .before .before .before .before .before .before .before .before .before .before .before .if1 .left) _ (rules (c .before .before .before .before .before .before .before .before .before .before .before) .0) (a .0); few = rules (c .before .before .before .before .before .before .before .before .before .before .before) .1; rules = held (c .before .before .before .before .before .before .before .before .before .before .before); jumps = a .1 }
 
+-- src/lib.rt:127:1
+same-length-10 : tie.Need-same-length-10
+same-length-10 c = search needs
+
+-- src/lib.rt:127:1
+same-length-11 : tie.Need-same-length-11
+same-length-11 c = search needs
+
+-- src/lib.rt:127:1
+same-length-12 : tie.Need-same-length-12
+same-length-12 c = search needs
+
+-- src/lib.rt:127:1
+same-length-13 : tie.Need-same-length-13
+same-length-13 c = search needs
+
+-- src/lib.rt:127:1
+same-length-14 : tie.Need-same-length-14
+same-length-14 c = search needs
+
+-- src/lib.rt:127:1
 returns-4 : tie.Need-returns-4
-returns-4 c = let s : LinesAre (c .before .before .before .before .before .before .before .before .before .before .before .before .before .args .text .now) (c .before .before .before .before .before .before .before .before .before .read-lines .last .1 .0) (lines.Rules (c .before .before .before .before .before .before .before .count .given .0 .0)) = rw (c .before .before .before .before .before .before .before .count .given .1) at (c .before .before .before .before .before .before .before .before .before .read-lines .ensures) in let e : refused (line (c .before .before .n .given .0 .0) label-missing) ≡ settle reader (s .0) = rw (c .before .before .n .given .1) at (c .before .before .before .before .settle .ensures (s .0) (s .1)) in rw (c .line-number2 .ensures) (text-unsettled (c .before .before .before .before .before .before .before .before .before .before .before .before .before .args .text .now) (omega arith) (s .0) (s .2) (c .before .before .n .given .0 .0) label-missing (sym e))
+returns-4 c = let y = answered (c .before .before .before .before .before) (settled.Missing (c .before .n .given .0 .0)) (c .before .n .given .1) in (y .0, text-unsettled (c .before .before .before .before .before .before .before .before .before .before .before .before .before .before .before .before .before .before .before .before .before .before .before .before .before .before .before .before .before .before .before .before .before .before .args .text .now) (c .before .before .before .before .before .before .before .before .before .before .before .before .before .before .before .before .before .before .before .before .before .before .before .before .before .before .before .if1 .left) _ (rules (c .before .before .before .before .before .before .before .before .before .before .before .before) .0) _ _ (y .1))
 
 pub read-text-spec : {M : Type 1} → statement M
 read-text-spec =
@@ -57,12 +144,24 @@ read-text-spec =
     returns
     read-lines-requires
     enum-known-f
-    line-number-requires
-    enum-known-count
+    enum-known-counts
     settle-requires
     enum-told
     enum-known-n
-    line-number-requires-2
+    same-length
+    same-length-2
+    same-length-3
+    same-length-4
     returns-2
+    same-length-5
+    same-length-6
+    same-length-7
+    same-length-8
+    same-length-9
     returns-3
+    same-length-10
+    same-length-11
+    same-length-12
+    same-length-13
+    same-length-14
     returns-4)

@@ -1,16 +1,22 @@
 -- `run::run` meets its contract.
 -- Assumes nothing.
-use Rattle.run.proofs.Laws.{text-refused, run-short, run-text}
-use Rattle.reader.proofs.Texts.{accepted-rules}
-use Rattle.reader.specs.Read.{textBy}
-use Rattle.run.proofs.Laws.{text-refused, run-short, run-text}
-use Rattle.answers.specs.Answers.{answered}
-use lib.ListN.{length}
-use mathlib.Core.Path.{sym, _∙_, ap}
+use mathlib.Core.Path.{_≡_, sym, _∙_, ap}
 use native.Mathlib.Omega.{arith}
+use lib.ListN.{length}
+use Rattle.answers.specs.Answers.{answered}
+use Rattle.run.proofs.Laws.{run-short}
 use borrow.Author.Needs.{needs}
 use Rattle.run.proofs.run.Statement.{statement}
 use Rattle.run.proofs.run.Tie as tie
+use Rattle.run.proofs.run.Reads as reads
+use Rattle.run.proofs.run.Lts as lts
+use Rattle.answers.proofs.refused.Reads as refused-reads
+use Rattle.splice.proofs.clear.Reads as clear-reads
+use Rattle.run.proofs.run_any.Reads as run-any-reads
+use Rattle.run.proofs.run_half.Reads as run-half-reads
+use Rattle.run.proofs.run_least.Reads as run-least-reads
+use Rattle.run.proofs.run_most.Reads as run-most-reads
+use Rattle.run.proofs.run_quarter.Reads as run-quarter-reads
 
 clear-requires : tie.Need-clear-requires
 clear-requires c κs = search needs
@@ -22,28 +28,11 @@ same-length : tie.Need-same-length
 same-length c = search needs
 
 returns : tie.Need-returns
-returns c = ap (answered (c .refused .result)) (c .before .before .before .clear .ensures) ∙ c .refused .ensures (length (c .before .before .before .before .before .before .before .before .before .before .args .target .now)) ∙ sym (run-short (c .before .before .before .before .before .before .before .before .before .before .args .text .now) (c .before .before .before .before .before .before .before .before .before .before .args .device .now) (c .before .before .before .before .before .before .before .before .before .before .args .outcome .now) (length (c .before .before .before .before .before .before .before .before .before .before .args .target .now)) (omega (arith, c .before .before .before .before .before .if1 .taken)))
+returns c = let a = c .before .before .before .before .before .before .before .before .before .before .args in
+    ap (answered (c .refused .result)) (c .before .before .before .clear .ensures) ∙ c .refused .ensures (length (a .target .now)) ∙ sym (run-short (a .text .now) (a .device .now) (a .outcome .now) (length (a .target .now)) (omega (arith, c .before .before .before .before .before .if1 .taken)))
 
-read-text-requires : tie.Need-read-text-requires
-read-text-requires c κs = search needs
-
-enum-told : tie.Need-enum-told
-enum-told c = search needs
-
-run-read-requires : tie.Need-run-read-requires
-run-read-requires c κs = (omega (arith, c .before .before .before .before .if1 .left), accepted-rules (c .before .before .before .before .before .before .before .before .before .args .text .now) (ap textBy (sym (c .before .enum-told .given .1)) ∙ c .before .before .before .read-text .ensures))
-
-enum-known-refusal : tie.Need-enum-known-refusal
-enum-known-refusal c = search needs
-
-clear-requires-2 : tie.Need-clear-requires-2
-clear-requires-2 c κs = search needs
-
-cast-refused : tie.Need-cast-refused
-cast-refused c = search needs
-
-refused-requires-2 : tie.Need-refused-requires-2
-refused-requires-2 c κs = search needs
+run-least-requires : tie.Need-run-least-requires
+run-least-requires c κs = search needs
 
 same-length-2 : tie.Need-same-length-2
 same-length-2 c = search needs
@@ -51,11 +40,41 @@ same-length-2 c = search needs
 returns-2 : tie.Need-returns-2
 returns-2 c = search needs
 
+run-quarter-requires : tie.Need-run-quarter-requires
+run-quarter-requires c κs = search needs
+
 same-length-3 : tie.Need-same-length-3
 same-length-3 c = search needs
 
 returns-3 : tie.Need-returns-3
-returns-3 c = ap (answered (c .refused2 .result)) (c .before .before .before .clear2 .ensures) ∙ c .refused2 .ensures (length (c .before .before .before .before .before .before .before .before .before .before .before .before .before .before .args .target .now)) ∙ sym (run-text (c .before .before .before .before .before .before .before .before .before .before .before .before .before .before .args .text .now) (c .before .before .before .before .before .before .before .before .before .before .before .before .before .before .args .device .now) (c .before .before .before .before .before .before .before .before .before .before .before .before .before .before .args .outcome .now) (length (c .before .before .before .before .before .before .before .before .before .before .before .before .before .before .args .target .now)) (omega (arith, c .before .before .before .before .before .before .before .before .before .if1 .left)) _ (text-refused (c .before .before .before .before .before .before .before .before .before .before .before .before .before .before .args .text .now) _ (ap textBy (sym (c .before .before .before .before .before .before .refusal .given .1)) ∙ c .before .before .before .before .before .before .before .before .read-text .ensures)))
+returns-3 c = search needs
+
+run-half-requires : tie.Need-run-half-requires
+run-half-requires c κs = search needs
+
+same-length-4 : tie.Need-same-length-4
+same-length-4 c = search needs
+
+returns-4 : tie.Need-returns-4
+returns-4 c = search needs
+
+run-most-requires : tie.Need-run-most-requires
+run-most-requires c κs = search needs
+
+same-length-5 : tie.Need-same-length-5
+same-length-5 c = search needs
+
+returns-5 : tie.Need-returns-5
+returns-5 c = search needs
+
+run-any-requires : tie.Need-run-any-requires
+run-any-requires c κs = search needs
+
+same-length-6 : tie.Need-same-length-6
+same-length-6 c = search needs
+
+returns-6 : tie.Need-returns-6
+returns-6 c = search needs
 
 pub run-spec : {M : Type 1} → statement M
 run-spec =
@@ -65,14 +84,18 @@ run-spec =
     refused-requires
     same-length
     returns
-    read-text-requires
-    enum-told
-    run-read-requires
-    enum-known-refusal
-    clear-requires-2
-    cast-refused
-    refused-requires-2
+    run-least-requires
     same-length-2
     returns-2
+    run-quarter-requires
     same-length-3
-    returns-3)
+    returns-3
+    run-half-requires
+    same-length-4
+    returns-4
+    run-most-requires
+    same-length-5
+    returns-5
+    run-any-requires
+    same-length-6
+    returns-6)

@@ -1,0 +1,89 @@
+-- Keys and operators as numbers and back.
+-- Assumes nothing.
+use Prim.Native.Nat.{ℕ, _+_, _*_, _/_, _%_, _≤_, _<_}
+use mathlib.Core.Path.{_≡_, refl, ap, _∙_}
+use native.Mathlib.Omega.{arith}
+use lib.ListN.{List·getD-eq-default}
+use Rattle.rules.specs.Key.{Key, ACTION, DEVPATH, KERNEL, KERNELS, SUBSYSTEM, SUBSYSTEMS, DRIVER, DRIVERS, ATTR, ATTRS, ENV, SYMLINK, TAG, OWNER, GROUP, MODE, RUN, LABEL, GOTO, OPTIONS, Op, equal, unequal, assign, add, remove, final, keyNumber, opNumber}
+use Rattle.kinds.specs.Numbers.{keys, ops, keyWith, opWith, kindWith}
+
+-- a number that is not this one, with those below it
+pub above : (k n : ℕ) → k ≤ n → (n ≡ k → ⊥) → k + 1 ≤ n
+above k n h d = omega arith
+
+pub key-back : (k : Key) → keyWith (keyNumber k) ≡ k
+unfolding keyWith
+key-back ACTION = refl
+key-back DEVPATH = refl
+key-back KERNEL = refl
+key-back KERNELS = refl
+key-back SUBSYSTEM = refl
+key-back SUBSYSTEMS = refl
+key-back DRIVER = refl
+key-back DRIVERS = refl
+key-back ATTR = refl
+key-back ATTRS = refl
+key-back ENV = refl
+key-back SYMLINK = refl
+key-back TAG = refl
+key-back OWNER = refl
+key-back GROUP = refl
+key-back MODE = refl
+key-back RUN = refl
+key-back LABEL = refl
+key-back GOTO = refl
+key-back OPTIONS = refl
+
+pub key-last : (n : ℕ) → 19 ≤ n → keyWith n ≡ OPTIONS
+unfolding keyWith
+key-last n h = List·getD-eq-default keys OPTIONS h
+
+pub op-back : (o : Op) → opWith (opNumber o) ≡ o
+unfolding opWith
+op-back equal = refl
+op-back unequal = refl
+op-back assign = refl
+op-back add = refl
+op-back remove = refl
+op-back final = refl
+
+pub op-last : (n : ℕ) → 5 ≤ n → opWith n ≡ final
+unfolding opWith
+op-last n h = List·getD-eq-default ops final h
+
+pub key-few : (k : Key) → keyNumber k < 20
+key-few ACTION = omega arith
+key-few DEVPATH = omega arith
+key-few KERNEL = omega arith
+key-few KERNELS = omega arith
+key-few SUBSYSTEM = omega arith
+key-few SUBSYSTEMS = omega arith
+key-few DRIVER = omega arith
+key-few DRIVERS = omega arith
+key-few ATTR = omega arith
+key-few ATTRS = omega arith
+key-few ENV = omega arith
+key-few SYMLINK = omega arith
+key-few TAG = omega arith
+key-few OWNER = omega arith
+key-few GROUP = omega arith
+key-few MODE = omega arith
+key-few RUN = omega arith
+key-few LABEL = omega arith
+key-few GOTO = omega arith
+key-few OPTIONS = omega arith
+
+pub op-few : (o : Op) → opNumber o < 8
+op-few equal = omega arith
+op-few unequal = omega arith
+op-few assign = omega arith
+op-few add = omega arith
+op-few remove = omega arith
+op-few final = omega arith
+
+-- a kind holds both
+pub kind-key : (k : Key) (o : Op) → keyWith (kindWith k o / 8) ≡ k
+kind-key k o = let e : kindWith k o / 8 ≡ keyNumber k = omega (arith, op-few o) in ap keyWith e ∙ key-back k
+
+pub kind-op : (k : Key) (o : Op) → opWith (kindWith k o % 8) ≡ o
+kind-op k o = let e : kindWith k o % 8 ≡ opNumber o = omega (arith, op-few o) in ap opWith e ∙ op-back o

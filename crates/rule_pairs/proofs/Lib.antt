@@ -1,3 +1,0 @@
-pub mod First
-pub mod Walk
-pub mod Marks
