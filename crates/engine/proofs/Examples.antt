@@ -150,9 +150,9 @@ examples =
     ∷ lists "present but empty" (deviceOf [] (member "/p/e1" "tty" "" (("s", "") ∷ [])) (member "/p" "usb" "d" (("s", "P") ∷ []) ∷ [])) "SUBSYSTEMS==\"usb\", SYMLINK+=\"x$attr{s} y%s{t}\"" "visited 1\npriority 0\nlink x\nlink y\n"
     ∷ lists "attribute trimmed at its end" (deviceOf [] (member "/p/e1" "tty" "" (("s", " a\tb \n") ∷ [])) (member "/p" "usb" "d" [] ∷ [])) "SYMLINK+=\"x$attr{s}\", RUN+=\"$attr{s}.\"" "visited 1\npriority 0\nlink x_a_b\nprogram  a\\x09b.\n"
     ∷ lists "property not trimmed" (alone (("P", "a ") ∷ []) "/a" []) "SYMLINK+=\"x%E{P}\"" "visited 1\npriority 0\nlink xa_\nenv P=a \n"
-    ∷ lists "missing is empty" tty "ATTRS{serial}!=\"\", SYMLINK+=\"$id\"\nATTRS{serial}==\"\", SYMLINK+=\"x$id\"" "visited 2\npriority 0\nlink 1-1\nlink xttyUSB0\n"
-    ∷ lists "no driver" tty "DRIVERS==\"\", SYMLINK+=\"x$id$driver\"\nDRIVERS==\"?*\", SYMLINK+=\"y$driver\"\nDRIVER==\"\", TAG+=\"t\"\nDRIVER!=\"*\", TAG+=\"u\"" "visited 4\npriority 0\nlink xttyUSB0\nlink yftdi\ntag t\n"
-    ∷ lists "parent key and event key" tty "KERNEL==\"ttyUSB0\", KERNELS==\"usb1\", ATTR{serial}==\"\", ATTRS{serial}==\"hub\", SYMLINK+=\"$id/$attr{serial}\"" "visited 1\npriority 0\nlink usb1/hub\n"
+    ∷ lists "missing is not empty" tty "ATTRS{serial}!=\"\", SYMLINK+=\"$id\"\nATTRS{serial}==\"\", SYMLINK+=\"x$id\"" "visited 2\npriority 0\nlink ttyUSB0\n"
+    ∷ lists "no driver" tty "DRIVERS==\"\", SYMLINK+=\"x$id$driver\"\nDRIVERS==\"?*\", SYMLINK+=\"y$driver\"\nDRIVER==\"\", TAG+=\"t\"\nDRIVER!=\"*\", TAG+=\"u\"" "visited 4\npriority 0\nlink yftdi\ntag u\n"
+    ∷ lists "parent key and event key" tty "KERNEL==\"ttyUSB0\", KERNELS==\"usb1\", ATTR{serial}!=\"*\", ATTRS{serial}==\"hub\", SYMLINK+=\"$id/$attr{serial}\"" "visited 1\npriority 0\nlink usb1/hub\n"
     ∷ leaves "place 16" (operations.run (bytes "KERNELS==\"a\", RUN+=\"%b\"\nKERNELS==\"p\", RUN{builtin}+=\"x\"") (device.encode chain16) empty 17611) (record-of 0 0 2 (64 ∷ 4 ∷ 37 ∷ 98 ∷ 132 ∷ 2 ∷ 120 ∷ []))
     ∷ lists "from label to label" tty "GOTO=\"a\"\nTAG+=\"x\"\nLABEL=\"a\", GOTO=\"a\"\nTAG+=\"y\"\nLABEL=\"a\", TAG+=\"z\"" "visited 3\npriority 0\ntag z\n"
     ∷ lists "label on a rule that fails" tty "GOTO=\"a\"\nTAG+=\"x\"\nLABEL=\"a\", KERNEL==\"no\", TAG+=\"y\", GOTO=\"a\"\nTAG+=\"z\"\nLABEL=\"a\"" "visited 4\npriority 0\ntag z\n"
@@ -165,13 +165,21 @@ examples =
     ∷ leaves "every section" (operations.run (bytes "OWNER=\"o\", GROUP=\"gh\", SYMLINK=\"l/m n\", ENV{k}=\"v\", ENV{w}=\"xy\", TAG=\"t\", RUN=\"a\", RUN{builtin}+=\"b\", MODE=\"4\", OPTIONS=\"link_priority=258\"") bare empty 17611) (16 ∷ 1 ∷ 10 ∷ 0 ∷ 128 ∷ 0 ∷ 0 ∷ 32 ∷ 66 ∷ 8 ∷ 34 ∷ 111 ∷ 103 ∷ 104 ∷ 3 ∷ 108 ∷ 47 ∷ 109 ∷ 1 ∷ 110 ∷ 2 ∷ 1 ∷ 107 ∷ 118 ∷ 2 ∷ 2 ∷ 119 ∷ 120 ∷ 121 ∷ 1 ∷ 116 ∷ 0 ∷ 2 ∷ 97 ∷ 128 ∷ 2 ∷ 98 ∷ [])
     ∷ leaves "16 of each, packed" (operations.run (bytes "SYMLINK=\"a b c d e f g h i j k l m n o p\"\nTAG+=\"a\", TAG+=\"b\", TAG+=\"c\", TAG+=\"d\", TAG+=\"e\", TAG+=\"f\", TAG+=\"g\", TAG+=\"h\", TAG+=\"i\", TAG+=\"j\", TAG+=\"k\", TAG+=\"l\", TAG+=\"m\", TAG+=\"n\", TAG+=\"o\", TAG+=\"p\"\nRUN+=\"a\", RUN+=\"a\", RUN+=\"a\", RUN+=\"a\", RUN+=\"a\", RUN+=\"a\", RUN+=\"a\", RUN+=\"a\", RUN+=\"a\", RUN+=\"a\", RUN+=\"a\", RUN+=\"a\", RUN+=\"a\", RUN+=\"a\", RUN+=\"a\", RUN+=\"a\"") bare empty 17611) (16 ∷ 0 ∷ 0 ∷ 0 ∷ 0 ∷ 0 ∷ 0 ∷ 0 ∷ 16 ∷ 2 ∷ 16 ∷ 1 ∷ 97 ∷ 1 ∷ 98 ∷ 1 ∷ 99 ∷ 1 ∷ 100 ∷ 1 ∷ 101 ∷ 1 ∷ 102 ∷ 1 ∷ 103 ∷ 1 ∷ 104 ∷ 1 ∷ 105 ∷ 1 ∷ 106 ∷ 1 ∷ 107 ∷ 1 ∷ 108 ∷ 1 ∷ 109 ∷ 1 ∷ 110 ∷ 1 ∷ 111 ∷ 1 ∷ 112 ∷ 1 ∷ 97 ∷ 1 ∷ 98 ∷ 1 ∷ 99 ∷ 1 ∷ 100 ∷ 1 ∷ 101 ∷ 1 ∷ 102 ∷ 1 ∷ 103 ∷ 1 ∷ 104 ∷ 1 ∷ 105 ∷ 1 ∷ 106 ∷ 1 ∷ 107 ∷ 1 ∷ 108 ∷ 1 ∷ 109 ∷ 1 ∷ 110 ∷ 1 ∷ 111 ∷ 1 ∷ 112 ∷ 0 ∷ 2 ∷ 97 ∷ 0 ∷ 2 ∷ 97 ∷ 0 ∷ 2 ∷ 97 ∷ 0 ∷ 2 ∷ 97 ∷ 0 ∷ 2 ∷ 97 ∷ 0 ∷ 2 ∷ 97 ∷ 0 ∷ 2 ∷ 97 ∷ 0 ∷ 2 ∷ 97 ∷ 0 ∷ 2 ∷ 97 ∷ 0 ∷ 2 ∷ 97 ∷ 0 ∷ 2 ∷ 97 ∷ 0 ∷ 2 ∷ 97 ∷ 0 ∷ 2 ∷ 97 ∷ 0 ∷ 2 ∷ 97 ∷ 0 ∷ 2 ∷ 97 ∷ 0 ∷ 2 ∷ 97 ∷ [])
     ∷ leaves "a link that cleaning would not give" (operations.run (bytes "SYMLINK-=\"$$\"\nOPTIONS=\"string_escape=none\", SYMLINK-=\"$$\"\nMODE=\"0\", OPTIONS=\"link_priority=-2147483648\"") bare (16 ∷ 128 ∷ 3 ∷ 255 ∷ 224 ∷ 0 ∷ 0 ∷ 0 ∷ 33 ∷ 4 ∷ 33 ∷ 1 ∷ 36 ∷ 2 ∷ 2 ∷ 125 ∷ 10 ∷ 255 ∷ 2 ∷ 32 ∷ 47 ∷ 0 ∷ 4 ∷ 37 ∷ 37 ∷ []) 17611) (16 ∷ 128 ∷ 2 ∷ 0 ∷ 16 ∷ 0 ∷ 0 ∷ 0 ∷ 0 ∷ 4 ∷ 33 ∷ 2 ∷ 2 ∷ 125 ∷ 10 ∷ 255 ∷ 2 ∷ 32 ∷ 47 ∷ 0 ∷ 4 ∷ 37 ∷ 37 ∷ [])
-    ∷ lists "ATTR and whitespace" (alone [] "/a" (("s", " \t") ∷ ("t", "x\t \u{b}") ∷ ("e", "") ∷ [])) "ATTR{s}==\"\", ATTR{t}==\"x\", ATTR{e}==\"\", ATTR{no}==\"\", TAG+=\"1\"\nATTR{s}==\" \", TAG+=\"2\"\nATTR{s}==\" \t\", TAG+=\"3\"\nATTR{t}==\"x\t\", TAG+=\"4\"\nATTR{e}==\" \", TAG+=\"5\"\nATTR{no}!=\" \", TAG+=\"6\"\nATTR{t}!=\"x\", TAG+=\"7\"\nATTR{t}!=\"x \", TAG+=\"8\"" "visited 8\npriority 0\ntag 1\ntag 3\ntag 6\ntag 8\n"
+    ∷ lists "ATTR and whitespace" (alone [] "/a" (("s", " \t") ∷ ("t", "x\t \u{b}") ∷ ("e", "") ∷ [])) "ATTR{s}==\"\", ATTR{t}==\"x\", ATTR{e}==\"\", ATTR{no}!=\"\", TAG+=\"1\"\nATTR{s}==\" \", TAG+=\"2\"\nATTR{s}==\" \t\", TAG+=\"3\"\nATTR{t}==\"x\t\", TAG+=\"4\"\nATTR{e}==\" \", TAG+=\"5\"\nATTR{no}!=\" \", TAG+=\"6\"\nATTR{t}!=\"x\", TAG+=\"7\"\nATTR{t}!=\"x \", TAG+=\"8\"" "visited 8\npriority 0\ntag 1\ntag 3\ntag 6\ntag 8\n"
     ∷ lists "ENV keeps its whitespace" (alone (("e", "x ") ∷ []) "/a" []) "ENV{e}==\"x\", TAG+=\"1\"\nENV{e}==\"x \", TAG+=\"2\"\nENV{e}!=\"x\", TAG+=\"3\"" "visited 3\npriority 0\nenv e=x \ntag 2\ntag 3\n"
     ∷ lists "DEVPATH and KERNEL" tty "DEVPATH==\"*/usb1/*\", DEVPATH!=\"/devices\", KERNEL==\"ttyUSB?\", SUBSYSTEM==\"tty|usb\", TAG+=\"1\"\nDEVPATH==\"ttyUSB0\", TAG+=\"2\"\nKERNEL==\"*/ttyUSB0\", TAG+=\"3\"" "visited 3\npriority 0\ntag 1\n"
     ∷ leaves "unbind" (operations.run (bytes "ACTION==\"unbind\", TAG=\"a\"\nACTION==\"bind\", TAG=\"b\"") (changed 1 224 bare) empty 17611) (record-of 0 0 32 (1 ∷ 97 ∷ []))
     ∷ lists "lists judged whole" tty "SYMLINK+=\"a/b c\", TAG+=\"x\"\nSYMLINK==\"a*b\", SYMLINK==\"c\", SYMLINK!=\"a\", TAG==\"x\", TAG!=\"c\", TAG+=\"1\"\nSYMLINK==\"?|*/b\", SYMLINK!=\"a*|d\", TAG+=\"2\"\nSYMLINK!=\"*\", TAG+=\"3\"" "visited 4\npriority 0\nlink a/b\nlink c\ntag x\ntag 1\n"
     ∷ lists "numbers of a node" tty "RUN+=\"%M:%m $major/$minor %% $$ %p $devpath %k %n\"" "visited 1\npriority 0\nprogram 188:3 188/3 % $ /devices/usb1/1-1/ttyUSB0 /devices/usb1/1-1/ttyUSB0 ttyUSB0 0\n"
     ∷ lists "signs in turn" tty "RUN+=\"$$kernel %%k $$$kernel %%%k\"" "visited 1\npriority 0\nprogram $kernel %k $ttyUSB0 %ttyUSB0\n"
+    -- document 02, Item 4: an absent attribute or driver is not an empty one; ENV and SUBSYSTEM keep the empty reading
+    ∷ lists "no serial" (alone [] "/a" []) "ATTR{serial}!=\"*\", TAG+=\"1\"\nATTR{serial}==\"*\", TAG+=\"2\"\nATTR{serial}==\"\", TAG+=\"3\"\nATTR{serial}!=\"\", TAG+=\"4\"" "visited 4\npriority 0\ntag 1\ntag 4\n"
+    ∷ lists "a serial of no bytes" (alone [] "/a" (("serial", "") ∷ [])) "ATTR{serial}!=\"*\", TAG+=\"1\"\nATTR{serial}==\"*\", TAG+=\"2\"\nATTR{serial}==\"\", TAG+=\"3\"\nATTR{serial}!=\"\", TAG+=\"4\"" "visited 4\npriority 0\ntag 2\ntag 3\n"
+    ∷ lists "a serial of blanks" (alone [] "/a" (("serial", " \t") ∷ [])) "ATTR{serial}==\"\", TAG+=\"1\"\nATTR{serial}!=\"*\", TAG+=\"2\"" "visited 2\npriority 0\ntag 1\n"
+    ∷ lists "absent at each device" tty "ATTRS{serial}!=\"*\", SYMLINK+=\"a$id\"\nATTRS{serial}==\"*\", SYMLINK+=\"b$id\"\nSUBSYSTEMS==\"usb\", ATTRS{serial}!=\"*\", SYMLINK+=\"c$id\"\nATTRS{serial}==\"hub\", SYMLINK+=\"d$id\"" "visited 4\npriority 0\nlink attyUSB0\nlink b1-1\nlink dusb1\n"
+    ∷ lists "no driver at each device" tty "DRIVERS!=\"*\", SYMLINK+=\"a$id\"\nDRIVERS==\"*\", SYMLINK+=\"b$id\"\nDRIVERS!=\"ftdi\", KERNELS!=\"ttyUSB0\", SYMLINK+=\"c$id\"\nDRIVER==\"*\", TAG+=\"1\"\nDRIVER!=\"*\", TAG+=\"2\"" "visited 5\npriority 0\nlink attyUSB0\nlink b1-1\nlink cusb1\ntag 2\n"
+    ∷ lists "a driver" (deviceOf [] (member "/p/e1" "" "d" []) []) "DRIVER==\"?\", DRIVER!=\"e\", TAG+=\"1\"\nDRIVER!=\"*\", TAG+=\"2\"\nSUBSYSTEM==\"\", SUBSYSTEMS==\"*\", TAG+=\"3\"\nENV{x}==\"\", ENV{x}==\"*\", TAG+=\"4\"\nENV{x}!=\"*\", TAG+=\"5\"" "visited 5\npriority 0\ntag 1\ntag 3\ntag 4\n"
+    ∷ lists "templates insert nothing" tty "SYMLINK+=\"a$attr{serial}b$driver%b\", RUN+=\"x$attr{none}y$env{none}z\"" "visited 1\npriority 0\nlink ab\nprogram xyz\n"
     ∷ []
 
 pub shown : wrong examples ≡ []

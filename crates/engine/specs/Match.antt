@@ -38,9 +38,23 @@ listHolds p xs = judged (p .op) (someMatches (p .value) xs)
 unfoldable pub seenBy : List ℕ → List ℕ → List ℕ
 seenBy value a = pick (endsInSpace value) a (trim a)
 
--- ATTR and ATTRS at one device; a missing attribute reads as the empty value
+-- document 02, Item 4: where nothing is present, `==` never holds and `!=` always does
+abbrev pub absentHolds : Pair → Bool
+absentHolds p = judged (p .op) false
+
+-- Item 4: an attribute that may be absent; one of no bytes is present
+abbrev pub attrJudged : Pair → Option (List ℕ) → Bool
+attrJudged p none = absentHolds p
+attrJudged p (some a) = valueHolds p (seenBy (p .value) a)
+
+-- ATTR and ATTRS at one device
 unfoldable pub attrHolds : Pair → Member → Bool
-attrHolds p m = valueHolds p (seenBy (p .value) (orEmpty (attrOf (p .argument) m)))
+attrHolds p m = attrJudged p (attrOf (p .argument) m)
+
+-- Item 4: DRIVER and DRIVERS at one device; a driver of no bytes is absent
+unfoldable pub driverHolds : Pair → List ℕ → Bool
+driverHolds p [] = absentHolds p
+driverHolds p (b ∷ bs) = valueHolds p (b ∷ bs)
 
 -- ---- keys of the event device and of the outcome
 
@@ -49,7 +63,7 @@ keyHolds ACTION d s p = valueHolds p (actionOf d)
 keyHolds DEVPATH d s p = valueHolds p (d .event .path)
 keyHolds KERNEL d s p = valueHolds p (nameOf (d .event))
 keyHolds SUBSYSTEM d s p = valueHolds p (d .event .subsystem)
-keyHolds DRIVER d s p = valueHolds p (d .event .driver)
+keyHolds DRIVER d s p = driverHolds p (d .event .driver)
 keyHolds ATTR d s p = attrHolds p (d .event)
 keyHolds ENV d s p = valueHolds p (orEmpty (lookup (p .argument) (s .properties)))
 keyHolds SYMLINK d s p = listHolds p (s .links)
@@ -104,7 +118,7 @@ hasParents r = any (λ p. isParent (p .key)) r
 unfoldable pub parentHolds : Key → Member → Pair → Bool
 parentHolds KERNELS m p = valueHolds p (nameOf m)
 parentHolds SUBSYSTEMS m p = valueHolds p (m .subsystem)
-parentHolds DRIVERS m p = valueHolds p (m .driver)
+parentHolds DRIVERS m p = driverHolds p (m .driver)
 parentHolds ATTRS m p = attrHolds p m
 parentHolds ACTION m p = true
 parentHolds DEVPATH m p = true
