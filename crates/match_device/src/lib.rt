@@ -2,12 +2,13 @@
 
 ghost use mathlib.Core.Path.{_≡_};
 ghost use Rattle.pattern.specs.Pattern.{matches};
-ghost use Rattle.device.specs.Device.{actionOf};
+ghost use Rattle.device.specs.Device.{actionOf, attrOf};
 ghost use Rattle.keys.specs.Table.{operatorOf};
 ghost use Rattle.engine.specs.Match.{judged};
 ghost use Rattle.device_lookup.specs.Lookup.{Sound, Standing, OfDevice, OfMember};
-ghost use Rattle.match_device.specs.Parts.{partHolds};
+ghost use Rattle.match_device.specs.Parts.{driverHolds, attributeHolds, partHolds};
 use bits::BitCursor;
+use device_lookup::Value;
 use keys::Operator;
 
 // What a match key can ask of one device. An attribute is the one that the key's argument names.
@@ -17,6 +18,38 @@ pub enum Part {
     Subsystem,
     Driver,
     Attribute,
+}
+
+// A driver of no bytes is absent.
+fn driver_holds(operator: Operator, pattern: &[u8], driver: &[u8]) -> bool
+    ensures { λ r. ⌜ r ≡ driverHolds (operatorOf operator) (now (pattern .entry)) (now (driver .entry)) ⌝ }
+{
+    if driver.len() == 0 {
+        return match_values::judge(operator, false);
+    }
+    match_values::value_holds(operator, pattern, driver)
+}
+
+// An attribute of no bytes is present.
+fn attribute_holds(
+    operator: Operator,
+    argument: &[u8],
+    pattern: &[u8],
+    dev: &[u8],
+    at: usize,
+) -> bool
+    requires { ⌜ Standing (now dev) at ⌝ }
+    ensures { λ r. ⌜ OfMember (now (dev .entry)) at (λ m. r ≡ attributeHolds (operatorOf operator) (now (pattern .entry)) (attrOf (now (argument .entry)) m)) ⌝ }
+{
+    let found = device_view::find_attribute_at(dev, at, argument);
+    match found {
+        Value::At(_, _) => match_values::attribute_holds(
+            operator,
+            pattern,
+            device_lookup::part_of(dev, found),
+        ),
+        Value::Missing => match_values::judge(operator, false),
+    }
 }
 
 // Of the device that begins at a place.
@@ -39,16 +72,8 @@ pub fn part_holds(
             pattern,
             device_view::subsystem_at(dev, at),
         ),
-        Part::Driver => match_values::value_holds(
-            operator,
-            pattern,
-            device_view::driver_at(dev, at),
-        ),
-        Part::Attribute => match_values::attribute_holds(
-            operator,
-            pattern,
-            device_view::attribute_at(dev, at, argument),
-        ),
+        Part::Driver => driver_holds(operator, pattern, device_view::driver_at(dev, at)),
+        Part::Attribute => attribute_holds(operator, argument, pattern, dev, at),
     }
 }
 

@@ -3,17 +3,30 @@
 use Prim.Native.Nat.{ℕ}
 use mathlib.Core.Path.{_≡_, refl, sym, ap, _∙_}
 use mathlib.Core.Bool.{Bool, true, false, true≢false}
-use mathlib.Core.List.{List}
+use mathlib.Core.List.{List, [], _∷_}
+use mathlib.Core.Option.{Option, none, some}
 use Rattle.rules.specs.Key.{Key, ACTION, DEVPATH, KERNEL, KERNELS, SUBSYSTEM, SUBSYSTEMS, DRIVER, DRIVERS, ATTR, ATTRS, ENV, SYMLINK, TAG, OWNER, GROUP, MODE, RUN, LABEL, GOTO, OPTIONS, Op, equal, unequal, assign, add, remove, final, isMatch}
 use Rattle.rules.specs.Pair.{Pair}
 use Rattle.keys.specs.Table.{keyOf, operatorOf}
 use Rattle.table.specs.Table.{entryOf}
 use Rattle.table.specs.declared.Entry.{Entry}
-use Rattle.device.specs.Device.{Member, Device}
+use Rattle.device.specs.Device.{Member, Device, attrOf}
 use Rattle.outcome.specs.State.{State}
-use Rattle.engine.specs.Match.{valueHolds, listHolds, attrHolds, keyHolds, pairHolds, isParent, parentHolds}
+use Rattle.engine.specs.Match.{valueHolds, listHolds, attrJudged, attrHolds, driverHolds, keyHolds, pairHolds, isParent, parentHolds}
+use Rattle.match_device.specs.Parts as parts
 use Rattle.matching.specs.Subjects.{subjectOf, isParentSubject, atEvent, atParent, pairOn}
 use Rattle.matching.specs.declared.Subject.{Subject}
+
+-- document 02, Item 4: what is absent
+driver-part : (p : Pair) (x : List ℕ) → driverHolds p x ≡ parts.driverHolds (p .op) (p .value) x
+unfolding driverHolds valueHolds
+driver-part p [] = refl
+driver-part p (b ∷ bs) = refl
+
+attribute-part : (p : Pair) (o : Option (List ℕ)) → attrJudged p o ≡ parts.attributeHolds (p .op) (p .value) o
+unfolding valueHolds
+attribute-part p none = refl
+attribute-part p (some a) = refl
 
 key-subject : (k : Key) (d : Device) (s : State) (p : Pair) → keyHolds k d s p ≡ pairOn (subjectOf k) p d (d .event) s
 unfolding keyHolds valueHolds listHolds attrHolds
@@ -23,9 +36,9 @@ key-subject KERNEL d s p = refl
 key-subject KERNELS d s p = refl
 key-subject SUBSYSTEM d s p = refl
 key-subject SUBSYSTEMS d s p = refl
-key-subject DRIVER d s p = refl
+key-subject DRIVER d s p = driver-part p (d .event .driver)
 key-subject DRIVERS d s p = refl
-key-subject ATTR d s p = refl
+key-subject ATTR d s p = attribute-part p (attrOf (p .argument) (d .event))
 key-subject ATTRS d s p = refl
 key-subject ENV d s p = refl
 key-subject SYMLINK d s p = refl
@@ -62,9 +75,9 @@ parent-subject KERNELS d m s p = refl
 parent-subject SUBSYSTEM d m s p = refl
 parent-subject SUBSYSTEMS d m s p = refl
 parent-subject DRIVER d m s p = refl
-parent-subject DRIVERS d m s p = refl
+parent-subject DRIVERS d m s p = driver-part p (m .driver)
 parent-subject ATTR d m s p = refl
-parent-subject ATTRS d m s p = refl
+parent-subject ATTRS d m s p = attribute-part p (attrOf (p .argument) m)
 parent-subject ENV d m s p = refl
 parent-subject SYMLINK d m s p = refl
 parent-subject TAG d m s p = refl
