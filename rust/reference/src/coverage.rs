@@ -4,9 +4,9 @@ use std::collections::BTreeMap;
 use std::fmt;
 
 use crate::compare::{first_number, Operation, Reply};
-use crate::content::{Assignment, Content};
+use crate::content::{Assignment, Content, Match, Subject};
 use crate::device::{Device, EVENT_DEVICE, NO_PLACE};
-use crate::engine::{holds, is_closed, matched_place, Runner};
+use crate::engine::{feature_of, holds, is_closed, matched_place, Runner};
 use crate::generate::Case;
 use crate::key::{Key, Operator};
 use crate::outcome::Outcome;
@@ -47,10 +47,12 @@ pub enum Fact {
     ParentKeysMatchParent,
     ParentKeysMatchOnlyApart,
     RuleMatchedOtherwiseAfterIt,
+    AbsentJudgedAgainstEmpty,
+    PresentAndEmpty,
 }
 
 impl Fact {
-    pub const ALL: [Fact; 11] = [
+    pub const ALL: [Fact; 13] = [
         Fact::AcceptedRunVisitsRules,
         Fact::AcceptedRunSkipsRules,
         Fact::AcceptedRunChangesRecord,
@@ -62,6 +64,8 @@ impl Fact {
         Fact::ParentKeysMatchParent,
         Fact::ParentKeysMatchOnlyApart,
         Fact::RuleMatchedOtherwiseAfterIt,
+        Fact::AbsentJudgedAgainstEmpty,
+        Fact::PresentAndEmpty,
     ];
 }
 
@@ -158,6 +162,9 @@ impl Coverage {
             None => self.fact_if(each_holds, Fact::ParentKeysMatchOnlyApart),
         }
         self.fact_if(matched.is_some() && rule.jump.is_some(), Fact::JumpTaken);
+        for (_, content) in rule.matches() {
+            self.see_features(content, device);
+        }
         for pair in &rule.pairs {
             let takes_effect = match &pair.content {
                 Content::Match(_) => pair_holds(pair, device, outcome),
@@ -170,6 +177,25 @@ impl Coverage {
                 count.effective += 1;
             } else {
                 count.without_effect += 1;
+            }
+        }
+    }
+
+    /// Looks for attributes and drivers that are absent or empty, where that makes a difference.
+    fn see_features(&mut self, content: &Match, device: &Device) {
+        let (Subject::OfEventDevice(feature) | Subject::OfChain(feature)) = &content.subject else {
+            return;
+        };
+        if !content.pattern.matches(b"") {
+            return;
+        }
+        for device in &device.chain {
+            match feature_of(device, feature) {
+                None => self.fact(Fact::AbsentJudgedAgainstEmpty),
+                Some(text) => self.fact_if(text.is_empty(), Fact::PresentAndEmpty),
+            }
+            if matches!(content.subject, Subject::OfEventDevice(_)) {
+                break;
             }
         }
     }

@@ -113,14 +113,22 @@ pub fn holds(
     matches == (operator == Operator::Equal)
 }
 
+/// What is absent matches no pattern.
 fn feature_matches(feature: &Feature, pattern: &Pattern, device: &ChainDevice) -> bool {
+    feature_of(device, feature).is_some_and(|text| match feature {
+        Feature::Name | Feature::Subsystem | Feature::Driver => pattern.matches(text),
+        Feature::Attribute(_) => pattern.matches_attribute(text),
+    })
+}
+
+/// What a device has for the feature, or `None` if that is absent. A driver without bytes is
+/// absent, an attribute or a subsystem without bytes is present.
+pub fn feature_of<'a>(device: &'a ChainDevice, feature: &Feature) -> Option<&'a [u8]> {
     match feature {
-        Feature::Name => pattern.matches(device.name()),
-        Feature::Subsystem => pattern.matches(&device.subsystem),
-        Feature::Driver => pattern.matches(&device.driver),
-        Feature::Attribute(name) => {
-            pattern.matches_attribute(value_of(&device.attributes, name).unwrap_or_default())
-        }
+        Feature::Name => Some(device.name()),
+        Feature::Subsystem => Some(&device.subsystem),
+        Feature::Driver => (!device.driver.is_empty()).then_some(&device.driver),
+        Feature::Attribute(name) => value_of(&device.attributes, name),
     }
 }
 

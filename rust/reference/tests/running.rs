@@ -103,16 +103,12 @@ fn each_match_key() {
         ("SUBSYSTEMS", "tty"),
         ("SUBSYSTEMS", "usb"),
         ("SUBSYSTEMS", ""),
-        ("DRIVER", ""),
-        ("DRIVERS", ""),
         ("DRIVERS", "usb"),
         ("DRIVERS", "root hub"),
         ("ATTR{dev}", "188:0"),
-        ("ATTR{serial}", ""),
         ("ATTR{both}", "near"),
         ("ATTRS{both}", "near"),
         ("ATTRS{both}", "far"),
-        ("ATTRS{both}", ""),
         ("ATTRS{serial}", "RC-0417"),
         ("ENV{ID_BUS}", "usb"),
         ("ENV{EMPTY}", ""),
@@ -130,7 +126,11 @@ fn each_match_key() {
         ("KERNELS", "usb1"),
         ("SUBSYSTEM", "usb"),
         ("DRIVER", "usb"),
+        ("DRIVER", ""),
+        ("DRIVERS", ""),
         ("ATTR{both}", "far"),
+        ("ATTR{serial}", ""),
+        ("ATTRS{both}", ""),
         ("ATTR{serial}", "RC-0417"),
         ("ENV{none}", "?*"),
         ("SYMLINK", "*"),
@@ -150,7 +150,7 @@ fn unequal() {
     assert!(matches("KERNEL!=\"sda\"", &device));
     assert!(!matches("KERNEL!=\"tty*\"", &device));
     assert!(matches("ATTR{none}!=\"x\"", &device));
-    assert!(!matches("ATTR{none}!=\"\"", &device));
+    assert!(matches("ATTR{none}!=\"\"", &device));
     assert!(matches("DRIVER!=\"x\"", &device));
     assert!(matches("SYMLINK!=\"*\", TAG!=\"*\"", &device));
 }
@@ -182,8 +182,8 @@ fn parent_keys_select_the_nearest_device() {
         ["id-devices-root_hub"]
     );
     assert_eq!(id("KERNELS!=\"tty*\""), ["id-1-1-usb"]);
-    assert_eq!(id("ATTRS{both}==\"\""), ["id-devices-root_hub"]);
-    assert!(!matches("ATTRS{both}==\"\", SUBSYSTEMS==\"usb\"", &device));
+    assert_eq!(id("ATTRS{both}!=\"*\""), ["id-devices-root_hub"]);
+    assert!(!matches("ATTRS{both}!=\"*\", SUBSYSTEMS==\"usb\"", &device));
 }
 
 #[test]

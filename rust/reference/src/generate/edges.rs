@@ -214,6 +214,12 @@ pub const RUN_EDGES: &[Edge] = &[
     }),
     edge("mode of an 8", 34, |rng| of_line(b"MODE=\"888\"", rng)),
     edge("empty mode", 34, |rng| of_line(b"MODE=\"\"", rng)),
+    edge("absent attribute equals nothing", 0, |rng| {
+        of_line(b"ATTR{none}==\"*\", MODE=\"8\"", rng)
+    }),
+    edge("absent attribute differs from everything", 34, |rng| {
+        of_line(b"ATTR{none}!=\"*\", MODE=\"8\"", rng)
+    }),
     edge("closed keys skip faults", 0, |rng| {
         of_full_and_closed(
             "SYMLINK+=\"/x\", SYMLINK-=\"..\", TAG+=\"new\", TAG-=\"n1\", RUN+=\"x\", \

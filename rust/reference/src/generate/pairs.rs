@@ -6,7 +6,10 @@ use super::vocabulary::{
     ATTRIBUTE_NAMES, LINKS, LINK_PARTS, MODES, OWNERS, PROPERTY_KEYS, TAGS, VALUES,
 };
 use super::world::World;
+use crate::bytes::without_trailing_whitespace;
+use crate::content::Feature;
 use crate::device::{ChainDevice, Device};
+use crate::engine::feature_of;
 use crate::key::Operator;
 use crate::outcome::Outcome;
 use crate::property::{value_of, Property};
@@ -52,7 +55,7 @@ pub fn quoted(value: &[u8]) -> Vec<u8> {
 pub fn match_pair(rng: &mut Rng, world: &World) -> Vec<u8> {
     let (key, actual) = matched_key(rng, world);
     let holds = rng.percent(85);
-    judged_pair(rng, &key, &actual, holds)
+    judged_pair(rng, &key, actual.as_deref(), holds)
 }
 
 /// One to three parent keys that mostly hold at one device.
@@ -65,13 +68,16 @@ pub fn parent_pairs(rng: &mut Rng, world: &World) -> Vec<Vec<u8>> {
         }
         let (key, actual) = parent_key(rng, device);
         let holds = rng.percent(95);
-        pairs.push(judged_pair(rng, &key, &actual, holds));
+        pairs.push(judged_pair(rng, &key, actual.as_deref(), holds));
     }
     pairs
 }
 
 /// A match of the key, so that it holds for the actual text or does not.
-fn judged_pair(rng: &mut Rng, key: &[u8], actual: &[u8], holds: bool) -> Vec<u8> {
+fn judged_pair(rng: &mut Rng, key: &[u8], actual: Option<&[u8]>, holds: bool) -> Vec<u8> {
+    let Some(actual) = actual else {
+        return pair_of_absent(rng, key, holds);
+    };
     let operator = rng.pick(&[Equal, Equal, Unequal]);
     let pattern = if rng.percent(8) {
         patterns::odd(rng)
@@ -83,47 +89,65 @@ fn judged_pair(rng: &mut Rng, key: &[u8], actual: &[u8], holds: bool) -> Vec<u8>
     pair(rng, key, operator, &pattern)
 }
 
-/// A match key, and a text that it is judged on.
-fn matched_key(rng: &mut Rng, world: &World) -> (Vec<u8>, Vec<u8>) {
+/// A match of a key that is absent, mostly with a pattern that the empty text matches.
+fn pair_of_absent(rng: &mut Rng, key: &[u8], holds: bool) -> Vec<u8> {
+    let operator = if holds { Unequal } else { Equal };
+    let pattern = if rng.percent(80) {
+        patterns::matching(rng, b"")
+    } else {
+        patterns::odd(rng)
+    };
+    pair(rng, key, operator, &pattern)
+}
+
+/// A match key, and the text that it is judged on, unless that is absent.
+type JudgedKey = (Vec<u8>, Option<Vec<u8>>);
+
+fn matched_key(rng: &mut Rng, world: &World) -> JudgedKey {
     let device = world.device.event_device();
     let outcome = &world.outcome;
     match rng.below(12) {
         0 => (
             b"ACTION".to_vec(),
-            world.device.action.name().as_bytes().to_vec(),
+            Some(world.device.action.name().as_bytes().to_vec()),
         ),
-        1 => (b"DEVPATH".to_vec(), device.path.clone()),
-        2 | 3 => (b"KERNEL".to_vec(), device.name().to_vec()),
-        4 => (b"SUBSYSTEM".to_vec(), device.subsystem.clone()),
-        5 => (b"DRIVER".to_vec(), device.driver.clone()),
+        1 => (b"DEVPATH".to_vec(), Some(device.path.clone())),
+        2 | 3 => (b"KERNEL".to_vec(), Some(device.name().to_vec())),
+        4 => (b"SUBSYSTEM".to_vec(), Some(device.subsystem.clone())),
+        5 => driver_key(b"DRIVER", device),
         6 | 7 => attribute_key(rng, b"ATTR", device),
         8 | 9 => {
             let key = property_key(rng, outcome);
             let actual = value_of(&outcome.properties, &key).unwrap_or_default();
-            (with_argument(b"ENV", &key), actual.to_vec())
+            (with_argument(b"ENV", &key), Some(actual.to_vec()))
         }
-        10 => (b"SYMLINK".to_vec(), entry(rng, &outcome.links, LINKS)),
-        _ => (b"TAG".to_vec(), entry(rng, &outcome.tags, TAGS)),
+        10 => (b"SYMLINK".to_vec(), Some(entry(rng, &outcome.links, LINKS))),
+        _ => (b"TAG".to_vec(), Some(entry(rng, &outcome.tags, TAGS))),
     }
 }
 
 /// A parent key, and what the device has for it.
-fn parent_key(rng: &mut Rng, device: &ChainDevice) -> (Vec<u8>, Vec<u8>) {
+fn parent_key(rng: &mut Rng, device: &ChainDevice) -> JudgedKey {
     match rng.below(5) {
-        0 => (b"KERNELS".to_vec(), device.name().to_vec()),
-        1 => (b"SUBSYSTEMS".to_vec(), device.subsystem.clone()),
-        2 => (b"DRIVERS".to_vec(), device.driver.clone()),
+        0 => (b"KERNELS".to_vec(), Some(device.name().to_vec())),
+        1 => (b"SUBSYSTEMS".to_vec(), Some(device.subsystem.clone())),
+        2 => driver_key(b"DRIVERS", device),
         _ => attribute_key(rng, b"ATTRS", device),
     }
 }
 
-fn attribute_key(rng: &mut Rng, key: &[u8], device: &ChainDevice) -> (Vec<u8>, Vec<u8>) {
+fn driver_key(key: &[u8], device: &ChainDevice) -> JudgedKey {
+    let actual = feature_of(device, &Feature::Driver);
+    (key.to_vec(), actual.map(<[u8]>::to_vec))
+}
+
+fn attribute_key(rng: &mut Rng, key: &[u8], device: &ChainDevice) -> JudgedKey {
     let name = entry_key(rng, &device.attributes, ATTRIBUTE_NAMES);
-    let mut actual = value_of(&device.attributes, &name).unwrap_or_default();
+    let mut actual = value_of(&device.attributes, &name);
     if rng.percent(60) {
-        actual = crate::bytes::without_trailing_whitespace(actual);
+        actual = actual.map(without_trailing_whitespace);
     }
-    (with_argument(key, &name), actual.to_vec())
+    (with_argument(key, &name), actual.map(<[u8]>::to_vec))
 }
 
 /// The key of one of the entries, or another.
