@@ -164,7 +164,7 @@ examples =
     ∷ leaves "close of 512" (operations.close bare (record-of 0 4 1 ((3 ∷ 0 ∷ 107 ∷ replicate 256 121) ++ (128 ∷ 28 ∷ (bytes "$env{k}$env{k}")))) 8225) (8 ∷ 192 ∷ 0 ∷ replicate 512 121)
     ∷ leaves "every section" (operations.run (bytes "OWNER=\"o\", GROUP=\"gh\", SYMLINK=\"l/m n\", ENV{k}=\"v\", ENV{w}=\"xy\", TAG=\"t\", RUN=\"a\", RUN{builtin}+=\"b\", MODE=\"4\", OPTIONS=\"link_priority=258\"") bare empty 17611) (16 ∷ 1 ∷ 10 ∷ 0 ∷ 128 ∷ 0 ∷ 0 ∷ 32 ∷ 66 ∷ 8 ∷ 34 ∷ 111 ∷ 103 ∷ 104 ∷ 3 ∷ 108 ∷ 47 ∷ 109 ∷ 1 ∷ 110 ∷ 2 ∷ 1 ∷ 107 ∷ 118 ∷ 2 ∷ 2 ∷ 119 ∷ 120 ∷ 121 ∷ 1 ∷ 116 ∷ 0 ∷ 2 ∷ 97 ∷ 128 ∷ 2 ∷ 98 ∷ [])
     ∷ leaves "16 of each, packed" (operations.run (bytes "SYMLINK=\"a b c d e f g h i j k l m n o p\"\nTAG+=\"a\", TAG+=\"b\", TAG+=\"c\", TAG+=\"d\", TAG+=\"e\", TAG+=\"f\", TAG+=\"g\", TAG+=\"h\", TAG+=\"i\", TAG+=\"j\", TAG+=\"k\", TAG+=\"l\", TAG+=\"m\", TAG+=\"n\", TAG+=\"o\", TAG+=\"p\"\nRUN+=\"a\", RUN+=\"a\", RUN+=\"a\", RUN+=\"a\", RUN+=\"a\", RUN+=\"a\", RUN+=\"a\", RUN+=\"a\", RUN+=\"a\", RUN+=\"a\", RUN+=\"a\", RUN+=\"a\", RUN+=\"a\", RUN+=\"a\", RUN+=\"a\", RUN+=\"a\"") bare empty 17611) (16 ∷ 0 ∷ 0 ∷ 0 ∷ 0 ∷ 0 ∷ 0 ∷ 0 ∷ 16 ∷ 2 ∷ 16 ∷ 1 ∷ 97 ∷ 1 ∷ 98 ∷ 1 ∷ 99 ∷ 1 ∷ 100 ∷ 1 ∷ 101 ∷ 1 ∷ 102 ∷ 1 ∷ 103 ∷ 1 ∷ 104 ∷ 1 ∷ 105 ∷ 1 ∷ 106 ∷ 1 ∷ 107 ∷ 1 ∷ 108 ∷ 1 ∷ 109 ∷ 1 ∷ 110 ∷ 1 ∷ 111 ∷ 1 ∷ 112 ∷ 1 ∷ 97 ∷ 1 ∷ 98 ∷ 1 ∷ 99 ∷ 1 ∷ 100 ∷ 1 ∷ 101 ∷ 1 ∷ 102 ∷ 1 ∷ 103 ∷ 1 ∷ 104 ∷ 1 ∷ 105 ∷ 1 ∷ 106 ∷ 1 ∷ 107 ∷ 1 ∷ 108 ∷ 1 ∷ 109 ∷ 1 ∷ 110 ∷ 1 ∷ 111 ∷ 1 ∷ 112 ∷ 0 ∷ 2 ∷ 97 ∷ 0 ∷ 2 ∷ 97 ∷ 0 ∷ 2 ∷ 97 ∷ 0 ∷ 2 ∷ 97 ∷ 0 ∷ 2 ∷ 97 ∷ 0 ∷ 2 ∷ 97 ∷ 0 ∷ 2 ∷ 97 ∷ 0 ∷ 2 ∷ 97 ∷ 0 ∷ 2 ∷ 97 ∷ 0 ∷ 2 ∷ 97 ∷ 0 ∷ 2 ∷ 97 ∷ 0 ∷ 2 ∷ 97 ∷ 0 ∷ 2 ∷ 97 ∷ 0 ∷ 2 ∷ 97 ∷ 0 ∷ 2 ∷ 97 ∷ 0 ∷ 2 ∷ 97 ∷ [])
-    ∷ leaves "a link that cleaning would not give" (operations.run (bytes "SYMLINK-=\"$$\"\nOPTIONS=\"string_escape=none\", SYMLINK-=\"$$\"\nMODE=\"0\", OPTIONS=\"link_priority=-2147483648\"") bare (16 ∷ 128 ∷ 3 ∷ 255 ∷ 224 ∷ 0 ∷ 0 ∷ 0 ∷ 33 ∷ 4 ∷ 33 ∷ 1 ∷ 36 ∷ 2 ∷ 2 ∷ 125 ∷ 10 ∷ 255 ∷ 2 ∷ 32 ∷ 47 ∷ 0 ∷ 4 ∷ 37 ∷ 37 ∷ []) 17611) (16 ∷ 128 ∷ 2 ∷ 0 ∷ 16 ∷ 0 ∷ 0 ∷ 0 ∷ 0 ∷ 4 ∷ 33 ∷ 2 ∷ 2 ∷ 125 ∷ 10 ∷ 255 ∷ 2 ∷ 32 ∷ 47 ∷ 0 ∷ 4 ∷ 37 ∷ 37 ∷ [])
+    ∷ leaves "a link that cleaning would not give" (operations.run (bytes "SYMLINK-=\"$$\"\nOPTIONS=\"string_escape=none\", SYMLINK-=\"$$\"\nMODE=\"0\", OPTIONS=\"link_priority=-2147483648\"") bare (16 ∷ 128 ∷ 3 ∷ 255 ∷ 160 ∷ 0 ∷ 0 ∷ 0 ∷ 33 ∷ 4 ∷ 33 ∷ 1 ∷ 36 ∷ 2 ∷ 2 ∷ 125 ∷ 10 ∷ 255 ∷ 2 ∷ 32 ∷ 47 ∷ 0 ∷ 4 ∷ 37 ∷ 37 ∷ []) 17611) (16 ∷ 128 ∷ 2 ∷ 0 ∷ 16 ∷ 0 ∷ 0 ∷ 0 ∷ 0 ∷ 4 ∷ 33 ∷ 2 ∷ 2 ∷ 125 ∷ 10 ∷ 255 ∷ 2 ∷ 32 ∷ 47 ∷ 0 ∷ 4 ∷ 37 ∷ 37 ∷ [])
     ∷ lists "ATTR and whitespace" (alone [] "/a" (("s", " \t") ∷ ("t", "x\t \u{b}") ∷ ("e", "") ∷ [])) "ATTR{s}==\"\", ATTR{t}==\"x\", ATTR{e}==\"\", ATTR{no}!=\"\", TAG+=\"1\"\nATTR{s}==\" \", TAG+=\"2\"\nATTR{s}==\" \t\", TAG+=\"3\"\nATTR{t}==\"x\t\", TAG+=\"4\"\nATTR{e}==\" \", TAG+=\"5\"\nATTR{no}!=\" \", TAG+=\"6\"\nATTR{t}!=\"x\", TAG+=\"7\"\nATTR{t}!=\"x \", TAG+=\"8\"" "visited 8\npriority 0\ntag 1\ntag 3\ntag 6\ntag 8\n"
     ∷ lists "ENV keeps its whitespace" (alone (("e", "x ") ∷ []) "/a" []) "ENV{e}==\"x\", TAG+=\"1\"\nENV{e}==\"x \", TAG+=\"2\"\nENV{e}!=\"x\", TAG+=\"3\"" "visited 3\npriority 0\nenv e=x \ntag 2\ntag 3\n"
     ∷ lists "DEVPATH and KERNEL" tty "DEVPATH==\"*/usb1/*\", DEVPATH!=\"/devices\", KERNEL==\"ttyUSB?\", SUBSYSTEM==\"tty|usb\", TAG+=\"1\"\nDEVPATH==\"ttyUSB0\", TAG+=\"2\"\nKERNEL==\"*/ttyUSB0\", TAG+=\"3\"" "visited 3\npriority 0\ntag 1\n"
@@ -180,6 +180,20 @@ examples =
     ∷ lists "no driver at each device" tty "DRIVERS!=\"*\", SYMLINK+=\"a$id\"\nDRIVERS==\"*\", SYMLINK+=\"b$id\"\nDRIVERS!=\"ftdi\", KERNELS!=\"ttyUSB0\", SYMLINK+=\"c$id\"\nDRIVER==\"*\", TAG+=\"1\"\nDRIVER!=\"*\", TAG+=\"2\"" "visited 5\npriority 0\nlink attyUSB0\nlink b1-1\nlink cusb1\ntag 2\n"
     ∷ lists "a driver" (deviceOf [] (member "/p/e1" "" "d" []) []) "DRIVER==\"?\", DRIVER!=\"e\", TAG+=\"1\"\nDRIVER!=\"*\", TAG+=\"2\"\nSUBSYSTEM==\"\", SUBSYSTEMS==\"*\", TAG+=\"3\"\nENV{x}==\"\", ENV{x}==\"*\", TAG+=\"4\"\nENV{x}!=\"*\", TAG+=\"5\"" "visited 5\npriority 0\ntag 1\ntag 3\ntag 4\n"
     ∷ lists "templates insert nothing" tty "SYMLINK+=\"a$attr{serial}b$driver%b\", RUN+=\"x$attr{none}y$env{none}z\"" "visited 1\npriority 0\nlink ab\nprogram xyz\n"
+    -- document 02, Item 8: 36 where the assignment takes place, after 30 and 34, before what stands to its right
+    ∷ lists "0002" tty "TAG+=\"a\"\nMODE=\"0002\"" "refused 36 line 2\n"
+    ∷ lists "0666" tty "MODE:=\"666\"" "refused 36 line 1\n"
+    ∷ lists "0775 and 1" tty "MODE=\"0775\"\nMODE=\"1\"" "visited 2\npriority 0\nmode 0001\n"
+    ∷ lists "last digits 2 3 6 7" tty "MODE=\"4\", MODE=\"5\", MODE=\"7774\", MODE=\"1\", MODE=\"0\", MODE=\"20\", MODE=\"3\"" "refused 36 line 1\n"
+    ∷ lists "34 before 36" tty "MODE=\"00002\"" "refused 34 line 1\n"
+    ∷ lists "36 before its right" tty "MODE=\"0006\", SYMLINK+=\"..\", MODE=\"9\"" "refused 36 line 1\n"
+    ∷ lists "36 behind its left" tty "SYMLINK+=\"..\", MODE=\"0006\"" "refused 31 line 1\n"
+    ∷ lists "no 36 in a rule that fails" tty "KERNEL==\"x\", MODE=\"0666\"" "visited 1\npriority 0\n"
+    ∷ lists "no 36 where closed" tty "MODE:=\"0640\"\nMODE=\"0666\"" "visited 2\npriority 0\nmode 0640\n"
+    ∷ lists "36 from a property" (alone (("m", "0666") ∷ []) "/a" []) "MODE=\"$env{m}\"" "refused 36 line 1\n"
+    ∷ refused4 "4 mode 0666" (changed 2 2 (changed 3 54 (changed 4 192 empty)))
+    ∷ sound4 "mode 0664" (changed 2 2 (changed 3 54 (changed 4 128 empty)))
+    ∷ answers "close, 4 mode 0666" (operations.close bare (changed 2 2 (changed 3 54 (changed 4 192 empty))) 8225) 4 0 0 0 8225
     ∷ []
 
 pub shown : wrong examples ≡ []

@@ -13,9 +13,9 @@ use borrow.Author.Tests.{le-leb, leb-true}
 use Rattle.lists.specs.Lists.{pick, isEmpty, all, reject}
 use Rattle.lists.specs.Bytes.{between, clean, okText}
 use Rattle.lists.specs.Runs.{splitAt}
-use Rattle.lists.specs.Checked.{Checked, refused, ok, _>>=_, _>>_, Holds}
-use Rattle.lists.specs.Refusal.{Refusal}
-use Rattle.lists.proofs.Checked.{holds-bind, holds-map}
+use Rattle.lists.specs.Checked.{Checked, refused, ok, _>>=_, _>>_, require, Holds}
+use Rattle.lists.specs.Refusal.{Refusal, mode-bad, mode-shared}
+use Rattle.lists.proofs.Checked.{holds-bind, holds-seq, holds-require, holds-map}
 use Rattle.lists.proofs.Tests.{and-both, both-and}
 use Rattle.lists.proofs.Lists.{all-snoc, all-map, reject-all}
 use Rattle.lists.proofs.Bytes.{split-clean}
@@ -24,9 +24,9 @@ use Rattle.rules.specs.Key.{Key, ACTION, DEVPATH, KERNEL, KERNELS, SUBSYSTEM, S
 use Rattle.rules.specs.Pair.{Pair, Rule}
 use Rattle.rules.specs.Setting.{Setting, escape-none, escape-replace, priority, settingOf}
 use Rattle.device.specs.Device.{Member, Device, chain}
-use Rattle.outcome.specs.Content.{okLink, okName, okOwner, octal, octalFrom, okMode, modeNumber}
+use Rattle.outcome.specs.Content.{okLink, okName, okOwner, octal, octalFrom, okMode, modeNumber, othersWrite}
 use Rattle.outcome.specs.Head.{Closed}
-use Rattle.outcome.specs.State.{Run, State, okRun, okTag, Entries, Properties, Runs, Good}
+use Rattle.outcome.specs.State.{Run, State, ModeBits, okRun, okTag, Entries, Properties, Runs, Good}
 use Rattle.outcome.specs.Change.{withClosed, withOwner, withGroup, withMode, withPriority, withLinks, withProperties, withTags, withRuns, shutLinks, shutTags, shutRuns, shutOwner, shutGroup, shutMode}
 use Rattle.text.specs.Engine.{Stepped, went}
 use Rattle.lists.specs.Sizes.{mostChain, mostKey, mostTag, mostTags, mostValue, mostLinks, mostSubstituted}
@@ -263,18 +263,18 @@ module _ (d : Device) (dg : Sound d) where
         (λ t h. holds-bind (λ (x : List ℕ). okOwner x ≡ true) (Good size) (ownerIn t) _ (owner-holds t)
         (λ x k. closing-good size (p .op) shutGroup (withGroup s x) (group-good size s g x k)))
 
-    mode-holds : (t : List ℕ) → Holds (λ (m : ℕ). m < 4096) (modeIn t)
-    mode-holds t = at (okMode t) refl
-      where
-        at : (b : Bool) → okMode t ≡ b → Holds (λ (m : ℕ). m < 4096) (modeIn t)
-        at true e = rw (e, modeIn) (mode-small t e)
-        at false e = rw (e, modeIn) tt
+    mode-holds : (t : List ℕ) → Holds ModeBits (modeIn t)
+    mode-holds t =
+        holds-seq (λ (_ : Unit {0}). okMode t ≡ true) ModeBits (require (okMode t) mode-bad) _ (holds-require (okMode t) mode-bad)
+        (λ _ e. holds-seq (λ (_ : Unit {0}). not (othersWrite (modeNumber t)) ≡ true) ModeBits (require (not (othersWrite (modeNumber t))) mode-shared) _
+        (holds-require (not (othersWrite (modeNumber t))) mode-shared)
+        (λ _ k. record { small = mode-small t e; kept = k }))
 
     moded-good : (s : State) → Good size s → Holds (Good size) (moded d place p s)
     unfolding moded
     moded-good s g =
         holds-bind (λ (t : List ℕ). clean t ≡ true) (Good size) (filled false (sourceOf d place s) (p .value)) _ (filled-clean false place s (p .value) (sp .value) g)
-        (λ t h. holds-bind (λ (m : ℕ). m < 4096) (Good size) (modeIn t) _ (mode-holds t)
+        (λ t h. holds-bind ModeBits (Good size) (modeIn t) _ (mode-holds t)
         (λ m k. closing-good size (p .op) shutMode (withMode s m) (mode-good size s g m k)))
 
     properties-hold : (e : Escape) (ps : List Property) → okText mostKey (p .argument) ≡ true → Properties ps → Holds Properties (changeProperties e (p .argument) (p .value) ps)

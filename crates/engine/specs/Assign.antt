@@ -1,4 +1,4 @@
--- Document 01, Running: what an assignment does to the outcome, or why it is refused (30 to 34).
+-- Document 01, Running: what an assignment does to the outcome, or why it is refused (30 to 36).
 -- Assumes nothing.
 use Prim.Native.Nat.{ℕ, zero, suc, _+_, _-_}
 use mathlib.Core.Bool.{Bool, true, false, not, _&&_, _||_}
@@ -12,13 +12,13 @@ use Rattle.lists.specs.Bytes.{isDigit, sameBytes, holds, among, isLetter}
 use Rattle.lists.specs.Runs.{splitAt}
 use Rattle.lists.specs.Checked.{Checked, refused, ok, _>>=_, _>>_, require}
 use Rattle.lists.specs.Sizes.{mostLinks, mostTags, mostRuns}
-use Rattle.lists.specs.Refusal.{Refusal, link-bad, owner-bad, mode-bad}
+use Rattle.lists.specs.Refusal.{Refusal, link-bad, owner-bad, mode-bad, mode-shared}
 use Rattle.entries.specs.Entry.{Property, keys}
 use Rattle.rules.specs.Key.{Key, ACTION, DEVPATH, KERNEL, KERNELS, SUBSYSTEM, SUBSYSTEMS, DRIVER, DRIVERS, ATTR, ATTRS, ENV, SYMLINK, TAG, OWNER, GROUP, MODE, RUN, LABEL, GOTO, OPTIONS, Op, equal, unequal, assign, add, remove, final, isMatch}
 use Rattle.rules.specs.Pair.{Pair, Rule, isBuiltin}
 use Rattle.rules.specs.Setting.{Setting, escape-none, escape-replace, priority, settingOf}
 use Rattle.device.specs.Device.{Device}
-use Rattle.outcome.specs.Content.{okName, okOwner, okMode, modeNumber}
+use Rattle.outcome.specs.Content.{okName, okOwner, okMode, modeNumber, othersWrite}
 use Rattle.outcome.specs.Head.{Closed}
 use Rattle.outcome.specs.State.{Run, State}
 use Rattle.outcome.specs.Change.{withClosed, withOwner, withGroup, withMode, withPriority, withLinks, withProperties, withTags, withRuns, shutLinks, shutTags, shutRuns, shutOwner, shutGroup, shutMode}
@@ -161,9 +161,12 @@ grouped d place p s = do
   x ← ownerIn t
   ok (closing (p .op) shutGroup (withGroup s x))
 
--- 34
+-- 34, then 36 (document 02, Item 8)
 abbrev pub modeIn : List ℕ → Checked Refusal ℕ
-modeIn t = elim (okMode t) [ true ↦ ok (modeNumber t) | false ↦ refused mode-bad ]
+modeIn t = do
+  require (okMode t) mode-bad
+  require (not (othersWrite (modeNumber t))) mode-shared
+  ok (modeNumber t)
 
 unfoldable pub moded : Device → ℕ → Pair → State → Checked Refusal State
 moded d place p s = do

@@ -8,7 +8,7 @@ use Rattle.lists.specs.Sizes.{mostLinks, mostTags}
 use Rattle.entries.specs.Entry.{Property}
 use Rattle.outcome.specs.Content.{okLink, okOwner}
 use Rattle.outcome.specs.Head.{Closed}
-use Rattle.outcome.specs.State.{Run, State, okTag, Entries, Properties, Runs, Good}
+use Rattle.outcome.specs.State.{Run, State, ModeBits, okTag, Entries, Properties, Runs, Good}
 use Rattle.outcome.specs.Change.{withClosed, withOwner, withGroup, withMode, withPriority, withLinks, withProperties, withTags, withRuns}
 
 module _ (n : ℕ) (s : State) (g : Good n s) where
@@ -51,7 +51,7 @@ module _ (n : ℕ) (s : State) (g : Good n s) where
         runs = g .runs;
       }
 
-  pub mode-good : (m : ℕ) → m < 4096 → Good n (withMode s m)
+  pub mode-good : (m : ℕ) → ModeBits m → Good n (withMode s m)
   mode-good m h =
       record {
         owner = g .owner;

@@ -59,7 +59,7 @@ empty = 16 ∷ 0 ∷ 0 ∷ 0 ∷ 0 ∷ 0 ∷ 0 ∷ 0 ∷ 0 ∷ 0 ∷ 0 ∷ []
 state : List ℕ → List ℕ → List (List ℕ) → List Property → List (List ℕ) → List Run → List ℕ
 unfolding encode
 state o g ls ps ts rs =
-    encode (record { closed = open-all; owner = o; group = g; mode = some 4095; priority = 4294967295; links = ls; properties = ps; tags = ts; runs = rs })
+    encode (record { closed = open-all; owner = o; group = g; mode = some 4093; priority = 4294967295; links = ls; properties = ps; tags = ts; runs = rs })
 
 -- n texts of k bytes that begin with different bytes
 texts : ℕ → ℕ → List (List ℕ)
@@ -100,6 +100,11 @@ examples =
     ∷ sound "all closed" 1 (set (set empty 0 31) 1 192)
     ∷ faulty "mode without its mark" 1 (set empty 3 1)
     ∷ sound "mode 0" 1 (set empty 2 2)
+    -- document 02, Item 8: the header's bits 23 to 34 are the mode, so 0002 is bit 33, which is 64 in the fifth byte
+    ∷ sound "mode 0775" 1 (set (set (set empty 2 2) 3 63) 4 160)
+    ∷ faulty "mode 0002" 1 (set (set empty 2 2) 4 64)
+    ∷ faulty "mode 0777" 1 (set (set (set empty 2 2) 3 63) 4 224)
+    ∷ faulty "mode 0666, closed" 1 (set (set (set (set empty 1 64) 2 2) 3 54) 4 192)
     ∷ sound "negative priority" 1 (set empty 4 16)
     -- owner and group
     ∷ sound "owner and group" 1 (state (bytes "a_b-c.D9") (bytes "-") [] [] [] [])

@@ -2,7 +2,7 @@
 -- Assumes nothing.
 use Prim.Native.Nat.{ℕ, zero, suc, _≤_, _<_}
 use mathlib.Core.Path.{_≡_, refl, sym, ap, ap₂, _∙_, subst}
-use mathlib.Core.Bool.{Bool, true, false, _&&_, _||_}
+use mathlib.Core.Bool.{Bool, true, false, _&&_, _||_, not}
 use mathlib.Core.List.{List, [], _∷_, _++_, append-assoc}
 use mathlib.Core.Option.{Option, some, none}
 use native.Mathlib.Omega.{arith}
@@ -21,8 +21,8 @@ use Rattle.entries.specs.Entry.{exactly}
 use Rattle.entries.proofs.Rows.{Laws, through}
 use Rattle.entries.proofs.Heads.{numberOf, head-read, head-back}
 use Rattle.entries.proofs.Entries.{kept, keep-there, exactly-back, head-there}
-use Rattle.outcome.specs.Content.{okOwner}
-use Rattle.outcome.specs.State.{Run, modeSet, modeBits, modeOf, okModeBits, okRun, runFields, encRun, runAt, runOn, oneRun, oneOwner}
+use Rattle.outcome.specs.Content.{okOwner, othersWrite}
+use Rattle.outcome.specs.State.{Run, modeSet, modeBits, modeOf, okModeBits, okRun, runFields, encRun, runAt, runOn, oneRun, oneOwner, ModeBits}
 
 -- ---- mode
 
@@ -42,7 +42,7 @@ mode-bits a b h = go (eqb a 1) refl h
     go true e h = rw e
     go false e h = rw e (sym (eqb-true b 0 h))
 
-pub mode-okay : (a b : ℕ) → b < 4096 → okModeBits (modeOf a b)
+pub mode-okay : (a b : ℕ) → ModeBits b → okModeBits (modeOf a b)
 mode-okay a b h = go (eqb a 1) refl
   where
     go : (t : Bool) → eqb a 1 ≡ t → okModeBits (modeOf a b)
@@ -51,7 +51,12 @@ mode-okay a b h = go (eqb a 1) refl
 
 pub mode-small : (m : Option ℕ) → okModeBits m → modeBits m < 4096
 mode-small none h = omega arith
-mode-small (some m) h = h
+mode-small (some m) h = h .small
+
+-- Item 8
+pub mode-kept : (m : Option ℕ) → okModeBits m → not (othersWrite (modeBits m)) ≡ true
+mode-kept none h = refl
+mode-kept (some m) h = h .kept
 
 pub set-small : (m : Option ℕ) → modeSet m < 2
 set-small none = omega arith

@@ -2,7 +2,7 @@
 -- Assumes nothing.
 use Prim.Native.Nat.{ℕ, _≤_}
 use mathlib.Core.Path.{_≡_, refl, sym, ap, ap₂, _∙_, subst, subst₂}
-use mathlib.Core.Bool.{Bool, true, false, _||_}
+use mathlib.Core.Bool.{Bool, true, false, _||_, not}
 use mathlib.Core.List.{List, [], _∷_, _++_, append-assoc, append-nil}
 use mathlib.Core.Option.{some, none}
 use native.Mathlib.Omega.{arith}
@@ -20,8 +20,8 @@ use Rattle.entries.proofs.Rows.{through, many-there, many-back}
 use Rattle.entries.proofs.Entries.{kept, exactly-back, text-laws, prop-laws}
 use Rattle.outcome.specs.Head.{Head, header, headOf}
 use Rattle.outcome.proofs.Head.{Fit, header-first, head-there, head-back, head-fits}
-use Rattle.outcome.specs.Content.{okLink, okOwner, ownerByte}
-use Rattle.outcome.proofs.Parts.{mode-there, mode-set, mode-bits, mode-okay, mode-small, set-small, set-or, owner-there, owner-back, run-laws}
+use Rattle.outcome.specs.Content.{okLink, okOwner, ownerByte, othersWrite}
+use Rattle.outcome.proofs.Parts.{mode-there, mode-set, mode-bits, mode-okay, mode-small, mode-kept, set-small, set-or, owner-there, owner-back, run-laws}
 use Rattle.outcome.specs.State.{Run, State, modeSet, okModeBits, okRun, encRun, oneRun, okTag, headFor, encode, okHead, apart, Good, readHead, stateOf, oneOwner, parts, ended, decode}
 
 -- ---- what a good state's header is
@@ -51,6 +51,7 @@ module _ (n : ℕ) where
   good-head s g =
       rw (
         set-or (s .mode),
+        mode-kept (s .mode) (g .mode),
         le-leb (length (s .links)) 16 (g .links .few),
         le-leb (length (s .properties)) 32 (g .properties .few),
         le-leb (length (s .tags)) 16 (g .tags .few),
@@ -158,6 +159,12 @@ same-head h o g ls ps ts rs f k lo lg ll lp lt lr =
       runs = lr j;
     }
 
+head-kept : (h : Head) → okHead h ≡ true → not (othersWrite (h .mode)) ≡ true
+head-kept h k =
+    let a = and-both (eqb (h .edition) 1) _ k in
+    let b = and-both (eqb (h .modeSet) 1 || eqb (h .mode) 0) _ (a .1) in
+    and-both (not (othersWrite (h .mode))) _ (b .1) .0
+
 module _ (n : ℕ) where
   parts-back : (bs : List ℕ) (s : State) (z : List ℕ) → Bytes bs → parts n bs ≡ got s z → Read n bs s z
   parts-back bs s z b e =
@@ -187,6 +194,7 @@ module _ (n : ℕ) where
       let (q₅, k₅, n₅) = many-back (run-laws n) (h .runs) r₅ rs r₆ b₅ p₆ in
       let v : State = stateOf h o g ls ps ts rs in
       let fh : Fit h = subst Fit hh (head-fits head) in
+      let kh = head-kept h (ap okHead (sym hh) ∙ t) in
       let f : headFor v ≡ h = same-head h o g ls ps ts rs fh (ap okHead (sym hh) ∙ t) n₀ n₁ n₂ n₃ n₄ n₅ in
       let fv : Fit (headFor v) = subst Fit (sym f) fh in
       let from : r₀ ≡ fromOwner v r₆ =
@@ -210,7 +218,7 @@ module _ (n : ℕ) where
         head = ap okHead (f ∙ sym hh) ∙ t;
         owner = o₀;
         group = o₁;
-        mode = mode-okay (h .modeSet) (h .mode) (fh .mode);
+        mode = mode-okay (h .modeSet) (h .mode) (record { small = fh .mode; kept = kh });
         links = k₂;
         properties = k₃;
         tags = k₄;
@@ -239,7 +247,8 @@ good-of : (n : ℕ) (bs : List ℕ) (s : State) (z : List ℕ) → Read n bs s z
 good-of n bs s z r t =
     let h = headFor s in
     let d = and-both (eqb (h .modeSet) 1 || eqb (h .mode) 0) _ (r .head) in
-    let e = and-both (leb (h .links) 16) _ (d .1) in
+    let k = and-both (not (othersWrite (h .mode))) _ (d .1) in
+    let e = and-both (leb (h .links) 16) _ (k .1) in
     let f = and-both (leb (h .properties) 32) _ (e .1) in
     let i = and-both (leb (h .tags) 16) (leb (h .runs) 16) (f .1) in
     let u = and-both (distinct (s .links)) _ t in
@@ -265,3 +274,7 @@ back n bs s b e =
 -- a record is of one state
 pub only : (n : ℕ) (s t : State) → Good n s → Good n t → encode s ≡ encode t → s ≡ t
 only n s t g h e = let p : some s ≡ some t = sym (there n s g) ∙ ap (decode n) e ∙ there n t h in cc
+
+-- document 02, Item 8: no accepted record has a mode that lets others write
+pub not-shared : (n : ℕ) (bs : List ℕ) (s : State) (m : ℕ) → Bytes bs → decode n bs ≡ some s → s .mode ≡ some m → not (othersWrite m) ≡ true
+not-shared n bs s m b e q = let k : okModeBits (some m) = subst okModeBits q (back n bs s b e .1 .mode) in k .kept

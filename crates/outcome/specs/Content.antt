@@ -1,6 +1,6 @@
 -- Document 01, Sizes and Numbers given back (31, 33, 34): what a link, an owner, a group and a mode may be.
 -- Assumes nothing.
-use Prim.Native.Nat.{ℕ, zero, suc, _+_, _-_, _*_}
+use Prim.Native.Nat.{ℕ, zero, suc, _+_, _-_, _*_, _/_, _%_}
 use mathlib.Core.Bool.{Bool, true, false, _&&_, _||_, not}
 use mathlib.Core.List.{List, [], _∷_}
 use mathlib.Core.Option.{Option, none, some}
@@ -45,3 +45,7 @@ okMode x = leb 1 (length x) && (leb (length x) mostMode && octal x)
 
 abbrev pub modeNumber : List ℕ → ℕ
 modeNumber x = octalFrom 0 x
+
+-- document 02, Item 8: a mode with the bit 0002 lets others write
+abbrev pub othersWrite : ℕ → Bool
+othersWrite m = eqb (m / 2 % 2) 1

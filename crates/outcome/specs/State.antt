@@ -17,7 +17,7 @@ use Rattle.device.specs.Device.{Device}
 use Rattle.lists.specs.Sizes.{mostChain, mostLinks, mostProperties, mostTags, mostTag, mostRuns, mostValue}
 use Rattle.template.specs.Template.{wellFormed}
 use Rattle.outcome.specs.Head.{Closed, Head, header, headOf}
-use Rattle.outcome.specs.Content.{okLink, okOwner}
+use Rattle.outcome.specs.Content.{okLink, okOwner, othersWrite}
 
 -- a program to run later: its type, the place of the matched device (0 is none), its template
 pub record Run : Type 0 where
@@ -106,12 +106,13 @@ body s =
 unfoldable pub encode : State → List ℕ
 encode s = header (headFor s) ++ body s
 
--- what the header must say: edition 1, no mode without its mark, no more than there may be of each
+-- what the header must say: edition 1, no mode without its mark, none that lets others write (Item 8), no more than there may be of each
 abbrev pub okHead : Head → Bool
 okHead h =
     eqb (h .edition) 1
     && ((eqb (h .modeSet) 1 || eqb (h .mode) 0)
-    && (leb (h .links) mostLinks && (leb (h .properties) mostProperties && (leb (h .tags) mostTags && leb (h .runs) mostRuns))))
+    && (not (othersWrite (h .mode))
+    && (leb (h .links) mostLinks && (leb (h .properties) mostProperties && (leb (h .tags) mostTags && leb (h .runs) mostRuns)))))
 
 abbrev pub okTag : List ℕ → Bool
 okTag x = okText mostTag x
@@ -120,9 +121,14 @@ okTag x = okText mostTag x
 abbrev pub apart : State → Bool
 apart s = distinct (s .links) && (distinct (keys (s .properties)) && distinct (s .tags))
 
+-- a mode of 12 bits that does not let others write (Item 8)
+pub record ModeBits (m : ℕ) : Type 0 where
+  pub small : m < 4096
+  pub kept : not (othersWrite m) ≡ true
+
 abbrev pub okModeBits : Option ℕ → Type 0
 okModeBits none = Unit {0}
-okModeBits (some m) = m < 4096
+okModeBits (some m) = ModeBits m
 
 -- links or tags that may stand in a record: not too many, each sound, none twice
 pub record Entries (most : ℕ) (ok : List ℕ → Bool) (xs : List (List ℕ)) : Type 0 where
