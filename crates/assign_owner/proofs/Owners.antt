@@ -9,14 +9,16 @@ use lib.Dec.{leb}
 use lib.ListN.{length}
 use borrow.Author.Tests.{le-leb, lt-leb}
 use Rattle.lists.specs.Lists.{pick}
-use Rattle.lists.specs.Checked.{Checked, refused, ok, _>>=_}
+use Rattle.lists.specs.Checked.{Checked, refused, ok, _>>=_, _>>_, require}
 use Rattle.lists.specs.Refusal as refusal
 use Rattle.lists.proofs.Tests.{and-false}
 use Rattle.rules.specs.Key.{Op}
 use Rattle.rules.specs.Pair.{Pair}
-use Rattle.refusals.specs.declared.Refusal.the-variants.{OwnerBad, ModeBad}
+use Rattle.refusals.specs.Refusals.{refusalOf}
+use Rattle.refusals.specs.declared.Refusal.{Refusal}
+use Rattle.refusals.specs.declared.Refusal.the-variants.{OwnerBad}
 use Rattle.device.specs.Device.{Device}
-use Rattle.outcome.specs.Content.{okOwner, okMode, modeNumber}
+use Rattle.outcome.specs.Content.{okOwner, okMode, modeNumber, othersWrite}
 use Rattle.outcome.specs.State.{State}
 use Rattle.outcome.specs.Change.{withMode}
 use Rattle.outcome_target.specs.Held.{Changed}
@@ -77,26 +79,37 @@ module _ (set : State → List ℕ → State) (o : Op) (key : Closable) (x l : L
 
 -- ---- mode
 
-mode-at : (x : List ℕ) (b : Bool) → okMode x ≡ b → (modeOf x ≡ pick b (mode.Mode (modeNumber x)) mode.Faulty) × (modeIn x ≡ elim b [ true ↦ ok (modeNumber x) | false ↦ refused refusal.mode-bad ])
+-- what is asked of a mode once it is read
+abbrev pub kept : ℕ → Checked refusal.Refusal ℕ
+kept m = require (not (othersWrite m)) refusal.mode-shared >> ok m
+
+mode-at : (x : List ℕ) (b : Bool) → okMode x ≡ b → (modeOf x ≡ pick b (mode.Mode (modeNumber x)) mode.Faulty) × (modeIn x ≡ pick b (kept (modeNumber x)) (refused refusal.mode-bad))
 unfolding modeOf
-mode-at x b e = (rw e, rw (e, modeIn))
+mode-at x true e = (rw e, rw (e, modeIn))
+mode-at x false e = (rw e, rw (e, modeIn))
 
 mode-number : (m n : ℕ) → mode.Mode m ≡ mode.Mode n → m ≡ n
 mode-number m n e = cc
 
 module _ (x : List ℕ) (r : ModeRead) (e : r ≡ modeOf x) where
-  pub mode-read : (m : ℕ) → r ≡ mode.Mode m → modeIn x ≡ ok m
+  mode-read : (m : ℕ) → r ≡ mode.Mode m → modeIn x ≡ kept m
   mode-read m q = go (okMode x) refl
     where
-      go : (b : Bool) → okMode x ≡ b → modeIn x ≡ ok m
+      go : (b : Bool) → okMode x ≡ b → modeIn x ≡ kept m
       go true h =
           let (p, w) = mode-at x true h in
           let z : mode.Mode (modeNumber x) ≡ mode.Mode m = sym p ∙ sym e ∙ q in
-          w ∙ ap ok (mode-number (modeNumber x) m z)
+          w ∙ ap kept (mode-number (modeNumber x) m z)
       go false h =
           let (p, w) = mode-at x false h in
           let z : mode.Faulty ≡ mode.Mode m = sym p ∙ sym e ∙ q in
           let u : _≡_ {A = ℕ} 0 1 = cc in absurd (omega arith)
+
+  pub mode-sound : (m : ℕ) → r ≡ mode.Mode m → othersWrite m ≡ false → modeIn x ≡ ok m
+  mode-sound m q h = mode-read m q ∙ rw (h, kept)
+
+  pub mode-shared : (m : ℕ) → r ≡ mode.Mode m → othersWrite m ≡ true → modeIn x ≡ refused refusal.mode-shared
+  mode-shared m q h = mode-read m q ∙ rw (h, kept)
 
   pub mode-faulty : r ≡ mode.Faulty → modeIn x ≡ refused refusal.mode-bad
   mode-faulty q = go (okMode x) refl
@@ -113,8 +126,8 @@ module _ (o : Op) (x l : List ℕ) (lay : Layout) where
       → Changes (ownerSet Mode o x) l lay l₂ (change.Left lay)
   mode-done m e l₁ c l₂ w = λ n s k. (closing o (shut closable.Mode) (withMode s m), rw e, w n lay (withMode s m) (c n lay s k))
 
-  pub mode-refused : modeIn x ≡ refused refusal.mode-bad → Changes (ownerSet Mode o x) l lay l (change.Refused ModeBad)
-  mode-refused e = λ n s k. rw e
+  pub mode-refused : (f : Refusal) → modeIn x ≡ refused (refusalOf f) → Changes (ownerSet Mode o x) l lay l (change.Refused f)
+  mode-refused f e = λ n s k. rw e
 
 -- ---- the whole
 

@@ -1,4 +1,4 @@
-// OWNER, GROUP and MODE: the substituted text judged (33, 34) and set.
+// OWNER, GROUP and MODE: the substituted text judged (33, 34, 36) and set.
 ghost use mathlib.Core.Path.{_≡_};
 ghost use mathlib.Core.Bool.{true};
 ghost use Prim.Native.Nat.{ℕ, _≤_};
@@ -62,6 +62,9 @@ fn set_mode(t: &mut [u8], layout: Layout, operator: Operator, x: &[u8]) -> Chang
 {
     match content::mode_of(x) {
         ModeRead::Mode(mode) => {
+            if content::others_write(mode) {
+                return Change::Refused(Refusal::ModeShared);
+            }
             outcome_fields::set_mode(t, mode);
             finish(t, Closable::Mode, operator);
             Change::Left(layout)

@@ -1,8 +1,8 @@
-// What a link, an owner, a group and a mode may be: check 31, and the tests of 33 and 34.
+// What a link, an owner, a group and a mode may be: check 31, and the tests of 33, 34 and 36.
 
 ghost use mathlib.Core.Path.{_≡_};
 ghost use Prim.Native.Nat.{_<_};
-ghost use Rattle.outcome.specs.Content.{okPart, okName, okLink, ownerByte, okOwner};
+ghost use Rattle.outcome.specs.Content.{okPart, okName, okLink, ownerByte, okOwner, othersWrite};
 ghost use Rattle.content.specs.Mode.{modeOf, Small};
 
 // ---- links
@@ -128,4 +128,11 @@ pub fn mode_of(x: &[u8]) -> ModeRead
         i += 1;
     }
     ModeRead::Mode(mode)
+}
+
+// Whether a mode has the bit 0002.
+pub fn others_write(mode: usize) -> bool
+    ensures { λ r. ⌜ r ≡ othersWrite mode ⌝ }
+{
+    mode / 2 % 2 == 1
 }

@@ -2,10 +2,11 @@
 -- Assumes nothing.
 use Prim.Native.Nat.{ℕ, _<_}
 use mathlib.Core.Path.{_≡_}
-use mathlib.Core.Bool.{Bool, _&&_, _||_}
+use mathlib.Core.Bool.{Bool, _&&_, _||_, not}
 use mathlib.Core.List.{List}
 use lib.Dec.{leb, eqb}
 use Rattle.bits.specs.Bits.{numberAt}
+use Rattle.outcome.specs.Content.{othersWrite}
 use Rattle.outcome_check.specs.declared.Counts.{Counts}
 
 pub record Counted (head : List ℕ) (c : Counts) : Type 0 where
@@ -24,4 +25,5 @@ abbrev pub okCounts : Counts → Bool
 okCounts c =
     eqb (c .edition) 1
     && ((eqb (c .«mode_set») 1 || eqb (c .mode) 0)
-    && (leb (c .links) 16 && (leb (c .properties) 32 && (leb (c .tags) 16 && leb (c .runs) 16))))
+    && (not (othersWrite (c .mode))
+    && (leb (c .links) 16 && (leb (c .properties) 32 && (leb (c .tags) 16 && leb (c .runs) 16)))))

@@ -71,7 +71,7 @@ fn ok_mode(set: usize, mode: usize) -> bool
     mode == 0
 }
 
-// Edition 1, no mode without its mark, no more than there may be of each.
+// Edition 1, no mode without its mark, none that lets others write, no more than there may be of each.
 fn ok_counts(c: Counts) -> bool
     ensures { λ r. ⌜ r ≡ okCounts c ⌝ }
 {
@@ -79,6 +79,9 @@ fn ok_counts(c: Counts) -> bool
         return false;
     }
     if !ok_mode(c.mode_set, c.mode) {
+        return false;
+    }
+    if content::others_write(c.mode) {
         return false;
     }
     if 16 < c.links {

@@ -10,7 +10,7 @@ use lib.ListN.{length}
 use Rattle.lists.specs.Bytes.{Bytes}
 use Rattle.bits.specs.Bits.{numberAt, putAt}
 use Rattle.outcome.specs.Head.{Head}
-use Rattle.outcome.specs.State.{State, headFor, body}
+use Rattle.outcome.specs.State.{State, ModeBits, headFor, body}
 use Rattle.outcome.specs.Change.{withMode, withPriority}
 use Rattle.outcome.proofs.Change.{closed-good, mode-good, priority-good}
 use Rattle.outcome_target.specs.Layout.{layoutOf}
@@ -70,7 +70,7 @@ module _ (n : ℕ) (l : List ℕ) (lay : Layout) (s : State) (w : Held n l lay s
         runs = h .runs;
       }
 
-  pub mode-put : (m : ℕ) → m < 4096 → (u v : List ℕ) → Bytes l → u ≡ putAt l 22 1 1 → Bytes u → v ≡ putAt u 23 12 m → length v ≡ length l → Held n v lay (withMode s m)
+  pub mode-put : (m : ℕ) → ModeBits m → (u v : List ℕ) → Bytes l → u ≡ putAt l 22 1 1 → Bytes u → v ≡ putAt u 23 12 m → length v ≡ length l → Held n v lay (withMode s m)
   unfolding layoutOf
   mode-put m h u v b e c f k =
       header-changed n l lay s w (withMode s m) marked 10 m u v refl refl (mode-good n s (w .good) m h) (omega arith)

@@ -6,6 +6,7 @@ ghost use mathlib.Core.Bool.{true};
 ghost use Prim.Native.Nat.{_≤_, _<_};
 ghost use lib.ListN.{length};
 ghost use Rattle.outcome.specs.Content.{okOwner};
+ghost use Rattle.outcome.specs.State.{ModeBits};
 ghost use Rattle.outcome.specs.Change.{withMode, withPriority, withOwner, withGroup};
 ghost use Rattle.outcome_target.specs.Held.{Holds, Changed};
 ghost use Rattle.outcome_fields.specs.Fields.{flagPlace, Rewritten, closedBy, Says};
@@ -51,7 +52,7 @@ pub fn close(t: &mut [u8], key: Closable)
 // ---- mode and priority
 
 pub fn set_mode(t: &mut [u8], mode: usize)
-    requires { ⌜ (11 ≤ length (now t)) × (mode < 4096) ⌝ }
+    requires { ⌜ (11 ≤ length (now t)) × ModeBits mode ⌝ }
     ensures { λ _. ⌜ Rewritten (λ s. withMode s mode) (now (t .entry)) (now (t .exit)) ⌝ }
 {
     outcome_target::put_field(t, 22, 1, 1);

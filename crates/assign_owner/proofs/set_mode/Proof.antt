@@ -1,48 +1,74 @@
 -- `assign_owner::set_mode` meets its contract.
 -- Assumes nothing.
-use Rattle.content.specs.declared.ModeRead.the-variants.{Mode}
-use Rattle.content.specs.Mode.{Small}
-use Rattle.assign_owner.proofs.Owners.{mode-read, mode-faulty, mode-done, mode-refused}
-use Rattle.keys.specs.Table.{operatorOf}
-use mathlib.Core.Path.{subst}
+use mathlib.Core.Path.{_≡_, sym, ap, subst, _∙_}
+use mathlib.Core.Bool.{false, not}
 use native.Mathlib.Omega.{arith}
 use borrow.Author.Needs.{needs}
+use Rattle.keys.specs.Table.{operatorOf}
+use Rattle.refusals.specs.declared.Refusal.the-variants.{ModeBad, ModeShared}
+use Rattle.outcome.specs.Content.{othersWrite}
+use Rattle.content.specs.declared.ModeRead.the-variants.{Mode}
+use Rattle.content.specs.Mode.{Small}
+use Rattle.assign_owner.proofs.Owners.{mode-sound, mode-shared, mode-faulty, mode-done, mode-refused}
 use Rattle.assign_owner.proofs.set_mode.Statement.{statement}
 use Rattle.assign_owner.proofs.set_mode.Tie as tie
 
-mode-of-requires : tie.Need-mode-of-requires
-mode-of-requires c κs = search needs
+returns : tie.Need-returns
+returns c =
+    let entry = c .before .before .before .before .before .before .before .before .args in
+    let mode = c .before .before .before .mode .given in
+    let mode-of = c .before .before .before .before .before .mode-of in
+    let shared = sym (c .before .others-write .ensures) ∙ c .if1 .taken in
+    mode-refused (operatorOf (entry .operator)) (entry .x .now) (entry .t .now) (entry .layout) ModeShared
+    (mode-shared (entry .x .now) (mode-of .result) (mode-of .ensures .0) (mode .0 .0) (mode .1) shared)
 
-enum-known-mode : tie.Need-enum-known-mode
-enum-known-mode c = search needs
+-- the mode is not one that lets others write
+not-shared : (w : tie.Else1) → othersWrite (w .before .before .before .mode .given .0 .0) ≡ false
+not-shared w = sym (w .before .others-write .ensures) ∙ w .if1 .left
 
 set-mode-requires : tie.Need-set-mode-requires
-set-mode-requires c κs = let (n, s, h) = c .before .before .before .before .before .before .before .pre in let w : Small (Mode (c .before .before .mode .given .0 .0)) = subst Small (c .before .before .mode .given .1) (c .before .before .before .before .mode-of .ensures .1) in (omega (arith, h .room), w)
+set-mode-requires c κs =
+    let (n, s, h) = c .before .before .before .before .before .before .before .before .before .pre in
+    let mode = c .before .before .before .before .mode .given in
+    let mode-of = c .before .before .before .before .before .before .mode-of in
+    let small : Small (Mode (mode .0 .0)) = subst Small (mode .1) (mode-of .ensures .1) in
+    (omega (arith, h .room), record { small = small; kept = ap not (not-shared (c .before)) })
 
 finish-requires : tie.Need-finish-requires
-finish-requires c κs = let (n, s, h) = c .before .before .before .before .before .before .before .before .before .before .before .pre in omega (arith, c .before .before .before .set-mode .ensures n (c .before .before .before .before .before .before .before .before .before .before .before .args .layout) s h .room)
-
-enum-told : tie.Need-enum-told
-enum-told c = search needs
-
-same-length : tie.Need-same-length
-same-length c = search needs
-
-returns : tie.Need-returns
-returns c = mode-done (operatorOf (c .before .before .before .before .before .before .before .before .before .before .before .before .before .before .args .operator)) (c .before .before .before .before .before .before .before .before .before .before .before .before .before .before .args .x .now) (c .before .before .before .before .before .before .before .before .before .before .before .before .before .before .args .t .now) (c .before .before .before .before .before .before .before .before .before .before .before .before .before .before .args .layout) (c .before .before .before .before .before .before .before .before .before .mode .given .0 .0) (mode-read (c .before .before .before .before .before .before .before .before .before .before .before .before .before .before .args .x .now) (c .before .before .before .before .before .before .before .before .before .before .before .mode-of .result) (c .before .before .before .before .before .before .before .before .before .before .before .mode-of .ensures .0) (c .before .before .before .before .before .before .before .before .before .mode .given .0 .0) (c .before .before .before .before .before .before .before .before .before .mode .given .1)) _ (c .before .before .before .before .before .before .set-mode .ensures) _ (c .before .before .finish .ensures)
+finish-requires c κs =
+    let start = c .before .before .before .before .before .before .before .before .before .before .before .before .before in
+    let (n, s, h) = start .pre in
+    omega (arith, c .before .before .before .set-mode .ensures n (start .args .layout) s h .room)
 
 returns-2 : tie.Need-returns-2
-returns-2 c = mode-refused (operatorOf (c .before .before .before .before .before .args .operator)) (c .before .before .before .before .before .args .x .now) (c .before .before .before .before .before .args .t .now) (c .before .before .before .before .before .args .layout) (mode-faulty (c .before .before .before .before .before .args .x .now) (c .before .before .mode-of .result) (c .before .before .mode-of .ensures .0) (c .enum-told .given .1))
+returns-2 c =
+    let passed = c .before .before .before .before .before .before .before .before in
+    let entry = passed .before .before .before .before .before .before .before .before .args in
+    let mode = passed .before .before .before .mode .given in
+    let mode-of = passed .before .before .before .before .before .mode-of in
+    let set-mode = c .before .before .before .before .before .before .set-mode in
+    mode-done (operatorOf (entry .operator)) (entry .x .now) (entry .t .now) (entry .layout) (mode .0 .0)
+    (mode-sound (entry .x .now) (mode-of .result) (mode-of .ensures .0) (mode .0 .0) (mode .1) (not-shared passed))
+    _ (set-mode .ensures) _ (c .before .before .finish .ensures)
+
+returns-3 : tie.Need-returns-3
+returns-3 c =
+    let entry = c .before .before .before .before .before .args in
+    let mode-of = c .before .before .mode-of in
+    mode-refused (operatorOf (entry .operator)) (entry .x .now) (entry .t .now) (entry .layout) ModeBad
+    (mode-faulty (entry .x .now) (mode-of .result) (mode-of .ensures .0) (c .enum-told .given .1))
 
 pub set-mode-spec : {M : Type 1} → statement M
 set-mode-spec =
     tie.close
     (tie.spec
-    mode-of-requires
-    enum-known-mode
+    (λ c κs. search needs)
+    (λ c. search needs)
+    (λ c κs. search needs)
+    returns
     set-mode-requires
     finish-requires
-    enum-told
-    same-length
-    returns
-    returns-2)
+    (λ c. search needs)
+    (λ c. search needs)
+    returns-2
+    returns-3)
