@@ -65,7 +65,7 @@ fn main() {
     );
     show(
         b"all settings",
-        b"OPTIONS+=\"link_priority=-2147483648\", OWNER=\"root\", GROUP=\"adm\", MODE=\"7\", SYMLINK=\"a b\", TAG+=\"t\"",
+        b"OPTIONS+=\"link_priority=-2147483648\", OWNER=\"root\", GROUP=\"adm\", MODE=\"5\", SYMLINK=\"a b\", TAG+=\"t\"",
         &DEVICE,
     );
     show(
@@ -85,6 +85,11 @@ fn main() {
     );
     show(b"a mode that is none", b"MODE=\"888\"", &DEVICE);
     show(
+        b"a mode that lets others write",
+        b"MODE=\"0664\"\x0aMODE=\"0666\"",
+        &DEVICE,
+    );
+    show(
         b"a command that is too long",
         b"RUN+=\"%p%p%p%p%p%p%p%p%p%p%p%p%p%p%p%p\"",
         &DEVICE,
@@ -92,6 +97,11 @@ fn main() {
     show_from(b"from a record", b"SYMLINK+=\"new\", ENV{K}=\"\"", &OUTCOME);
     show(b"a faulty device", b"TAG+=\"t\"", &DEVICE[..88]);
     show_from(b"a faulty record", b"TAG+=\"t\"", &OUTCOME[..24]);
+    show_from(
+        b"a record of mode 0606, closed",
+        b"TAG+=\"t\"",
+        b"\x10A\x020\xc0\x00\x00\x00\xa1\x04!u\x03old\x02\x01KV\x01g\x00\x02x",
+    );
     show(
         b"a faulty text and a faulty device",
         b"TAG+=\"t\"x",

@@ -110,6 +110,26 @@ fn heads() {
         1,
     );
     trial(
+        b"a mode of 0665",
+        b"\x10\x00\x026\xa0\x00\x00\x00\x00\x00\x00",
+        1,
+    );
+    trial(
+        b"a mode of 0662",
+        b"\x10\x00\x026@\x00\x00\x00\x00\x00\x00",
+        1,
+    );
+    trial(
+        b"a mode of 0666, closed",
+        b"\x10@\x026\xc0\x00\x00\x00\x00\x00\x00",
+        1,
+    );
+    trial(
+        b"a mode of 0667",
+        b"\x10\x00\x026\xe0\x00\x00\x00\x00\x00\x00",
+        1,
+    );
+    trial(
         b"priority -2147483648",
         b"\x10\x00\x00\x00\x10\x00\x00\x00\x00\x00\x00",
         1,
