@@ -63,7 +63,7 @@ enum spillfinch_refusal {
     SPILLFINCH_TARGET_SHORT = 1,
     SPILLFINCH_TEXT_LONG = 2,
     SPILLFINCH_DEVICE_BAD = 3,
-    SPILLFINCH_OUTCOME_BAD = 4,
+    SPILLFINCH_OUTCOME_BAD = 4,        /* an outcome record that is faulty: one whose mode lets others write is, too */
     SPILLFINCH_LINE_BAD = 10,          /* a line that is too long or holds NUL */
     SPILLFINCH_KEY_BAD = 11,           /* a key that is unknown or missing */
     SPILLFINCH_ARGUMENT_BAD = 12,      /* an argument in braces that is missing, faulty or not taken by the key */
@@ -78,7 +78,8 @@ enum spillfinch_refusal {
     SPILLFINCH_LINK_BAD = 31,          /* a link that is too long, absolute, or has an empty, `.` or `..` component */
     SPILLFINCH_LIST_FULL = 32,         /* one more link, tag, program or property than there is room for */
     SPILLFINCH_OWNER_BAD = 33,         /* an owner or a group that is faulty */
-    SPILLFINCH_MODE_BAD = 34           /* a mode that is faulty */
+    SPILLFINCH_MODE_BAD = 34,          /* a mode that is not 1 to 4 octal digits */
+    SPILLFINCH_MODE_SHARED = 36        /* a mode that lets others write: it has the bit 0002 */
 };
 
 /* Reads a rules text without a device: whether it is accepted, else the number and the line of its first refusal (2, 10 to 19). */
@@ -89,7 +90,7 @@ void spillfinch_fresh(const uint8_t *device, size_t device_length, uint8_t *targ
                       uint32_t answer[SPILLFINCH_ANSWER_LENGTH]);
 
 /* Runs a rules text for a device: starts from an outcome record and writes the one that the rules leave. Refusals: 1, 2, 10 to 19, 3, 4, and
- * 30 to 34 with the line of the rule that was running. */
+ * 30 to 34 and 36 with the line of the rule that was running. */
 void spillfinch_run(const uint8_t *text, size_t text_length, const uint8_t *device, size_t device_length, const uint8_t *outcome,
                     size_t outcome_length, uint8_t *target, size_t target_length, uint32_t answer[SPILLFINCH_ANSWER_LENGTH]);
 

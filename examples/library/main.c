@@ -11,8 +11,11 @@ static const uint8_t device[] = "\x10\x10\xbc\x00\x00\x00\x40"            /* one
 
 static const char rules[] = "KERNEL==\"ttyUSB[0-9]*\", SYMLINK+=\"counter%n\", RUN+=\"tally $env{ID_MODEL}\"\n";
 
+static const size_t device_length = sizeof device - 1;
+
 static uint8_t fresh[SPILLFINCH_OUTCOME_ROOM];
 static uint8_t outcome[SPILLFINCH_OUTCOME_ROOM];
+static uint8_t next[SPILLFINCH_OUTCOME_ROOM];
 static uint8_t run_list[SPILLFINCH_RUN_LIST_ROOM];
 
 static void show_answer(const char *what, const uint32_t *answer)
@@ -36,9 +39,23 @@ static void check(const char *what, const char *text)
     show_answer(what, answer);
 }
 
+/* The outcome with a mode of one octal digit: with a digit that lets others write it is no record any more. */
+static void try_mode(unsigned digit, size_t outcome_length)
+{
+    uint32_t answer[SPILLFINCH_ANSWER_LENGTH];
+    outcome[2] |= 0x02;
+    outcome[4] = (uint8_t)(digit << 5);
+
+    spillfinch_run((const uint8_t *)rules, strlen(rules), device, device_length, outcome, outcome_length, next, sizeof next, answer);
+    printf("mode %u, ", digit);
+    show_answer("run", answer);
+    spillfinch_close(device, device_length, outcome, outcome_length, run_list, sizeof run_list, answer);
+    printf("mode %u, ", digit);
+    show_answer("close", answer);
+}
+
 int main(void)
 {
-    const size_t device_length = sizeof device - 1;
     uint32_t answer[SPILLFINCH_ANSWER_LENGTH];
 
     check("check of a rule", rules);
@@ -60,6 +77,11 @@ int main(void)
 
     spillfinch_close(device, device_length - 1, outcome, outcome_length, run_list, sizeof run_list, answer);
     show_answer("close beside a device record that is cut short", answer);
+
+    try_mode(5, outcome_length);
+    try_mode(2, outcome_length);
+    try_mode(6, outcome_length);
+    try_mode(7, outcome_length);
 
     spillfinch_fresh(device, device_length, fresh, SPILLFINCH_OUTCOME_ROOM - 1, answer);
     show_answer("fresh into a target that is too short", answer);
