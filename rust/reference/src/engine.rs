@@ -4,7 +4,7 @@ use crate::content::{Assignment, Feature, Match, StringEscape, Subject};
 use crate::device::{ChainDevice, Device, Place, EVENT_DEVICE, NO_PLACE};
 use crate::key::Operator;
 use crate::link::{cleaned, is_sound_link, split_names};
-use crate::outcome::{is_sound_owner_or_group, Outcome, Run};
+use crate::outcome::{is_sound_owner_or_group, lets_others_write, Outcome, Run};
 use crate::pattern::Pattern;
 use crate::property::{value_of, Property};
 use crate::refusal::{Fault, Refusal};
@@ -174,8 +174,7 @@ impl Assigner<'_> {
                 Ok(())
             }
             Assignment::Mode(template) => {
-                let digits = self.substitute(template, Inserted::AsItIs)?;
-                self.outcome.mode = Some(read_mode(&digits).ok_or(Fault::Mode)?);
+                self.outcome.mode = Some(self.mode(template)?);
                 self.outcome.closed.mode |= operator.closes();
                 Ok(())
             }
@@ -272,6 +271,15 @@ impl Assigner<'_> {
         }
         self.outcome.closed.runs |= operator.closes();
         Ok(())
+    }
+
+    fn mode(&self, template: &Template) -> Result<u32, Fault> {
+        let digits = self.substitute(template, Inserted::AsItIs)?;
+        let mode = read_mode(&digits).ok_or(Fault::Mode)?;
+        if lets_others_write(mode) {
+            return Err(Fault::WorldWritable);
+        }
+        Ok(mode)
     }
 
     fn owner_or_group(&self, template: &Template) -> Result<Vec<u8>, Fault> {

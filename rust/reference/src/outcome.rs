@@ -98,6 +98,7 @@ impl Outcome {
             .into_iter()
             .flatten()
             .all(|name| is_sound_owner_or_group(name))
+            && !self.mode.is_some_and(lets_others_write)
             && self.links.len() <= sizes::LINKS
             && self.links.iter().all(|link| is_sound_link(link))
             && all_distinct(self.links.iter().map(Vec::as_slice))
@@ -242,6 +243,11 @@ pub fn is_sound_owner_or_group(name: &[u8]) -> bool {
         && name
             .iter()
             .all(|&byte| byte.is_ascii_alphanumeric() || b"_-.".contains(&byte))
+}
+
+/// Refusal 36 is given for such a mode.
+pub fn lets_others_write(mode: u32) -> bool {
+    mode & 0o002 != 0
 }
 
 pub fn is_sound_tag(tag: &[u8]) -> bool {

@@ -23,10 +23,11 @@ pub enum Fault {
     Full = 32,
     OwnerOrGroup = 33,
     Mode = 34,
+    WorldWritable = 36,
 }
 
 impl Fault {
-    pub const ALL: [Fault; 19] = [
+    pub const ALL: [Fault; 20] = [
         Fault::Target,
         Fault::Text,
         Fault::DeviceRecord,
@@ -46,6 +47,7 @@ impl Fault {
         Fault::Full,
         Fault::OwnerOrGroup,
         Fault::Mode,
+        Fault::WorldWritable,
     ];
 
     pub fn number(self) -> u32 {

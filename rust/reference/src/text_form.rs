@@ -6,7 +6,9 @@ use crate::bytes::is_blank;
 use crate::device::{is_parent_path, is_sound_path, Action, ChainDevice, Device, Node};
 use crate::engine::read_mode;
 use crate::link::is_sound_link;
-use crate::outcome::{is_sound_owner_or_group, is_sound_tag, Closed, Outcome, Run, RunType};
+use crate::outcome::{
+    is_sound_owner_or_group, is_sound_tag, lets_others_write, Closed, Outcome, Run, RunType,
+};
 use crate::property::{value_of, Property};
 use crate::run_list::{RunEntry, RunList};
 use crate::sizes;
@@ -215,6 +217,9 @@ fn take_outcome_line(
         "group" => set_once(&mut outcome.group, word, parse_owner_or_group(word, rest)?),
         "mode" => {
             let mode = read_mode(rest).ok_or("a mode has 1 to 4 octal digits")?;
+            if lets_others_write(mode) {
+                return Err(String::from("a mode gives others no write permission"));
+            }
             set_once(&mut outcome.mode, word, mode)
         }
         "priority" => {

@@ -157,13 +157,13 @@ fn listing_of_a_refusal() {
 fn listing_of_everything() {
     let mut device = tty_usb0();
     device.properties = vec![property("A", "1"), Property::new(b"B", b"\x1f ~\x7f\\\xc3")];
-    let text = "OPTIONS=\"link_priority=-5\", OWNER=\"root\", GROUP=\"disk\", MODE=\"7\"\n\
+    let text = "OPTIONS=\"link_priority=-5\", OWNER=\"root\", GROUP=\"disk\", MODE=\"5\"\n\
                 SYMLINK=\"b a\", TAG=\"t u\", RUN=\"x %k\", RUN{builtin}+=\"$env{B}\"\n\
                 KERNEL==\"no\", TAG+=\"v\"\n";
     let listing = reference::listing(text.as_bytes(), &device.encode(), None);
     let expected = "visited 3\n\
                     priority -5\n\
-                    mode 0007\n\
+                    mode 0005\n\
                     owner root\n\
                     group disk\n\
                     link b\n\

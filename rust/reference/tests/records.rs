@@ -194,7 +194,7 @@ fn fullest_records() {
         closed: Closed::default(),
         owner: Some(vec![b'o'; 32]),
         group: Some(vec![b'g'; 32]),
-        mode: Some(0o7777),
+        mode: Some(0o7775),
         priority: i32::MIN,
         links: (0..16).map(|i| long(i, 128).into_bytes()).collect(),
         properties: (0..32)
@@ -277,8 +277,9 @@ fn each_bit_of_the_lengths_of_a_device_flipped() {
 
 #[test]
 fn each_bit_of_the_outcome_header_flipped() {
-    // Closed flags and priority may have any value, and so may a mode that is set.
-    let may_differ = |bit| matches!(bit, 4..=9 | 23..=66);
+    // Closed flags and priority may have any value, and so may a mode that is set, but for the
+    // bit by which others write.
+    let may_differ = |bit| matches!(bit, 4..=9 | 23..=32 | 34..=66);
     for bit in 0..88 {
         let expected = if may_differ(bit) { 0 } else { 4 };
         let record = with_bit_flipped(OUTCOME, bit);

@@ -601,8 +601,8 @@ fn refusal_34_mode() {
     }
     let mode = |text: &str| outcome_of(text, &device).mode;
     assert_eq!(mode("MODE=\"0\""), Some(0));
-    assert_eq!(mode("MODE=\"7777\""), Some(4_095));
-    assert_eq!(mode("MODE=\"%n\""), Some(3));
+    assert_eq!(mode("MODE=\"7775\""), Some(4_093));
+    assert_eq!(mode("MODE=\"%n0\""), Some(24));
 }
 
 #[test]

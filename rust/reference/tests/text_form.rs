@@ -172,7 +172,11 @@ fn errors_of_outcomes() {
         ("owner a b", "line 1: `owner` takes 1 to 32 letters"),
         ("group", "line 1: `group` takes 1 to 32 letters"),
         ("mode 888", "line 1: a mode has 1 to 4 octal digits"),
-        ("mode 7\nmode 7", "line 2: a second `mode`"),
+        ("mode 5\nmode 5", "line 2: a second `mode`"),
+        (
+            "mode 0666",
+            "line 1: a mode gives others no write permission",
+        ),
         (
             "priority 2147483648",
             "line 1: `2147483648` is no number from -2147483648 to",

@@ -373,7 +373,7 @@ pub fn fullest() -> Outcome {
         closed: Closed::default(),
         owner: Some(vec![b'o'; 32]),
         group: Some(vec![b'g'; 32]),
-        mode: Some(0o7777),
+        mode: Some(0o7775),
         priority: -1,
         links: long_names(16, 128),
         properties: long_names(32, 64)

@@ -208,12 +208,30 @@ pub const RUN_EDGES: &[Edge] = &[
         of_line(owner_line("GROUP", 33), rng)
     }),
     edge("empty owner", 33, |rng| of_line(b"OWNER=\"\"", rng)),
-    edge("mode of 4 digits", 0, |rng| of_line(b"MODE=\"7777\"", rng)),
+    edge("mode of 4 digits", 0, |rng| of_line(b"MODE=\"7775\"", rng)),
     edge("mode of 5 digits", 34, |rng| {
         of_line(b"MODE=\"00660\"", rng)
     }),
     edge("mode of an 8", 34, |rng| of_line(b"MODE=\"888\"", rng)),
     edge("empty mode", 34, |rng| of_line(b"MODE=\"\"", rng)),
+    edge("world-writable mode", 36, |rng| {
+        let mode = rng.pick(&["2", "03", "0666", "7777"]);
+        of_line(format!("MODE=\"{mode}\", SYMLINK=\"/\""), rng)
+    }),
+    edge("world-writable mode after another refusal", 31, |rng| {
+        of_line(b"SYMLINK=\"/\", MODE=\"0666\"", rng)
+    }),
+    edge("world-writable mode of 5 digits", 34, |rng| {
+        of_line(b"MODE=\"00002\"", rng)
+    }),
+    edge("world-writable mode of a closed key", 0, |rng| {
+        of_full_and_closed("MODE=\"0666\"", rng)
+    }),
+    edge(
+        "world-writable mode in a rule that does not match",
+        0,
+        |rng| of_line(b"MODE=\"0666\", KERNEL==\"nothing\"", rng),
+    ),
     edge("absent attribute equals nothing", 0, |rng| {
         of_line(b"ATTR{none}==\"*\", MODE=\"8\"", rng)
     }),
@@ -449,6 +467,15 @@ pub const OUTCOME_EDGES: &[Edge] = &[
             |record| {
                 record[2] &= 0xfd;
                 record[4] |= 0x40;
+            },
+            rng,
+        )
+    }),
+    edge("world-writable mode of an outcome", 4, |rng| {
+        of_outcome(
+            |outcome, _| {
+                outcome.mode = Some(0o666);
+                outcome.closed.mode = true;
             },
             rng,
         )

@@ -4,6 +4,7 @@ use super::patterns;
 use super::rng::Rng;
 use super::vocabulary::{
     ATTRIBUTE_NAMES, LINKS, LINK_PARTS, MODES, OWNERS, PROPERTY_KEYS, TAGS, VALUES,
+    WORLD_WRITABLE_MODES,
 };
 use super::world::World;
 use crate::bytes::without_trailing_whitespace;
@@ -272,7 +273,8 @@ fn owner_pair(rng: &mut Rng, key: &[u8], world: &World) -> Vec<u8> {
 fn mode_pair(rng: &mut Rng, world: &World) -> Vec<u8> {
     let operator = final_or_not(rng);
     let value = match rng.below(100) {
-        0..=87 => rng.pick(MODES).to_vec(),
+        0..=77 => rng.pick(MODES).to_vec(),
+        78..=87 => rng.pick(WORLD_WRITABLE_MODES).to_vec(),
         88..=93 => b"0%n".to_vec(),
         94..=96 => template(rng, &world.device, &world.outcome, &[b"0", b"6"]),
         _ => rng

@@ -136,7 +136,9 @@ pub const TAGS: &[&[u8]] = &[
 
 pub const OWNERS: &[&[u8]] = &[b"root", b"dialout", b"disk", b"u-1_x.y", b"0"];
 
-pub const MODES: &[&[u8]] = &[b"0660", b"660", b"0", b"7777", b"0600", b"44"];
+pub const MODES: &[&[u8]] = &[b"0660", b"660", b"0", b"7775", b"0600", b"44"];
+
+pub const WORLD_WRITABLE_MODES: &[&[u8]] = &[b"0666", b"2", b"003", b"7777"];
 
 pub const LABELS: &[&[u8]] = &[b"end", b"skip", b"next", b"a b", b"*"];
 

@@ -157,7 +157,7 @@ fn used_outcome(rng: &mut Rng, device: &Device, limit: usize) -> Outcome {
         closed: closed(rng),
         owner: rng.percent(30).then(|| rng.pick(OWNERS).to_vec()),
         group: rng.percent(30).then(|| rng.pick(OWNERS).to_vec()),
-        mode: rng.percent(30).then(|| rng.pick(&[0, 0o660, 0o7777])),
+        mode: rng.percent(30).then(|| rng.pick(&[0, 0o660, 0o7775])),
         priority: rng.pick(&[0, 0, 5, -1, i32::MIN, i32::MAX]),
         links: distinct(rng, LINKS, limit),
         properties: if rng.percent(70) {
