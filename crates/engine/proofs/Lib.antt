@@ -2,6 +2,7 @@ pub mod Clean
 pub mod Keeps
 pub mod Laws
 pub mod Absent
+pub mod Tried
 pub mod Sizes
 pub mod Cases
 pub mod Marked

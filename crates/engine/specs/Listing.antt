@@ -60,17 +60,18 @@ abbrev pub commandLine : Command → List ℕ
 unfolding bytes
 commandLine c = lineOf (pick (c .builtin) (bytes "builtin") (bytes "program")) (escaped (c .text))
 
--- the listing of what a run left and its close made
-unfoldable pub listingOf : ℕ → State → List Command → List ℕ
+-- the listing of what a run left and its close made; document 02, Item 9: `tried` behind `visited`
+unfoldable pub listingOf : ℕ → ℕ → State → List Command → List ℕ
 unfolding bytes
-listingOf visited s cs =
+listingOf visited tried s cs =
     lineOf (bytes "visited") (decimal visited)
+    ++ (lineOf (bytes "tried") (decimal tried)
     ++ (lineOf (bytes "priority") (signed (s .priority))
     ++ (modeLine (s .mode)
     ++ (setLine (bytes "owner") (s .owner)
     ++ (setLine (bytes "group") (s .group)
     ++ (cat (λ l. lineOf (bytes "link") (escaped l)) (s .links)
-    ++ (cat envLine (s .properties) ++ (cat (λ t. lineOf (bytes "tag") (escaped t)) (s .tags) ++ cat commandLine cs)))))))
+    ++ (cat envLine (s .properties) ++ (cat (λ t. lineOf (bytes "tag") (escaped t)) (s .tags) ++ cat commandLine cs))))))))
 
 -- ---- a run and its close
 
@@ -85,7 +86,7 @@ listed text dev out = do
   h ← runChecked engine text dev out fullestOutcome
   d ← found (D.decode dev) (line 0 device-bad)
   cs ← onLine 0 (commands d (h .state .properties) (h .state .runs))
-  ok (listingOf (h .visited) (h .state) cs)
+  ok (listingOf (h .visited) (h .tried) (h .state) cs)
 
 unfoldable pub printed : Checked (Placed Refusal) (List ℕ) → List ℕ
 unfolding bytes

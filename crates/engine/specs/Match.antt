@@ -4,6 +4,7 @@ use Prim.Native.Nat.{ℕ, zero, suc}
 use mathlib.Core.Bool.{Bool, true, false, not, _&&_, _||_}
 use mathlib.Core.List.{List, [], _∷_}
 use mathlib.Core.Option.{Option, none, some}
+use lib.ListN.{length}
 use Rattle.lists.specs.Lists.{pick, all, any}
 use Rattle.lists.specs.Runs.{trim, endsInSpace}
 use Rattle.entries.specs.Entry.{lookup, orEmpty}
@@ -153,3 +154,14 @@ placeOf d r = elim (hasParents r) [ true ↦ nearest 1 (chain d) r | false ↦ s
 -- none if the rule does not match; else the place of the matched device
 unfoldable pub matched : Device → State → Rule → Option ℕ
 matched d s r = elim (allHold d s r) [ true ↦ placeOf d r | false ↦ none ]
+
+-- ---- document 02, Item 9: the devices tried
+
+-- the place that a search found, or how many devices it went through in vain
+abbrev pub placeOr : ℕ → Option ℕ → ℕ
+placeOr n none = n
+placeOr n (some place) = place
+
+-- for a rule with parent keys whose other keys hold; nothing for any other rule
+unfoldable pub tried : Device → Rule → State → ℕ
+tried d r s = elim (allHold d s r && hasParents r) [ true ↦ placeOr (length (chain d)) (nearest 1 (chain d) r) | false ↦ 0 ]

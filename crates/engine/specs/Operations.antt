@@ -21,6 +21,7 @@ use Rattle.text.specs.Engine.{Engine}
 use Rattle.text.specs.Run as generic
 use Rattle.text.specs.Run.{Answer, refusal, acceptance}
 use Rattle.engine.specs.Substitute.{Source, filled}
+use Rattle.engine.specs.Match.{tried}
 use Rattle.engine.specs.Step.{step}
 
 -- a record beside a device
@@ -37,6 +38,7 @@ engine =
       decode = decodeFor;
       encode = O.encode;
       step = step;
+      tried = tried;
     }
 
 -- ---- the run: 1; 2 and 10 to 19; 3; 4; then 30 and up in running order
@@ -46,7 +48,7 @@ run = generic.run engine
 -- what is given back for a record made without visiting a rule
 abbrev pub given : ℕ → Checked (Placed Refusal) (List ℕ) → Answer
 given room (refused f) = refusal room f
-given room (ok made) = acceptance room 0 made
+given room (ok made) = acceptance room 0 0 made
 
 -- ---- the fresh record: 1, 3
 unfoldable pub freshChecked : List ℕ → ℕ → Checked (Placed Refusal) (List ℕ)

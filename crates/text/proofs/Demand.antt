@@ -26,7 +26,7 @@ module _ (E : Engine) (L : Laws E) where
       → (js : List Job) → Joinable (texts js) → join (texts js) ≡ t → NoCrossing (cuts 0 (texts js)) (jumps E rs)
       → (dev out : List ℕ) {d : E .Device} {s : E .State} → Bytes out → E .device dev ≡ some d → E .decode d out ≡ some s
       → All (λ (j : Job). fullestOutcome ≤ j .room) js → (room : ℕ) → fullestOutcome ≤ room
-      → given (run E t dev out room) ≡ runAll E dev 0 0 out js
+      → given (run E t dev out room) ≡ runAll E dev 0 0 0 out js
   pieces-run t rs e js j q k dev out by is at full room r =
       let p : Parts E (join (texts js)) = subst (Parts E) (sym q) (read E t rs e .parts) in
       let a = cut-accepted E L t rs e (texts js) j q .1 k in

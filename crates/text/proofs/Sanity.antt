@@ -1,7 +1,7 @@
 -- Sanity of runs: the visited count is at most the number of rules, a jump goes to the next later rule with its label, the answer has
 -- exactly the target's length, and the run of an accepted text ends with no jump open.
 -- Assumes nothing.
-use Prim.Native.Nat.{ℕ, suc, _-_, _≤_, zero-le, suc-le-suc}
+use Prim.Native.Nat.{ℕ, suc, _-_, _*_, _≤_, zero-le, suc-le-suc}
 use mathlib.Core.Path.{_≡_, refl, sym, _∙_, subst}
 use mathlib.Core.Bool.{Bool, true, false}
 use mathlib.Core.List.{List, [], _∷_}
@@ -32,24 +32,50 @@ module _ (E : Engine) where
   abbrev Few : ℕ → Halt State → Type 0
   Few n h = h .visited ≤ n
 
-  few-more : (n : ℕ) (c : Ran State) → Holds (Few n) c → Holds (Few (suc n)) (more 1 c)
-  few-more n (refused f) h = tt
-  few-more n (ok a) h = omega arith
+  few-more : (n t : ℕ) (c : Ran State) → Holds (Few n) c → Holds (Few (suc n)) (more 1 t c)
+  few-more n t (refused f) h = tt
+  few-more n t (ok a) h = omega arith
 
   module _ (d : Device) (n : ℕ) (k : Mode → State → Ran State) (few : (m : Mode) (s : State) → Holds (Few n) (k m s)) where
-    few-started : (r : Checked Refusal (Stepped State)) (l : ℕ) (g : Option (List ℕ)) → Holds (Few (suc n)) (started E r l g k)
-    few-started (refused f) l g = tt
-    few-started (ok (went s held)) l g = few-more n (k (after held g) s) (few (after held g) s)
+    few-started : (r : Checked Refusal (Stepped State)) (l t : ℕ) (g : Option (List ℕ)) → Holds (Few (suc n)) (started E r l t g k)
+    few-started (refused f) l t g = tt
+    few-started (ok (went s held)) l t g = few-more n t (k (after held g) s) (few (after held g) s)
 
     few-visit : (b : Bool) (l : ℕ) (r : Rule) (m : Mode) (s : State) → Holds (Few (suc n)) (visit E b d l r m s k)
     few-visit false l r m s = holds-map (Few n) (Few (suc n)) (k m s) (few m s) (λ h g. omega arith)
-    few-visit true l r m s = few-started (step d r s) l (goto r)
+    few-visit true l r m s = few-started (step d r s) l (E .tried d r s) (goto r)
 
   -- no more rules are visited than there are
   pub visited-few : (d : Device) (ps : List (Placed Rule)) (m : Mode) (s : State) → Holds (λ (h : Halt State). h .visited ≤ length ps) (runFrom E d m s ps)
   unfolding runFrom
   visited-few d [] m s = zero-le
   visited-few d (line n r ∷ ps) m s = few-visit d (length ps) (λ m′ s′. runFrom E d m′ s′ ps) (λ m′ s′. visited-few d ps m′ s′) (begins m (label r)) n r m s
+
+  -- ---- document 02, Item 9: the devices tried
+
+  abbrev Within : ℕ → Halt State → Type 0
+  Within size h = h .tried ≤ h .visited * size
+
+  within-more : (size t : ℕ) → t ≤ size → (c : Ran State) → Holds (Within size) c → Holds (Within size) (more 1 t c)
+  within-more size t l (refused f) h = tt
+  within-more size t l (ok a) h = omega arith
+
+  module _ (d : Device) (size : ℕ) (each : (r : Rule) (s : State) → E .tried d r s ≤ size) (k : Mode → State → Ran State) (on : (m : Mode) (s : State) → Holds (Within size) (k m s)) where
+    within-started : (c : Checked Refusal (Stepped State)) (l t : ℕ) (g : Option (List ℕ)) → t ≤ size → Holds (Within size) (started E c l t g k)
+    within-started (refused f) l t g h = tt
+    within-started (ok (went s held)) l t g h = within-more size t h (k (after held g) s) (on (after held g) s)
+
+    within-visit : (b : Bool) (l : ℕ) (r : Rule) (m : Mode) (s : State) → Holds (Within size) (visit E b d l r m s k)
+    within-visit false l r m s = on m s
+    within-visit true l r m s = within-started (step d r s) l (E .tried d r s) (goto r) (each r s)
+
+  -- no more devices are tried than so many for each rule that is visited
+  pub tried-within : (d : Device) (size : ℕ) → ((r : Rule) (s : State) → E .tried d r s ≤ size) → (ps : List (Placed Rule)) (m : Mode) (s : State)
+      → Holds (λ (h : Halt State). h .tried ≤ h .visited * size) (runFrom E d m s ps)
+  unfolding runFrom
+  tried-within d size each [] m s = zero-le
+  tried-within d size each (line n r ∷ ps) m s =
+      within-visit d size each (λ m′ s′. runFrom E d m′ s′ ps) (λ m′ s′. tried-within d size each ps m′ s′) (begins m (label r)) n r m s
 
   -- the rules from the next one with a label on
   unfoldable pub fromLabel : List ℕ → List (Placed Rule) → List (Placed Rule)

@@ -50,21 +50,21 @@ module _ (E : Engine) where
       pub ended : h .mode ≡ next
       pub good : L .Good d (h .state)
 
-    sound-more : (v : ℕ) (c : Ran State) → Holds Sound c → Holds Sound (more v c)
-    sound-more v (refused f) h = tt
-    sound-more v (ok h) s = record { ended = s .ended; good = s .good }
+    sound-more : (v t : ℕ) (c : Ran State) → Holds Sound c → Holds Sound (more v t c)
+    sound-more v t (refused f) h = tt
+    sound-more v t (ok h) s = record { ended = s .ended; good = s .good }
 
     module _ (n : ℕ) (r : Rule) (ps : List (Placed Rule)) (fl : FromLine (line n r)) (aim : Aimed E (goto r) ps)
         (k : Mode → State → Ran State) (on : (m : Mode) (s : State) → Aimed E (sought m) ps → L .Good d s → Holds Sound (k m s)) where
-      started-sound : (s : State) → L .Good d s → (c : Checked Refusal (Stepped State)) → step d r s ≡ c → Holds Sound (started E c n (goto r) k)
-      started-sound s g (refused f) e = tt
-      started-sound s g (ok (went s′ held)) e =
-          sound-more 1 (k (after held (goto r)) s′)
+      started-sound : (t : ℕ) (s : State) → L .Good d s → (c : Checked Refusal (Stepped State)) → step d r s ≡ c → Holds Sound (started E c n t (goto r) k)
+      started-sound t s g (refused f) e = tt
+      started-sound t s g (ok (went s′ held)) e =
+          sound-more 1 t (k (after held (goto r)) s′)
           (on (after held (goto r)) s′ (aimed-after held (goto r) ps aim) (L .keeps (fl .1) g e))
 
       visit-sound : (m : Mode) (s : State) → Aimed E (sought m) (line n r ∷ ps) → L .Good d s → (b : Bool) → begins m (label r) ≡ b → Holds Sound (visit E b d n r m s k)
       unfolding goesTo
-      visit-sound m s a g true e = started-sound s g (step d r s) refl
+      visit-sound m s a g true e = started-sound (E .tried d r s) s g (step d r s) refl
       visit-sound next s a g false e = absurd (true≢false e)
       visit-sound (seek l) s a g false e = on (seek l) s (a .0, rw e at (a .1)) g
 

@@ -29,7 +29,7 @@ pub record Demand3 (E : Engine) : Type 0 where
   pub join-run : (js : List Job) → Fit E (texts js)
       → (dev out : List ℕ) {d : E .Device} {s : E .State} → Bytes out → E .device dev ≡ some d → E .decode d out ≡ some s
       → All (λ (j : Job). fullestOutcome ≤ j .room) js → (room : ℕ) → fullestOutcome ≤ room
-      → given (run E (join (texts js)) dev out room) ≡ runAll E dev 0 0 out js
+      → given (run E (join (texts js)) dev out room) ≡ runAll E dev 0 0 0 out js
   -- an accepted text cut behind newlines, whatever the list of its pieces, has only accepted pieces if and only if no jump, taken or not,
   -- crosses a cut
   pub cut-accepted : (t : List ℕ) (rs : List (Placed (E .reader .Rule))) → readText (E .reader) t ≡ ok rs
@@ -39,4 +39,4 @@ pub record Demand3 (E : Engine) : Type 0 where
       → (js : List Job) → Joinable (texts js) → join (texts js) ≡ t → NoCrossing (cuts 0 (texts js)) (jumps E rs)
       → (dev out : List ℕ) {d : E .Device} {s : E .State} → Bytes out → E .device dev ≡ some d → E .decode d out ≡ some s
       → All (λ (j : Job). fullestOutcome ≤ j .room) js → (room : ℕ) → fullestOutcome ≤ room
-      → given (run E t dev out room) ≡ runAll E dev 0 0 out js
+      → given (run E t dev out room) ≡ runAll E dev 0 0 0 out js

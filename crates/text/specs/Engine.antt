@@ -37,3 +37,5 @@ pub record Engine : Type 1 where
   pub encode : State → List ℕ
   -- one rule
   pub step : Device → reader .Rule → State → Checked Refusal (Stepped State)
+  -- document 02, Item 9: the devices tried for one rule, from the state at its start
+  pub tried : Device → reader .Rule → State → ℕ

@@ -43,11 +43,12 @@ pub record Given : Type 0 where
   pub number : ℕ
   pub line : ℕ
   pub visited : ℕ
+  pub tried : ℕ
   pub used : ℕ
   pub left : List ℕ
 
 abbrev pub given : Answer → Given
-given a = record { number = a .number; line = a .line; visited = a .visited; used = a .used; left = take (a .used) (a .bytes) }
+given a = record { number = a .number; line = a .line; visited = a .visited; tried = a .tried; used = a .used; left = take (a .used) (a .bytes) }
 
 -- the line of a GOTO, and the line of the rule that it goes to
 pub record Jump : Type 0 where
@@ -93,11 +94,11 @@ module _ (E : Engine) where
   onward (suc k) others last = last
 
   -- run the texts one after another, each from the record that the one before left, to the end or to the first refusal:
-  -- v rules visited and n newlines before
-  unfoldable pub runAll : List ℕ → ℕ → ℕ → List ℕ → List Job → Given
-  runAll dev v n out [] = record { number = 0; line = 0; visited = v; used = length out; left = out }
-  runAll dev v n out (j ∷ js) =
+  -- v rules visited, w devices tried (document 02, Item 9) and n newlines before
+  unfoldable pub runAll : List ℕ → ℕ → ℕ → ℕ → List ℕ → List Job → Given
+  runAll dev v w n out [] = record { number = 0; line = 0; visited = v; tried = w; used = length out; left = out }
+  runAll dev v w n out (j ∷ js) =
       let a = run E (j .text) dev out (j .room) in
       onward (a .number)
-      (runAll dev (v + a .visited) (n + newlines (j .text)) (take (a .used) (a .bytes)) js)
-      (record { number = a .number; line = n + a .line; visited = 0; used = 0; left = [] })
+      (runAll dev (v + a .visited) (w + a .tried) (n + newlines (j .text)) (take (a .used) (a .bytes)) js)
+      (record { number = a .number; line = n + a .line; visited = 0; tried = 0; used = 0; left = [] })

@@ -23,22 +23,23 @@ rulesOf R t = rulesIn (reads R t)
 
 module _ (E : Engine) where
   open Reader (E .reader) using (Rule, label, goto)
-  open Engine E using (Device, State, step)
+  open Engine E using (Device, State, step, tried)
 
-  -- where a run stands, with v rules visited
-  abbrev pub standing : Mode → State → ℕ → Ran State
-  standing m s v = ok (record { mode = m; state = s; visited = v })
+  -- where a run stands, with v rules visited and t devices tried
+  abbrev pub standing : Mode → State → ℕ → ℕ → Ran State
+  standing m s v t = ok (record { mode = m; state = s; visited = v; tried = t })
 
-  abbrev pub stepped : Checked Refusal (Stepped State) → ℕ → Option (List ℕ) → ℕ → Ran State
-  stepped (refused f) n g v = refused (line n f)
-  stepped (ok (went s held)) n g v = standing (after held g) s (v + 1)
+  -- of a rule for which k devices were tried
+  abbrev pub stepped : Checked Refusal (Stepped State) → ℕ → ℕ → Option (List ℕ) → ℕ → ℕ → Ran State
+  stepped (refused f) n k g v t = refused (line n f)
+  stepped (ok (went s held)) n k g v t = standing (after held g) s (v + 1) (t + k)
 
-  abbrev pub lineBegins : Bool → Device → Mode → State → ℕ → ℕ → Rule → Ran State
-  lineBegins false d m s v n r = standing m s v
-  lineBegins true d m s v n r = stepped (step d r s) n (goto r) v
+  abbrev pub lineBegins : Bool → Device → Mode → State → ℕ → ℕ → ℕ → Rule → Ran State
+  lineBegins false d m s v t n r = standing m s v t
+  lineBegins true d m s v t n r = stepped (step d r s) n (tried d r s) (goto r) v t
 
-  -- one line of an accepted text: passed over, or its rule begins; v rules were visited before
-  unfoldable pub runLine : Device → Mode → State → ℕ → Placed (LineRead Rule) → Ran State
-  runLine d m s v (line n skip) = standing m s v
-  runLine d m s v (line n (fault f)) = standing m s v
-  runLine d m s v (line n (rule r)) = lineBegins (begins m (label r)) d m s v n r
+  -- one line of an accepted text: passed over, or its rule begins; v rules were visited and t devices tried before
+  unfoldable pub runLine : Device → Mode → State → ℕ → ℕ → Placed (LineRead Rule) → Ran State
+  runLine d m s v t (line n skip) = standing m s v t
+  runLine d m s v t (line n (fault f)) = standing m s v t
+  runLine d m s v t (line n (rule r)) = lineBegins (begins m (label r)) d m s v t n r

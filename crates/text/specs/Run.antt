@@ -16,24 +16,26 @@ pub record Answer : Type 0 where
   pub number : ℕ
   pub line : ℕ
   pub visited : ℕ
+  -- document 02, Item 9
+  pub tried : ℕ
   pub used : ℕ
   pub bytes : List ℕ
 
--- a refusal: its number and line, nothing visited or used, the whole target zero
+-- a refusal: its number and line, nothing visited, tried or used, the whole target zero
 abbrev pub refusal : ℕ → Placed Refusal → Answer
-refusal room (line n f) = record { number = number f; line = n; visited = 0; used = 0; bytes = replicate room 0 }
+refusal room (line n f) = record { number = number f; line = n; visited = 0; tried = 0; used = 0; bytes = replicate room 0 }
 
--- an acceptance: the count, and what was made with zeros behind it
-abbrev pub acceptance : ℕ → ℕ → List ℕ → Answer
-acceptance room visited made =
-    record { number = 0; line = 0; visited = visited; used = length made; bytes = made ++ replicate (room - length made) 0 }
+-- an acceptance: the counts, and what was made with zeros behind it
+abbrev pub acceptance : ℕ → ℕ → ℕ → List ℕ → Answer
+acceptance room visited tried made =
+    record { number = 0; line = 0; visited = visited; tried = tried; used = length made; bytes = made ++ replicate (room - length made) 0 }
 
 module _ (E : Engine) where
   open Engine E using (State, device, decode, encode)
 
   unfoldable pub answer : ℕ → Ran State → Answer
   answer room (refused f) = refusal room f
-  answer room (ok h) = acceptance room (h .visited) (encode (h .state))
+  answer room (ok h) = acceptance room (h .visited) (h .tried) (encode (h .state))
 
   -- the checks in the table's order: 1; 2 and 10 to 19; 3; 4; then 30 and up as the rules run
   unfoldable pub runChecked : List ℕ → List ℕ → List ℕ → ℕ → Ran State
