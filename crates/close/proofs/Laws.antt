@@ -65,7 +65,7 @@ module _ (dev out : List ℕ) (room : ℕ) where
 pub list-bytes : (t x t′ : List ℕ) (n k : ℕ) → t ≡ replicate n 0 → Placed x t 0 k t′ → t′ ≡ x ++ replicate (n - length x) 0
 list-bytes t x t′ n k e p = p .bytes ∙ append-padded [] x n 0 t (e ∙ clear-padded n) refl
 
-pub listed-given : (room : ℕ) (o : Checked Refusal (List Command)) (cs : List Command) → o ≡ ok cs → acceptance room 0 (runList cs) ≡ given room (listed o)
+pub listed-given : (room : ℕ) (o : Checked Refusal (List Command)) (cs : List Command) → o ≡ ok cs → acceptance room 0 0 (runList cs) ≡ given room (listed o)
 listed-given room o cs e = rw e
 
 pub refused-given : (room : ℕ) (o : Checked Refusal (List Command)) → o ≡ refused substitution-long → refusal room (line 0 substitution-long) ≡ given room (listed o)

@@ -21,7 +21,7 @@ fn list(t: &mut [u8], dev: &[u8], rec: &[u8], chain: Chain, layout: Layout) -> G
     ensures { λ r. ⌜ OfRecord (now (dev .entry)) (now (rec .entry)) chain layout (λ d s. answered r (now (t .exit)) ≡ given (length (now (t .entry))) (listed (commands d (s .properties) (s .runs)))) ⌝ }
 {
     match run_list::write(t, dev, rec, chain, layout) {
-        Put::Done(used) => answers::accepted(0, used),
+        Put::Done(used) => answers::accepted(0, 0, used),
         Put::Full => {
             splice::clear(t);
             answers::refused(Refusal::SubstitutionLong, 0)

@@ -98,6 +98,6 @@ module _ (dev : List ℕ) (room : ℕ) where
   unfolding operations.fresh operations.freshChecked
   given-faulty h k = rw (le-leb 17611 room h, is-none (device.decode dev) k)
 
-  pub given-made : 17611 ≤ room → (d : Device) → device.decode dev ≡ some d → operations.fresh dev room ≡ acceptance room 0 (encode (fresh d))
+  pub given-made : 17611 ≤ room → (d : Device) → device.decode dev ≡ some d → operations.fresh dev room ≡ acceptance room 0 0 (encode (fresh d))
   unfolding operations.fresh operations.freshChecked
   given-made h d e = rw (le-leb 17611 room h, e)

@@ -34,5 +34,5 @@ pub fn fresh(device: &[u8], target: &mut [u8]) -> Given
     if !device_check::check(device) {
         return answers::refused(Refusal::DeviceBad, 0);
     }
-    answers::accepted(0, write_record(target, device))
+    answers::accepted(0, 0, write_record(target, device))
 }

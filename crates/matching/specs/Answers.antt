@@ -1,23 +1,23 @@
 -- What the code's answers stand for in the definitions.
 -- Assumes nothing.
-use Prim.Native.Nat.{ℕ, zero, suc, _≤_}
-use mathlib.Core.Bool.{Bool, true, false}
+use Prim.Native.Nat.{ℕ, _≤_}
+use mathlib.Core.Bool.{Bool, _&&_}
 use mathlib.Core.Option.{Option, none, some}
+use lib.Dec.{eqb}
+use Rattle.lists.specs.Lists.{pick}
 use Rattle.matching.specs.declared.Matched.{Matched}
 use Rattle.matching.specs.declared.Matched.the-variants.{At, Missed}
 
 -- the place of the matched device
 abbrev pub placeIn : Matched → Option ℕ
 placeIn (At k) = some k
-placeIn Missed = none
+placeIn (Missed n) = none
 
--- in a chain of n devices
-abbrev pub Within : Matched → ℕ → Type 0
-Within (At k) n = k ≤ n
-Within Missed n = Unit {0}
+-- document 02, Item 9: the devices tried
+abbrev pub triedIn : Matched → ℕ
+triedIn (At k) = k
+triedIn (Missed n) = n
 
--- the place behind a pair: 0 before the first parent key, and from it on that of the nearest device
-abbrev pub placeNext : ℕ → Bool → Option ℕ → Option ℕ
-placeNext zero true near = near
-placeNext zero false near = some 0
-placeNext (suc k) parent near = some (suc k)
+-- the first row with a parent key among those up to the i-th, or `to`
+abbrev pub firstOf : ℕ → ℕ → Bool → ℕ → ℕ
+firstOf first to parent i = pick (parent && eqb first to) i first

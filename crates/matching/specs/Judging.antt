@@ -1,6 +1,6 @@
 -- What a rule is judged on, as the code has it, and what is answered of it.
 -- Assumes nothing.
-use Prim.Native.Nat.{ℕ, _-_}
+use Prim.Native.Nat.{ℕ, _-_, _≤_}
 use mathlib.Core.Path.{_≡_}
 use mathlib.Core.Bool.{Bool}
 use mathlib.Core.List.{List}
@@ -11,14 +11,14 @@ use Rattle.table.specs.Table.{pairsFrom}
 use Rattle.device.specs.Device.{Member, Device, chain, decode}
 use Rattle.device.specs.Places.{Lies}
 use Rattle.outcome.specs.State.{State}
-use Rattle.engine.specs.Match.{judged, someMatches, nearest, matched}
+use Rattle.engine.specs.Match.{judged, someMatches, nearest, matched, placeOr, tried}
 use Rattle.device_lookup.specs.Lookup.{Chained}
 use Rattle.device_lookup.specs.declared.Chain.{Chain}
 use Rattle.outcome_target.specs.Held.{Held}
 use Rattle.outcome_target.specs.declared.Layout.{Layout}
 use Rattle.outcome_target.specs.declared.Texts.{Texts}
 use Rattle.outcome_target.specs.Texts.{textsIn}
-use Rattle.matching.specs.Answers.{placeIn, Within, placeNext}
+use Rattle.matching.specs.Answers.{placeIn, triedIn}
 use Rattle.matching.specs.declared.Matched.{Matched}
 
 -- a device record of which a device begins at a place, and a target that holds a state
@@ -46,11 +46,14 @@ ListHolds list op value t lay r = (n : ℕ) (s : State) → Held n t lay s → r
 
 -- the pairs from the i-th row up to the n-th
 abbrev pub NearestOf : List ℕ → List ℕ → ℕ → ℕ → List ℕ → Chain → List ℕ → Layout → Matched → Type 0
-NearestOf v r i n dev places t lay o = ((x : Begun dev places t lay) → placeIn o ≡ nearest 1 (chain (x .device)) (pairsFrom v r i (n - i))) × Within o (places .len)
+NearestOf v r i n dev places t lay o =
+    ((x : Begun dev places t lay) → placeIn o ≡ nearest 1 (chain (x .device)) (pairsFrom v r i (n - i)))
+    × (triedIn o ≡ placeOr (places .len) (placeIn o))
+    × (triedIn o ≤ places .len)
 
-abbrev pub NextOf : ℕ → Bool → List ℕ → List ℕ → ℕ → ℕ → List ℕ → Chain → List ℕ → Layout → Matched → Type 0
-NextOf place parent v r i n dev places t lay o =
-    ((x : Begun dev places t lay) → placeIn o ≡ placeNext place parent (nearest 1 (chain (x .device)) (pairsFrom v r i (n - i)))) × Within o (places .len)
-
+-- a rule: the matched device, and the devices tried
 abbrev pub MatchedOf : List ℕ → List ℕ → ℕ → ℕ → List ℕ → Chain → List ℕ → Layout → Matched → Type 0
-MatchedOf v r i n dev places t lay o = ((x : Begun dev places t lay) → placeIn o ≡ matched (x .device) (x .state) (pairsFrom v r i (n - i))) × Within o (places .len)
+MatchedOf v r i n dev places t lay o =
+    ((x : Begun dev places t lay)
+    → (placeIn o ≡ matched (x .device) (x .state) (pairsFrom v r i (n - i))) × (triedIn o ≡ tried (x .device) (pairsFrom v r i (n - i)) (x .state)))
+    × (triedIn o ≤ places .len)

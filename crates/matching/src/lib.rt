@@ -7,7 +7,8 @@ ghost use Rattle.keys.specs.Table.{keyOf, operatorOf};
 ghost use Rattle.table.specs.Table.{entryOf, Segment, EntryIn};
 ghost use Rattle.matching.specs.Subjects.{subjectOf, isParentSubject, atEvent, atParent, subjectHolds, pairOn};
 ghost use Rattle.outcome_target.specs.Held.{Holds};
-ghost use Rattle.matching.specs.Judging.{Judging, Begun, ListHolds, NearestOf, NextOf, MatchedOf};
+ghost use Rattle.matching.specs.Answers.{firstOf};
+ghost use Rattle.matching.specs.Judging.{Judging, Begun, ListHolds, NearestOf, MatchedOf};
 use device_lookup::Chain;
 use keys::Key;
 use keys::Operator;
@@ -173,10 +174,10 @@ fn pair_holds(
 
 // ---- the parent keys
 
-// The place of the matched device: 0 without parent keys, else from 1, the event device.
+// The place of the matched device: 0 without parent keys, else from 1, the event device; or how many devices were tried in vain.
 pub enum Matched {
     At(usize),
-    Missed,
+    Missed(usize),
 }
 
 // The nearest device at which the parent keys of the rows from a place to another hold.
@@ -198,7 +199,7 @@ fn nearest(
     let mut k: usize = 0;
     let place = 'search: loop {
         if devices <= k {
-            break 'search Matched::Missed;
+            break 'search Matched::Missed(devices);
         }
         let device = places[k];
         let mut i = from;
@@ -226,34 +227,21 @@ fn nearest(
     place
 }
 
-// The place of the matched device behind a row: 0 before the first parent key, which asks for all of them.
-fn next_place(
-    place: usize,
-    parent: bool,
-    values: &[u8],
-    rows: &[u16],
-    i: usize,
-    to: usize,
-    dev: &[u8],
-    chain: Chain,
-    t: &[u8],
-    layout: Layout,
-) -> Matched
-    requires { ⌜ (place ≤ chain .len) × (i ≤ to) × Segment (now values) (now rows) to × Begun (now dev) chain (now t) layout ⌝ }
-    ensures { λ r. ⌜ NextOf place parent (now (values .entry)) (now (rows .entry)) i to (now (dev .entry)) chain (now (t .entry)) layout r ⌝ }
-{
-    if 0 < place {
-        return Matched::At(place);
-    }
-    if !parent {
-        return Matched::At(0);
-    }
-    nearest(values, rows, i, to, dev, chain, t, layout)
-}
-
 // ---- a rule
 
-// Whether the rule whose rows stand from a place to another matches, and at which device.
+// The first row with a parent key behind the i-th, if it is a parent key; `to` stands for none.
+fn first_of(first: usize, to: usize, parent: bool, i: usize) -> usize
+    ensures { λ r. ⌜ r ≡ firstOf first to parent i ⌝ }
+{
+    if parent {
+        if first == to {
+            return i;
+        }
+    }
+    first
+}
+
+// Whether the rule whose rows stand from a place to another matches, and at which device: all other keys first, then the parent keys.
 pub fn match_rule(
     values: &[u8],
     rows: &[u16],
@@ -269,7 +257,7 @@ pub fn match_rule(
 {
     let places = chain.at;
     let event = places[0];
-    let mut place: usize = 0;
+    let mut first = to;
     let mut i = from;
     while i < to {
         let entry = table::pair_at(rows, i);
@@ -285,25 +273,13 @@ pub fn match_rule(
             t,
             layout,
         ) {
-            return Matched::Missed;
+            return Matched::Missed(0);
         }
-        let parent = is_parent(subject);
-        let Matched::At(found) = next_place(
-            place,
-            parent,
-            values,
-            rows,
-            i,
-            to,
-            dev,
-            chain,
-            t,
-            layout,
-        ) else {
-            return Matched::Missed;
-        };
-        place = found;
+        first = first_of(first, to, is_parent(subject), i);
         i += 1;
     }
-    Matched::At(place)
+    if first == to {
+        return Matched::At(0);
+    }
+    nearest(values, rows, first, to, dev, chain, t, layout)
 }

@@ -1,7 +1,7 @@
 -- What a run gives back in each case.
 -- Assumes nothing.
 use Prim.Native.Nat.{ℕ, _-_, _≤_, _<_}
-use mathlib.Core.Path.{_≡_, sym, ap, _∙_, subst}
+use mathlib.Core.Path.{_≡_, sym, ap, ap₂, _∙_, subst}
 use mathlib.Core.Bool.{false}
 use mathlib.Core.List.{List}
 use mathlib.Core.Option.{none, some}
@@ -88,7 +88,7 @@ module _ (n : ℕ) (l : List ℕ) (lay : Layout) (s : State) (w : target.Held n 
   pub used-few : lay .end ≤ fullestOutcome
   used-few = subst (λ (k : ℕ). k ≤ fullestOutcome) (sym used-is) (fits n s (w .good))
 
-pub ended-answer : (room : ℕ) (c : Ran State) (h : Halt State) → c ≡ ok h → acceptance room (h .visited) (encode (h .state)) ≡ text.answer engine room c
+pub ended-answer : (room : ℕ) (c : Ran State) (h : Halt State) → c ≡ ok h → acceptance room (h .visited) (h .tried) (encode (h .state)) ≡ text.answer engine room c
 unfolding text.answer
 ended-answer room c h e = rw e
 
@@ -96,13 +96,13 @@ pub refused-answer : (room : ℕ) (c : Ran State) (f : Placed Refusal) → c ≡
 unfolding text.answer
 refused-answer room c f e = rw e
 
-pub sound-ended : (room n : ℕ) (l : List ℕ) (lay : Layout) (v : ℕ) (c : Ran State) (h : Halt State) → c ≡ ok h → target.Held n l lay (h .state) → v ≡ h .visited → length l ≡ room
-    → (g : Given) → Accepts g v (lay .end) → answered g l ≡ text.answer engine room c
-sound-ended room n l lay v c h e w i m g k =
+pub sound-ended : (room n : ℕ) (l : List ℕ) (lay : Layout) (v u : ℕ) (c : Ran State) (h : Halt State) → c ≡ ok h → target.Held n l lay (h .state) → v ≡ h .visited → u ≡ h .tried → length l ≡ room
+    → (g : Given) → Accepts g v u (lay .end) → answered g l ≡ text.answer engine room c
+sound-ended room n l lay v u c h e w i j m g k =
     ap (answered g) (w .bytes)
     ∙ k (length l) (encode (h .state)) (used-is n l lay (h .state) w)
-    ∙ ap (λ (x : ℕ). acceptance x v (encode (h .state))) m
-    ∙ ap (λ (x : ℕ). acceptance room x (encode (h .state))) i
+    ∙ ap (λ (x : ℕ). acceptance x v u (encode (h .state))) m
+    ∙ ap₂ (λ (x y : ℕ). acceptance room x y (encode (h .state))) i j
     ∙ ended-answer room c h e
 
 pub sound-refused : (room m : ℕ) (l : List ℕ) → l ≡ replicate m 0 → m ≡ room → (c : Ran State) (n : ℕ) (f : Refusal) → c ≡ refused (line n f)

@@ -35,9 +35,9 @@ fn run_sound(
 {
     outcome_target::load(t, rec);
     match runner::run_rules(values, rows, rules, jumps, count, dev, chain, t, layout) {
-        TextRan::Ended(left, visited) => {
+        TextRan::Ended(left, visited, tried) => {
             let used = left.end;
-            answers::accepted(visited, used)
+            answers::accepted(visited, tried, used)
         }
         TextRan::Refused(refusal, line) => {
             splice::clear(t);

@@ -1,7 +1,7 @@
 -- The rules of a table, one after the other.
 -- Assumes nothing.
 use Prim.Native.Nat.{ℕ, zero, suc, _+_, _-_, _*_, _≤_, _<_}
-use mathlib.Core.Path.{_≡_, refl, sym, _∙_, ap, subst}
+use mathlib.Core.Path.{_≡_, refl, sym, _∙_, ap, ap₂, subst}
 use mathlib.Core.Bool.{true, false}
 use mathlib.Core.List.{List, _∷_}
 use mathlib.Core.Option.{Option, none, some}
@@ -11,7 +11,7 @@ use borrow.Author.Tests.{eq-eqb, ne-eqb}
 use lib.ListN.{length, getD}
 use Rattle.lists.specs.Checked.{Checked, refused, ok, Placed, line}
 use Rattle.lists.specs.Refusal as refusal
-use Rattle.lists.specs.Sizes.{mostRules}
+use Rattle.lists.specs.Sizes.{mostRules, mostChain}
 use Rattle.lists.proofs.Moves.{ap-at}
 use Rattle.refusals.specs.Refusals.{refusalOf}
 use Rattle.refusals.specs.declared.Refusal.{Refusal}
@@ -24,6 +24,7 @@ use Rattle.text.specs.Engine as text
 use Rattle.text.specs.Running.{Mode, Ran, more, next, after, started, runFrom}
 use Rattle.text.proofs.Running.{more-zero, more-more}
 use Rattle.engine.specs.Operations.{engine}
+use Rattle.engine.specs.Match.{tried}
 use Rattle.engine.specs.Step.{step}
 use Rattle.records.specs.Records.{Denotes, Ready}
 use Rattle.table.specs.Table.{rulesFrom, Rows, Segment}
@@ -88,7 +89,7 @@ module _ (v r t js : List ℕ) (n i : ℕ) (h : i < n) (w : Runnable v r t js n)
   abbrev later : Device → Mode → State → Ran State
   later d m s = runFrom engine d m s (rulesFrom v r t (i + 1) (n - (i + 1)))
 
-  begun : (d : Device) (s : State) → runs v r t n d s i ≡ started engine (step d pairs s) number (gotoOf pairs) (later d)
+  begun : (d : Device) (s : State) → runs v r t n d s i ≡ started engine (step d pairs s) number (tried d pairs s) (gotoOf pairs) (later d)
   unfolding runFrom
   begun d s = ap (runFrom engine d next s) (rules-step v r t i n h)
 
@@ -106,50 +107,61 @@ module _ (v r t js : List ℕ) (n i : ℕ) (h : i < n) (w : Runnable v r t js n)
 
   module _ (from to : ℕ) (is-from : from ≡ getD t (i * 4 + 1) 0) (is-to : to ≡ getD t (i * 4 + 2) 0) (dev : List ℕ) (places : Chain) (x : List ℕ) (lay : Layout) (x′ : List ℕ) (o : Stepped)
       (c : Steps v r from to dev places x lay x′ o) where
-    says : (y : Stepped) → o ≡ y → (d : Device) (s : State) → Denotes dev places x lay d s → step.Says dev places lay d s x′ y (step d pairs s)
+    says : (y : Stepped) → o ≡ y → (d : Device) (s : State) → Denotes dev places x lay d s → step.Says dev places lay d s x′ y (step d pairs s) (tried d pairs s)
     says y q d s z = rw (← q, ← is-from, ← is-to) (c .says d s z)
 
-    abbrev by : Device → Checked refusal.Refusal (text.Stepped State) → Ran State
-    by d a = started engine a number (gotoOf pairs) (later d)
+    few : (y : Stepped) → o ≡ y → step.Few y
+    few y q = subst step.Few q (c .few)
 
-    pub rule-missed : o ≡ stepped.Missed → RuleSays v r t n i dev places x lay x′ (rule.Next lay (i + 1))
-    rule-missed q = (omega arith, omega arith, λ d s z. let (e, z′) = says stepped.Missed q d s z in (s, z′, begun d s ∙ ap (by d) e))
+    abbrev by : Device → ℕ → Checked refusal.Refusal (text.Stepped State) → Ran State
+    by d k a = started engine a number k (gotoOf pairs) (later d)
 
-    pub rule-left : (lay′ : Layout) → o ≡ stepped.Left lay′ → (j : ℕ) → j ≡ behindOf (getD js i 0) i → RuleSays v r t n i dev places x lay x′ (rule.Next lay′ j)
-    rule-left lay′ q j e =
+    pub rule-missed : (k : ℕ) → o ≡ stepped.Missed k → RuleSays v r t n i dev places x lay x′ (rule.Next lay (i + 1) k)
+    rule-missed k q = (
+      omega arith,
+      omega arith,
+      few (stepped.Missed k) q,
+      λ d s z. let (e, z′, f) = says (stepped.Missed k) q d s z in (s, z′, begun d s ∙ ap₂ (by d) (sym f) e),
+    )
+
+    pub rule-left : (lay′ : Layout) (k : ℕ) → o ≡ stepped.Left lay′ k → (j : ℕ) → j ≡ behindOf (getD js i 0) i → RuleSays v r t n i dev places x lay x′ (rule.Next lay′ j k)
+    rule-left lay′ k q j e =
         let (a, b) = jump-in (gotoOf pairs) (getD js i 0) (w .jumps i h) in
         rw e (
           a,
           b,
+          few (stepped.Left lay′ k) q,
           λ d s z.
-              let (s′, f, z′) = says (stepped.Left lay′) q d s z in
-              (s′, z′, begun d s ∙ ap (by d) f ∙ ap (more 1) (jumped (gotoOf pairs) (getD js i 0) (w .jumps i h) d s′)),
+              let (s′, f, z′, m) = says (stepped.Left lay′ k) q d s z in
+              (s′, z′, begun d s ∙ ap₂ (by d) (sym m) f ∙ ap (more 1 k) (jumped (gotoOf pairs) (getD js i 0) (w .jumps i h) d s′)),
         )
 
     pub rule-refused : (f : Refusal) → o ≡ stepped.Refused f → RuleSays v r t n i dev places x lay x′ (rule.Refused f)
     rule-refused f q d s z =
         let e : step d pairs s ≡ refused (refusalOf f) = says (stepped.Refused f) q d s z in
-        begun d s ∙ ap (by d) e
+        begun d s ∙ ap (by d (tried d pairs s)) e
 
 -- ---- one after the other
 
 module _ (v r t : List ℕ) (n : ℕ) (dev : List ℕ) (places : Chain) (x₀ : List ℕ) (lay₀ : Layout) where
-  -- the rules from the i-th on give what all rules give, with k rules visited
-  pub record Going (x : List ℕ) (lay : Layout) (k i : ℕ) : Type 0 where
+  -- the rules from the i-th on give what all rules give, with k rules visited and u devices tried
+  pub record Going (x : List ℕ) (lay : Layout) (k u i : ℕ) : Type 0 where
     pub room : length x ≡ length x₀
     pub within : i ≤ n
     pub few : k ≤ i
-    pub going : (d : Device) (s₀ : State) → Denotes dev places x₀ lay₀ d s₀ → (s : State) × Denotes dev places x lay d s × (more k (runs v r t n d s i) ≡ runFrom engine d next s₀ (rulesFrom v r t 0 n))
+    pub tried : u ≤ k * mostChain
+    pub going : (d : Device) (s₀ : State) → Denotes dev places x₀ lay₀ d s₀ → (s : State) × Denotes dev places x lay d s × (more k u (runs v r t n d s i) ≡ runFrom engine d next s₀ (rulesFrom v r t 0 n))
 
-  pub going-start : Going x₀ lay₀ 0 0
+  pub going-start : Going x₀ lay₀ 0 0 0
   going-start = record {
     room = refl;
     within = omega arith;
     few = omega arith;
+    tried = omega arith;
     going = λ d s z. (s, z, more-zero (runs v r t n d s 0) ∙ ap-at (λ k. runFrom engine d next s (rulesFrom v r t 0 k)) (n - 0) n (omega arith));
   }
 
-  module _ (x : List ℕ) (lay : Layout) (k i : ℕ) (g : Going x lay k i) where
+  module _ (x : List ℕ) (lay : Layout) (k u i : ℕ) (g : Going x lay k u i) where
     pub still-ready : Ready dev places x₀ lay₀ → Ready dev places x lay
     still-ready (d, s₀, z) = let (s, z′, _) = g .going d s₀ z in (d, s, z′)
 
@@ -157,43 +169,46 @@ module _ (v r t : List ℕ) (n : ℕ) (dev : List ℕ) (places : Chain) (x₀ : 
       says-so : (q : RuleRan) → o ≡ q → RuleSays v r t n i dev places x lay x′ q
       says-so q e = subst (RuleSays v r t n i dev places x lay x′) e (y .says)
 
-      pub further : (lay′ : Layout) (j : ℕ) → o ≡ rule.Next lay′ j → (i < j) × (j ≤ n)
-      further lay′ j e = let (a, b, c) = says-so (rule.Next lay′ j) e in (a, b)
+      pub further : (lay′ : Layout) (j m : ℕ) → o ≡ rule.Next lay′ j m → (i < j) × (j ≤ n) × (m ≤ mostChain)
+      further lay′ j m e = let (a, b, f, c) = says-so (rule.Next lay′ j m) e in (a, b, f)
 
-      pub going-on : (lay′ : Layout) (j : ℕ) → o ≡ rule.Next lay′ j → Going x′ lay′ (k + 1) j
-      going-on lay′ j e =
-          let (a, b, c) = says-so (rule.Next lay′ j) e in
+      pub going-on : (lay′ : Layout) (j m : ℕ) → o ≡ rule.Next lay′ j m → Going x′ lay′ (k + 1) (u + m) j
+      going-on lay′ j m e =
+          let (a, b, l, c) = says-so (rule.Next lay′ j m) e in
           let f = g .few in
+          let tried = g .tried in
           record {
             room = y .length ∙ g .room;
             within = b;
             few = omega arith;
+            tried = omega arith;
             going = λ d s₀ z₀.
-                let (s, z, u) = g .going d s₀ z₀ in
-                let (s′, z′, u′) = c d s z in
-                (s′, z′, sym (more-more k 1 (runs v r t n d s′ j)) ∙ ap (more k) (sym u′) ∙ u);
+                let (s, z, q) = g .going d s₀ z₀ in
+                let (s′, z′, q′) = c d s z in
+                (s′, z′, sym (more-more k u 1 m (runs v r t n d s′ j)) ∙ ap (more k u) (sym q′) ∙ q);
           }
 
       pub going-refused : (f : Refusal) → o ≡ rule.Refused f → (m : ℕ) → m ≡ getD t (i * 4) 0 → m < 65536 → Runs v r t n dev places x₀ lay₀ x′ (all.Refused f m)
       going-refused f e m q l = record {
         says = λ d s₀ z₀.
-            let (s, z, u) = g .going d s₀ z₀ in
-            sym u ∙ ap (more k) (says-so (rule.Refused f) e d s z) ∙ rw q;
+            let (s, z, w) = g .going d s₀ z₀ in
+            sym w ∙ ap (more k u) (says-so (rule.Refused f) e d s z) ∙ rw q;
         small = l;
         length = y .length ∙ g .room;
       }
 
     -- behind the last rule
-    pub going-end : n ≤ i → n ≤ mostRules → Runs v r t n dev places x₀ lay₀ x (all.Ended lay k)
+    pub going-end : n ≤ i → n ≤ mostRules → Runs v r t n dev places x₀ lay₀ x (all.Ended lay k u)
     unfolding runFrom
     going-end h few =
         let f = g .few in
         let l = g .within in
+        let tried = g .tried in
         record {
           says = λ d s₀ z₀.
-              let (s, z, u) = g .going d s₀ z₀ in
-              let e : runs v r t n d s i ≡ ok (record { mode = next; state = s; visited = 0 }) = ap (runFrom engine d next s) (rules-end v r t i n h) in
-              (record { mode = next; state = s; visited = k + 0 }, sym u ∙ ap (more k) e, z, sym (add-zero k));
-          small = omega arith;
+              let (s, z, w) = g .going d s₀ z₀ in
+              let e : runs v r t n d s i ≡ ok (record { mode = next; state = s; visited = 0; tried = 0 }) = ap (runFrom engine d next s) (rules-end v r t i n h) in
+              (record { mode = next; state = s; visited = k + 0; tried = u + 0 }, sym w ∙ ap (more k u) e, z, sym (add-zero k), sym (add-zero u));
+          small = (omega arith, omega arith);
           length = g .room;
         }

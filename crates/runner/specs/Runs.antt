@@ -7,7 +7,7 @@ use lib.Dec.{eqb}
 use lib.ListN.{length, getD}
 use Rattle.lists.specs.Lists.{pick}
 use Rattle.lists.specs.Checked.{refused, ok, line}
-use Rattle.lists.specs.Sizes.{mostRules}
+use Rattle.lists.specs.Sizes.{mostRules, mostChain}
 use Rattle.refusals.specs.Refusals.{refusalOf}
 use Rattle.device.specs.Device.{Device}
 use Rattle.device_lookup.specs.declared.Chain.{Chain}
@@ -43,8 +43,9 @@ runs v r t n d s i = runFrom engine d next s (rulesFrom v r t i (n - i))
 -- ---- one rule
 
 abbrev pub RuleSays : List ℕ → List ℕ → List ℕ → ℕ → ℕ → List ℕ → Chain → List ℕ → Layout → List ℕ → RuleRan → Type 0
-RuleSays v r t n i dev places x lay x′ (rule.Next lay′ j) =
-    (i < j) × (j ≤ n) × ((d : Device) (s : State) → Denotes dev places x lay d s → (s′ : State) × Denotes dev places x′ lay′ d s′ × (runs v r t n d s i ≡ more 1 (runs v r t n d s′ j)))
+RuleSays v r t n i dev places x lay x′ (rule.Next lay′ j k) =
+    (i < j) × (j ≤ n) × (k ≤ mostChain)
+    × ((d : Device) (s : State) → Denotes dev places x lay d s → (s′ : State) × Denotes dev places x′ lay′ d s′ × (runs v r t n d s i ≡ more 1 k (runs v r t n d s′ j)))
 RuleSays v r t n i dev places x lay x′ (rule.Refused f) =
     (d : Device) (s : State) → Denotes dev places x lay d s → runs v r t n d s i ≡ refused (line (getD t (i * 4) 0) (refusalOf f))
 
@@ -55,12 +56,12 @@ pub record RuleRuns (v r t : List ℕ) (n i : ℕ) (dev : List ℕ) (places : Ch
 -- ---- all rules
 
 abbrev pub Says : List ℕ → Chain → Device → List ℕ → TextRan → Ran State → Type 0
-Says dev places d x′ (all.Ended lay k) c = (h : Halt State) × (c ≡ ok h) × Denotes dev places x′ lay d (h .state) × (k ≡ h .visited)
+Says dev places d x′ (all.Ended lay k w) c = (h : Halt State) × (c ≡ ok h) × Denotes dev places x′ lay d (h .state) × (k ≡ h .visited) × (w ≡ h .tried)
 Says dev places d x′ (all.Refused f n) c = c ≡ refused (line n (refusalOf f))
 
--- the visited count and the line are small
+-- the counts and the line are small
 abbrev pub Small : TextRan → Type 0
-Small (all.Ended lay k) = k < 65536
+Small (all.Ended lay k w) = (k < 65536) × (w < 65536)
 Small (all.Refused f n) = n < 65536
 
 pub record Runs (v r t : List ℕ) (n : ℕ) (dev : List ℕ) (places : Chain) (x : List ℕ) (lay : Layout) (x′ : List ℕ) (o : TextRan) : Type 0 where

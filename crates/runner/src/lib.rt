@@ -1,4 +1,4 @@
-// The rules of a table in order, with jumps and the visited count.
+// The rules of a table in order, with jumps, the visited count and the devices tried.
 ghost use mathlib.Core.Path.{_≡_};
 ghost use Prim.Native.Nat.{_<_};
 ghost use lib.ListN.{length, getD};
@@ -9,15 +9,15 @@ use outcome_target::Layout;
 use refusals::Refusal;
 use step::Stepped;
 
-// A rule left the record in a layout, and the run goes on before a rule; or it is refused.
+// A rule left the record in a layout, and the run goes on before a rule, so many devices were tried; or it is refused.
 pub enum RuleRan {
-    Next(Layout, usize),
+    Next(Layout, usize, usize),
     Refused(Refusal),
 }
 
-// The layout of the record that is left and the visited count, or a refusal and its line.
+// The layout of the record that is left, the visited count and the devices tried, or a refusal and its line.
 pub enum TextRan {
-    Ended(Layout, usize),
+    Ended(Layout, usize, usize),
     Refused(Refusal, usize),
 }
 
@@ -51,8 +51,8 @@ fn run_rule(
     let from = table::number_at(rules, i * 4 + 1);
     let to = table::number_at(rules, i * 4 + 2);
     match step::step(values, rows, from, to, dev, chain, t, layout) {
-        Stepped::Missed => RuleRan::Next(layout, i + 1),
-        Stepped::Left(left) => RuleRan::Next(left, behind(jumps, i)),
+        Stepped::Missed(tried) => RuleRan::Next(layout, i + 1, tried),
+        Stepped::Left(left, tried) => RuleRan::Next(left, behind(jumps, i), tried),
         Stepped::Refused(refusal) => RuleRan::Refused(refusal),
     }
 }
@@ -74,12 +74,14 @@ pub fn run_rules(
 {
     let mut layout = layout;
     let mut visited: usize = 0;
+    let mut tried: usize = 0;
     let mut i: usize = 0;
     while i < count {
         match run_rule(values, rows, rules, jumps, count, i, dev, chain, t, layout) {
-            RuleRan::Next(left, next) => {
+            RuleRan::Next(left, next, more) => {
                 layout = left;
                 visited += 1;
+                tried += more;
                 i = next;
             }
             RuleRan::Refused(refusal) => return TextRan::Refused(
@@ -88,5 +90,5 @@ pub fn run_rules(
             ),
         }
     }
-    TextRan::Ended(layout, visited)
+    TextRan::Ended(layout, visited, tried)
 }

@@ -25,7 +25,7 @@ use Rattle.engine.specs.Operations.{engine, run}
 use Rattle.engine.proofs.Laws.{engine-demand3}
 use Rattle.spillfinch.specs.Exports.{numbers, Gives}
 use Rattle.text_check.specs.Check.{check}
-use Rattle.spillfinch.specs.Joined.{Checked, numberIn, lineIn, visitedIn, Call, back, Ran, followed, InTurn, together, Fit, Sound, Demand3}
+use Rattle.spillfinch.specs.Joined.{Checked, numberIn, lineIn, visitedIn, triedIn, Call, back, Ran, followed, InTurn, together, Fit, Sound, Demand3}
 
 -- ---- checks
 
@@ -80,29 +80,29 @@ module _ (dev : List ℕ) where
   )
 
   -- what a run gives back, read from what its call writes
-  abbrev next : (ℕ → List ℕ → Given) → ℕ → Answer → Given
+  abbrev next : (ℕ → ℕ → List ℕ → Given) → ℕ → Answer → Given
   next others n a =
-      onward engine (a .number) (others (a .visited) (take (a .used) (a .bytes)))
-      (record { number = a .number; line = n + a .line; visited = 0; used = 0; left = [] })
+      onward engine (a .number) (others (a .visited) (a .tried) (take (a .used) (a .bytes)))
+      (record { number = a .number; line = n + a .line; visited = 0; tried = 0; used = 0; left = [] })
 
-  written-next : (others : ℕ → List ℕ → Given) (n : ℕ) (a : Answer) (c : Call) → Gives (c .written) (c .target) a
+  written-next : (others : ℕ → ℕ → List ℕ → Given) (n : ℕ) (a : Answer) (c : Call) → Gives (c .written) (c .target) a
       → next others n a
-      ≡ onward engine (numberIn (c .written)) (others (visitedIn (c .written)) (back c .left))
-      (record { number = numberIn (c .written); line = n + lineIn (c .written); visited = 0; used = 0; left = [] })
+      ≡ onward engine (numberIn (c .written)) (others (visitedIn (c .written)) (triedIn (c .written)) (back c .left))
+      (record { number = numberIn (c .written); line = n + lineIn (c .written); visited = 0; tried = 0; used = 0; left = [] })
   written-next others n a c (w, b) = rw (w, b) refl
 
-  calls-together : (v n : ℕ) (out : List ℕ) (ts : List (List ℕ)) (cs : List Call) → InTurn dev out ts cs
-      → runAll engine dev v n out (jobsOf ts cs) ≡ together v n out cs
+  calls-together : (v w n : ℕ) (out : List ℕ) (ts : List (List ℕ)) (cs : List Call) → InTurn dev out ts cs
+      → runAll engine dev v w n out (jobsOf ts cs) ≡ together v w n out cs
   unfolding runAll
-  calls-together v n out [] [] i = refl
-  calls-together v n out [] (c ∷ cs) i = absurd i
-  calls-together v n out (t ∷ ts) [] i = absurd i
-  calls-together v n out (t ∷ ts) (c ∷ cs) (e, r, f) =
-      let others : ℕ → List ℕ → Given = λ u x. runAll engine dev (v + u) (n + newlines (c .text)) x (jobsOf ts cs) in
+  calls-together v w n out [] [] i = refl
+  calls-together v w n out [] (c ∷ cs) i = absurd i
+  calls-together v w n out (t ∷ ts) [] i = absurd i
+  calls-together v w n out (t ∷ ts) (c ∷ cs) (e, r, f) =
+      let others : ℕ → ℕ → List ℕ → Given = λ u m x. runAll engine dev (v + u) (w + m) (n + newlines (c .text)) x (jobsOf ts cs) in
       rw (← e)
       (written-next others n (run (c .text) dev out (length (c .target))) c (r .gives)
       ∙ onward-turn (InTurn dev (back c .left) ts cs) (cs ≡ []) (numberIn (c .written)) _ _ _ f
-      (λ g. calls-together (v + visitedIn (c .written)) (n + newlines (c .text)) (back c .left) ts cs g))
+      (λ g. calls-together (v + visitedIn (c .written)) (w + triedIn (c .written)) (n + newlines (c .text)) (back c .left) ts cs g))
 
 -- ---- the demand
 
@@ -118,24 +118,24 @@ fit-text ts f =
     record { joinable = f .joinable; accepted = All-map Checked (Accepted engine) checked-accepted ts (f .accepted); bytes = f .bytes; rules = f .rules }
 
 join-run : (ts : List (List ℕ)) → Fit ts → (dev out : List ℕ) → Sound dev out → (cs : List Call) → InTurn dev out ts cs
-    → (c : Call) → c .text ≡ join ts → Ran dev out c → back c ≡ together 0 0 out cs
+    → (c : Call) → c .text ≡ join ts → Ran dev out c → back c ≡ together 0 0 0 out cs
 join-run ts f dev out s cs i c e r =
     let q : texts (jobsOf ts cs) ≡ ts = jobs-texts ts cs in
     call-back dev out c (join (texts (jobsOf ts cs))) (e ∙ ap join (sym q)) r
     ∙ engine-demand3 .join-run (jobsOf ts cs) (subst (text.Fit engine) (sym q) (fit-text ts f)) dev out (s .bytes) (s .read) (s .held)
     (jobs-roomy dev out ts cs i) (length (c .target)) (r .room)
-    ∙ calls-together dev 0 0 out ts cs i
+    ∙ calls-together dev 0 0 0 out ts cs i
 
 cut-run : (t : List ℕ) (rs : List (Placed Rule)) → readText reader t ≡ ok rs → (ps : List (List ℕ)) → Joinable ps → join ps ≡ t
     → NoCrossing (cuts 0 ps) (jumps engine rs) → (dev out : List ℕ) → Sound dev out → (cs : List Call) → InTurn dev out ps cs
-    → (c : Call) → c .text ≡ t → Ran dev out c → back c ≡ together 0 0 out cs
+    → (c : Call) → c .text ≡ t → Ran dev out c → back c ≡ together 0 0 0 out cs
 cut-run t rs g ps j p k dev out s cs i c e r =
     let q : texts (jobsOf ps cs) ≡ ps = jobs-texts ps cs in
     call-back dev out c t e r
     ∙ engine-demand3 .cut-run t rs g (jobsOf ps cs) (subst Joinable (sym q) j) (ap join q ∙ p)
     (subst (λ (xs : List (List ℕ)). NoCrossing (cuts 0 xs) (jumps engine rs)) (sym q) k) dev out (s .bytes) (s .read) (s .held)
     (jobs-roomy dev out ps cs i) (length (c .target)) (r .room)
-    ∙ calls-together dev 0 0 out ps cs i
+    ∙ calls-together dev 0 0 0 out ps cs i
 
 pub calls-demand3 : Demand3
 calls-demand3 = record {

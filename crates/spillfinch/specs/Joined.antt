@@ -36,6 +36,9 @@ visitedIn written = getD written 2 0
 abbrev pub usedIn : List ℕ → ℕ
 usedIn written = getD written 3 0
 
+abbrev pub triedIn : List ℕ → ℕ
+triedIn written = getD written 4 0
+
 -- a call of `spillfinch_check` that accepts the text
 abbrev pub Checked : List ℕ → Type 0
 Checked text = (written : List ℕ) × CheckGives text written × (numberIn written ≡ 0)
@@ -53,6 +56,7 @@ back c =
       number = numberIn (c .written);
       line = lineIn (c .written);
       visited = visitedIn (c .written);
+      tried = triedIn (c .written);
       used = usedIn (c .written);
       left = take (usedIn (c .written)) (c .target);
     }
@@ -77,14 +81,14 @@ InTurn dev out (t ∷ ts) [] = ⊥
 InTurn dev out (t ∷ ts) (c ∷ cs) =
     (c .text ≡ t) × Ran dev out c × followed (numberIn (c .written)) (InTurn dev (back c .left) ts cs) (cs ≡ [])
 
--- what they give together: what the last one gave, with the visits of all, or its refusal with its line counted on;
--- v rules visited and n newlines before
-abbrev pub together : ℕ → ℕ → List ℕ → List Call → Given
-together v n out [] = record { number = 0; line = 0; visited = v; used = length out; left = out }
-together v n out (c ∷ cs) =
+-- what they give together: what the last one gave, with the counts of all, or its refusal with its line counted on;
+-- v rules visited, w devices tried (document 02, Item 9) and n newlines before
+abbrev pub together : ℕ → ℕ → ℕ → List ℕ → List Call → Given
+together v w n out [] = record { number = 0; line = 0; visited = v; tried = w; used = length out; left = out }
+together v w n out (c ∷ cs) =
     onward engine (numberIn (c .written))
-    (together (v + visitedIn (c .written)) (n + newlines (c .text)) (back c .left) cs)
-    (record { number = numberIn (c .written); line = n + lineIn (c .written); visited = 0; used = 0; left = [] })
+    (together (v + visitedIn (c .written)) (w + triedIn (c .written)) (n + newlines (c .text)) (back c .left) cs)
+    (record { number = numberIn (c .written); line = n + lineIn (c .written); visited = 0; tried = 0; used = 0; left = [] })
 
 -- ---- the demand
 
@@ -108,7 +112,7 @@ pub record Demand3 : Type 0 where
   pub join-checked : (ts : List (List ℕ)) → Fit ts → Checked (join ts)
   -- one call for the join gives what the calls for its texts one after another give together
   pub join-run : (ts : List (List ℕ)) → Fit ts → (dev out : List ℕ) → Sound dev out → (cs : List Call) → InTurn dev out ts cs
-      → (c : Call) → c .text ≡ join ts → Ran dev out c → back c ≡ together 0 0 out cs
+      → (c : Call) → c .text ≡ join ts → Ran dev out c → back c ≡ together 0 0 0 out cs
   -- the check accepts all pieces of an accepted text if and only if no jump, taken or not, crosses a cut
   pub cut-checked : (t : List ℕ) (rs : List (Placed Rule)) → readText reader t ≡ ok rs
       → (ps : List (List ℕ)) → Joinable ps → join ps ≡ t → All Checked ps ↔ NoCrossing (cuts 0 ps) (jumps engine rs)
@@ -116,4 +120,4 @@ pub record Demand3 : Type 0 where
   pub cut-run : (t : List ℕ) (rs : List (Placed Rule)) → readText reader t ≡ ok rs
       → (ps : List (List ℕ)) → Joinable ps → join ps ≡ t → NoCrossing (cuts 0 ps) (jumps engine rs)
       → (dev out : List ℕ) → Sound dev out → (cs : List Call) → InTurn dev out ps cs
-      → (c : Call) → c .text ≡ t → Ran dev out c → back c ≡ together 0 0 out cs
+      → (c : Call) → c .text ≡ t → Ran dev out c → back c ≡ together 0 0 0 out cs

@@ -16,7 +16,7 @@ fn put_answer(given: Given, answer: &mut [u32; 8])
         given.line,
         given.visited,
         given.used,
-        0,
+        given.tried,
         0,
         0,
         0,

@@ -9,10 +9,10 @@ use outcome_target::Layout;
 use records::Change;
 use refusals::Refusal;
 
-// A rule did not match; it left the record in a layout; or it is refused.
+// A rule did not match; it left the record in a layout; or it is refused. The number is that of the devices tried.
 pub enum Stepped {
-    Missed,
-    Left(Layout),
+    Missed(usize),
+    Left(Layout, usize),
     Refused(Refusal),
 }
 
@@ -42,9 +42,9 @@ pub fn step(
             chain,
             place,
         ) {
-            Change::Left(left) => Stepped::Left(left),
+            Change::Left(left) => Stepped::Left(left, place),
             Change::Refused(refusal) => Stepped::Refused(refusal),
         },
-        Matched::Missed => Stepped::Missed,
+        Matched::Missed(tried) => Stepped::Missed(tried),
     }
 }

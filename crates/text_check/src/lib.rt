@@ -23,7 +23,7 @@ fn check_lent(
     ensures { λ r. ⌜ answered r [] ≡ check-answer (now (text .entry)) ⌝ }
 {
     match reader::read_text(text, values, rows, rules, labels, jumps) {
-        TextRead::Accepted(_) => answers::accepted(0, 0),
+        TextRead::Accepted(_) => answers::accepted(0, 0, 0),
         TextRead::Refused(f, n) => answers::refused(f, n),
     }
 }

@@ -8,14 +8,15 @@ use borrow.Author.Needs.{needs}
 use Rattle.answers.proofs.accepted.Statement.{statement}
 use Rattle.answers.proofs.accepted.Tie as tie
 
-narrow-requires : tie.Need-narrow-requires
-narrow-requires c κs = search needs
-
-narrow-requires-2 : tie.Need-narrow-requires-2
-narrow-requires-2 c κs = search needs
-
 returns : tie.Need-returns
-returns c = λ room made e. λ i. record { number = 0; line = 0; visited = c .before .narrow .ensures i; used = (c .narrow2 .ensures ∙ e) i; bytes = made ++ replicate (room - length made) 0 }
+returns c = λ room made e. λ i. record {
+  number = 0;
+  line = 0;
+  visited = c .before .before .narrow .ensures i;
+  tried = c .before .narrow2 .ensures i;
+  used = (c .narrow3 .ensures ∙ e) i;
+  bytes = made ++ replicate (room - length made) 0;
+}
 
 pub accepted-spec : {M : Type 1} → statement M
-accepted-spec = tie.close (tie.spec narrow-requires narrow-requires-2 returns)
+accepted-spec = tie.close (tie.spec (λ c κs. search needs) (λ c κs. search needs) (λ c κs. search needs) returns)

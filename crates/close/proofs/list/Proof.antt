@@ -30,7 +30,7 @@ accepted-requires c κs =
     let write = c .before .before .before .before .before .write in
     let used = c .before .used in
     let w : Written (commands (pre .2 .0) ((pre .2 .1) .properties) ((pre .2 .1) .runs)) (args .t .now) (Done (used .given .0 .0)) (write .last .0) = rw (used .given .1) at (write .ensures (pre .2 .0) (pre .2 .1) (pre .2 .2)) in
-    (omega arith, omega (arith, w .2 .end, list-few (pre .2 .0) ((pre .2 .1) .properties) ((pre .2 .1) .runs) (w .0) (w .1) (runs-few (args .dev .now) (args .rec .now) (args .chain) (args .layout) (pre .2 .0) (pre .2 .1) (λ i. c .before .before .before .before .before .before .before .shared-slice-known2 .given i .fits) (pre .2 .2))))
+    (omega arith, omega arith, omega (arith, w .2 .end, list-few (pre .2 .0) ((pre .2 .1) .properties) ((pre .2 .1) .runs) (w .0) (w .1) (runs-few (args .dev .now) (args .rec .now) (args .chain) (args .layout) (pre .2 .0) (pre .2 .1) (λ i. c .before .before .before .before .before .before .before .shared-slice-known2 .given i .fits) (pre .2 .2))))
 
 enum-told : tie.Need-enum-told
 enum-told c = search needs

@@ -48,7 +48,7 @@ write-record-requires c κs =
 accepted-requires : tie.Need-accepted-requires
 accepted-requires c κs =
     let a = c .before .before .before .before .before .before .before .before .before .before .before .before .before .args in
-    let (d, e) = is-some (decode (a .device .now)) (sym (c .before .before .before .before .before .check .ensures) ∙ not-false _ (c .before .before .before .before .if2 .left)) in (omega arith, omega (arith, c .before .before .write-record .ensures d e .1, made-fits (a .device .now) d e))
+    let (d, e) = is-some (decode (a .device .now)) (sym (c .before .before .before .before .before .check .ensures) ∙ not-false _ (c .before .before .before .before .if2 .left)) in (omega arith, omega arith, omega (arith, c .before .before .write-record .ensures d e .1, made-fits (a .device .now) d e))
 
 same-length-3 : tie.Need-same-length-3
 same-length-3 c = search needs
@@ -57,7 +57,7 @@ returns-3 : tie.Need-returns-3
 returns-3 c =
     let a = c .before .before .before .before .before .before .before .before .before .before .before .before .before .before .args in
     let (d, e) = is-some (decode (a .device .now)) (sym (c .before .before .before .before .before .before .check .ensures) ∙ not-false _ (c .before .before .before .before .before .if2 .left)) in
-    let v = c .before .before .before .write-record .ensures d e in ap (answered (c .accepted .result)) (v .0) ∙ c .accepted .ensures (length (c .before .before .before .write-record .last .0)) (encode (fresh d)) (v .1) ∙ ap (λ (i : ℕ). acceptance i 0 (encode (fresh d))) (c .before .before .before .write-record .kept .0 ∙ c .before .before .before .before .before .before .before .before .before .before .clear .kept .0) ∙ sym (given-made (a .device .now) (length (a .target .now)) (omega (arith, c .before .before .before .before .before .before .before .before .before .before .clear .kept .0, c .before .before .before .before .before .before .before .if1 .left)) d e)
+    let v = c .before .before .before .write-record .ensures d e in ap (answered (c .accepted .result)) (v .0) ∙ c .accepted .ensures (length (c .before .before .before .write-record .last .0)) (encode (fresh d)) (v .1) ∙ ap (λ (i : ℕ). acceptance i 0 0 (encode (fresh d))) (c .before .before .before .write-record .kept .0 ∙ c .before .before .before .before .before .before .before .before .before .before .clear .kept .0) ∙ sym (given-made (a .device .now) (length (a .target .now)) (omega (arith, c .before .before .before .before .before .before .before .before .before .before .clear .kept .0, c .before .before .before .before .before .before .before .if1 .left)) d e)
 
 pub fresh-spec : {M : Type 1} → statement M
 fresh-spec =

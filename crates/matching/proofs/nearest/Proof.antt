@@ -147,7 +147,7 @@ search-again c = (
 returns : tie.Need-returns Inv-loop μ-loop Inv-search μ-search
 returns c =
     let q = c .before .search in
-    ((λ x. sym (q .inv .1 x ∙ near-none (chain (x .device)) (q .k) _ (omega (arith, x .chained .len)))), tt)
+    ((λ x. sym (q .inv .1 x ∙ near-none (chain (x .device)) (q .k) _ (omega (arith, x .chained .len)))), refl, omega arith)
 
 returns-2 : tie.Need-returns-2 Inv-loop μ-loop Inv-search μ-search
 unfolding parentsHold
@@ -160,6 +160,7 @@ returns-2 c = (
       (q .inv .1 x
       ∙ near-here (chain (x .device)) (q .k) (pairsFrom (a .values .now) (a .rows .now) (a .from) (a .to - a .from)) (n .member) (n .nth)
       (c .before .loop .inv .1 (n .member) (n .lies) ∙ all-end (parentTest (n .member)) (a .values .now) (a .rows .now) (c .before .loop .i) (a .to) (c .if2 .taken)))),
+  refl,
   omega arith,
 )
 

@@ -59,9 +59,10 @@ enum-known-left c = search needs
 -- src/lib.rt:39:13
 accepted-requires : tie.Need-accepted-requires
 accepted-requires c κs = let (d, s, h) = c .before .before .before .before .before .before .before .before .before .before .before .before .before .before .before .before .before .before .pre .2 in
-    let o = all.Ended (c .before .left .given .0 .0) (c .before .left .given .0 .1 .0) in
-    let (y, q, z, v) = ran (c .before .before .before .before .before) o (c .before .left .given .1) d s h in
-    (omega (arith, small (c .before .before .before .before .before) o (c .before .left .given .1)), omega (arith, used-few (length (chain d)) _ (c .before .left .given .0 .0) (y .state) (z .held)))
+    let o = all.Ended (c .before .left .given .0 .0) (c .before .left .given .0 .1 .0) (c .before .left .given .0 .1 .1 .0) in
+    let few = small (c .before .before .before .before .before) o (c .before .left .given .1) in
+    let (y, q, z, v, u) = ran (c .before .before .before .before .before) o (c .before .left .given .1) d s h in
+    (omega (arith, few .0), omega (arith, few .1), omega (arith, used-few (length (chain d)) _ (c .before .left .given .0 .0) (y .state) (z .held)))
 
 -- src/lib.rt:41:26
 enum-known-refusal : tie.Need-enum-known-refusal
@@ -82,8 +83,8 @@ same-length c = search needs
 -- src/lib.rt:20:1
 returns : tie.Need-returns
 returns c = λ d s h. let a = c .before .before .before .before .before .before .before .before .before .before .before .before .before .before .before .before .before .before .before .args in
-    let (y, q, z, v) = ran (c .before .before .before .before .before .before) (all.Ended (c .before .before .left .given .0 .0) (c .before .before .left .given .0 .1 .0)) (c .before .before .left .given .1) d s h in
-    sound-ended (length (a .t .now)) (length (chain d)) (c .before .before .before .before .before .before .run-rules .last .1 .1 .1 .1 .1 .1 .1 .0) (c .before .before .left .given .0 .0) (c .before .before .left .given .0 .1 .0) (runFrom engine d next s (rulesFrom (a .values .now) (a .rows .now) (a .rules .now) 0 (a .count))) y q (z .held) v (omega (arith, c .before .before .before .before .before .before .run-rules .ensures .length)) (c .accepted .result) (c .accepted .ensures)
+    let (y, q, z, v, u) = ran (c .before .before .before .before .before .before) (all.Ended (c .before .before .left .given .0 .0) (c .before .before .left .given .0 .1 .0) (c .before .before .left .given .0 .1 .1 .0)) (c .before .before .left .given .1) d s h in
+    sound-ended (length (a .t .now)) (length (chain d)) (c .before .before .before .before .before .before .run-rules .last .1 .1 .1 .1 .1 .1 .1 .0) (c .before .before .left .given .0 .0) (c .before .before .left .given .0 .1 .0) (c .before .before .left .given .0 .1 .1 .0) (runFrom engine d next s (rulesFrom (a .values .now) (a .rows .now) (a .rules .now) 0 (a .count))) y q (z .held) v u (omega (arith, c .before .before .before .before .before .before .run-rules .ensures .length)) (c .accepted .result) (c .accepted .ensures)
 
 -- src/lib.rt:20:1
 same-length-2 : tie.Need-same-length-2
