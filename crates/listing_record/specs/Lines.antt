@@ -21,13 +21,17 @@ textLines word xs = cat (λ (x : List ℕ). lineOf word (escaped x)) xs
 abbrev pub propertyLines : List ℕ → List Property → List ℕ
 propertyLines word ps = cat (λ (p : Property). lineOf word (escaped (p .key) ++ (61 ∷ escaped (p .value)))) ps
 
--- the visited count, and what a state has one of
-abbrev pub settingLines : ℕ → State → List ℕ
+-- the rules visited and the devices tried (document 02, Item 9)
+abbrev pub countLines : ℕ → ℕ → List ℕ
 unfolding bytes
-settingLines visited s =
-    lineOf (bytes "visited") (decimal visited)
-    ++ (lineOf (bytes "priority") (signed (s .priority))
-    ++ (modeLine (s .mode) ++ (setLine (bytes "owner") (s .owner) ++ setLine (bytes "group") (s .group))))
+countLines visited tried = lineOf (bytes "visited") (decimal visited) ++ lineOf (bytes "tried") (decimal tried)
+
+-- what a state has one of
+abbrev pub settingLines : State → List ℕ
+unfolding bytes
+settingLines s =
+    lineOf (bytes "priority") (signed (s .priority))
+    ++ (modeLine (s .mode) ++ (setLine (bytes "owner") (s .owner) ++ setLine (bytes "group") (s .group)))
 
 -- links, properties, tags
 abbrev pub listLines : State → List ℕ
@@ -35,8 +39,8 @@ unfolding bytes
 listLines s = textLines (bytes "link") (s .links) ++ (propertyLines (bytes "env") (s .properties) ++ textLines (bytes "tag") (s .tags))
 
 -- all but the commands
-abbrev pub recordLines : ℕ → State → List ℕ
-recordLines visited s = settingLines visited s ++ listLines s
+abbrev pub recordLines : ℕ → ℕ → State → List ℕ
+recordLines visited tried s = countLines visited tried ++ (settingLines s ++ listLines s)
 
 -- lines of the state whose record the target t holds, written behind what is written so far
 abbrev pub StateBehind : (State → List ℕ) → List ℕ → Layout → List ℕ → Put → Put → List ℕ → Type 0

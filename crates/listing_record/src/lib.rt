@@ -1,4 +1,4 @@
-// The lines of the listing for the outcome record in the target.
+// The lines of the listing for a run's counts and the outcome record in the target.
 
 use insertion::Put;
 use outcome_target::Layout;
@@ -8,10 +8,10 @@ use rows::Kind;
 ghost use lib.ListN.{length};
 ghost use Rattle.lists.specs.Quoted.{bytes};
 ghost use Rattle.outcome_target.specs.Held.{Holds};
-ghost use Rattle.listing_lines.specs.Behind.{Within};
+ghost use Rattle.listing_lines.specs.Behind.{Within, Behind};
 ghost use Rattle.engine.specs.Listing.{signed, lineOf, modeLine, setLine};
 ghost use Rattle.outcome_target.specs.Texts.{textsIn};
-ghost use Rattle.listing_record.specs.Lines.{StateBehind, textLines, propertyLines, settingLines, listLines, recordLines};
+ghost use Rattle.listing_record.specs.Lines.{StateBehind, textLines, propertyLines, countLines, settingLines, listLines, recordLines};
 
 // The links or the tags.
 fn put_texts(out: &mut [u8], front: Put, word: &[u8], t: &[u8], layout: Layout, list: Texts) -> Put
@@ -69,13 +69,21 @@ fn put_group(out: &mut [u8], front: Put, t: &[u8], layout: Layout) -> Put
     listing_lines::put_set_line(out, front, b"group", &t[start..end])
 }
 
-// The visited count of the run that left the record, then what the record has one of.
-fn put_settings(out: &mut [u8], front: Put, visited: u32, t: &[u8], layout: Layout) -> Put
-    requires { ⌜ Within (length (now out)) front × Holds (now t) layout ⌝ }
-    ensures { λ r. ⌜ Within (length (now (out .exit))) r × StateBehind (λ s. settingLines visited s) (now (t .entry)) layout (now (out .entry)) front r (now (out .exit)) ⌝ }
+// The rules visited and the devices tried by the run that left the record.
+fn put_counts(out: &mut [u8], front: Put, visited: u32, tried: u32) -> Put
+    requires { ⌜ Within (length (now out)) front ⌝ }
+    ensures { λ r. ⌜ Within (length (now (out .exit))) r × Behind (countLines visited tried) (now (out .entry)) front r (now (out .exit)) ⌝ }
 {
     let visits = listing_lines::put_number_line(out, front, b"visited", visited);
-    let priority = put_priority(out, visits, b"priority", t, layout);
+    listing_lines::put_number_line(out, visits, b"tried", tried)
+}
+
+// What the record has one of.
+fn put_settings(out: &mut [u8], front: Put, t: &[u8], layout: Layout) -> Put
+    requires { ⌜ Within (length (now out)) front × Holds (now t) layout ⌝ }
+    ensures { λ r. ⌜ Within (length (now (out .exit))) r × StateBehind (λ s. settingLines s) (now (t .entry)) layout (now (out .entry)) front r (now (out .exit)) ⌝ }
+{
+    let priority = put_priority(out, front, b"priority", t, layout);
     let mode = put_mode(out, priority, t, layout);
     let owner = put_owner(out, mode, t, layout);
     put_group(out, owner, t, layout)
@@ -90,10 +98,18 @@ fn put_lists(out: &mut [u8], front: Put, t: &[u8], layout: Layout) -> Put
     put_texts(out, properties, b"tag", t, layout, Texts::Tags)
 }
 
-pub fn put_record(out: &mut [u8], front: Put, visited: u32, t: &[u8], layout: Layout) -> Put
+pub fn put_record(
+    out: &mut [u8],
+    front: Put,
+    visited: u32,
+    tried: u32,
+    t: &[u8],
+    layout: Layout,
+) -> Put
     requires { ⌜ Within (length (now out)) front × Holds (now t) layout ⌝ }
-    ensures { λ r. ⌜ Within (length (now (out .exit))) r × StateBehind (λ s. recordLines visited s) (now (t .entry)) layout (now (out .entry)) front r (now (out .exit)) ⌝ }
+    ensures { λ r. ⌜ Within (length (now (out .exit))) r × StateBehind (λ s. recordLines visited tried s) (now (t .entry)) layout (now (out .entry)) front r (now (out .exit)) ⌝ }
 {
-    let settings = put_settings(out, front, visited, t, layout);
+    let counts = put_counts(out, front, visited, tried);
+    let settings = put_settings(out, counts, t, layout);
     put_lists(out, settings, t, layout)
 }

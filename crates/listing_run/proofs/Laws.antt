@@ -66,9 +66,9 @@ pub appended-is : (y z o o₁ : List ℕ) (r : Put) → y ≡ z → Appended y o
 appended-is y z o o₁ r e a = subst (λ (x : List ℕ). Appended x o 0 r o₁) e a
 
 -- the lines of the record, then those of the commands
-pub listing-parts : (visited : ℕ) (s : State) (cs : List Command) → recordLines visited s ++ cat commandLine cs ≡ listingOf visited s cs
+pub listing-parts : (visited tried : ℕ) (s : State) (cs : List Command) → recordLines visited tried s ++ cat commandLine cs ≡ listingOf visited tried s cs
 unfolding listingOf bytes
-listing-parts visited s cs = simp append-assoc
+listing-parts visited tried s cs = simp append-assoc
 
 -- ---- numbers
 no-number : (f : Refusal) → number f ≡ 0 → ⊥
@@ -85,7 +85,7 @@ module _ (text dev out : List ℕ) where
   unfolding listingFrom listed printed bytes
   ran-refused n f e = rw e
 
-  ran-ok : (h : Halt State) (d : Device) → ran ≡ ok h → D.decode dev ≡ some d → listingFrom text dev out ≡ printed (closedListing (h .visited) d (h .state))
+  ran-ok : (h : Halt State) (d : Device) → ran ≡ ok h → D.decode dev ≡ some d → listingFrom text dev out ≡ printed (closedListing (h .visited) (h .tried) d (h .state))
   unfolding listingFrom listed
   ran-ok h d e f = rw (e, f)
 
@@ -123,7 +123,7 @@ module _ (text dev out : List ℕ) where
 
     -- what is left for the close: the device and the state, and what is then listed
     abbrev Leaves : Type 0
-    Leaves = (d : Device) × (s : State) × LeftBy dev bs (g .used) d s × (listingFrom text dev out ≡ printed (closedListing (g .visited) d s))
+    Leaves = (d : Device) × (s : State) × LeftBy dev bs (g .used) d s × (listingFrom text dev out ≡ printed (closedListing (g .visited) (g .tried) d s))
 
     pub run-left : Bytes out → length bs ≡ fullestOutcome → g .number ≡ 0 → Leaves
     unfolding runs.run runs.answer
@@ -139,7 +139,7 @@ module _ (text dev out : List ℕ) where
               d,
               h .state,
               record { device = f; held = record { good = engine-good d (h .state) w; bytes = b; layout = refl; room = omega (arith, len) }; end = u },
-              ran-ok h d q f ∙ ap (λ (v : ℕ). printed (closedListing v d (h .state))) (sym (ap (λ (x : runs.Answer). x .visited) a)),
+              ran-ok h d q f ∙ ap (λ (x : runs.Answer). printed (closedListing (x .visited) (x .tried) d (h .state))) (sym a),
             )
 
 -- ---- the close
@@ -168,12 +168,12 @@ module _ (dev t : List ℕ) (used : ℕ) (d : Device) (s : State) (w : LeftBy de
     unfolding operations.close
     close-answer = e ∙ ap (operations.given fullestRunList) closes
 
-    pub close-refused : (visited : ℕ) → (g .number ≡ 0 → ⊥) → refusalLine (g .number) (g .line) ≡ printed (closedListing visited d s)
+    pub close-refused : (visited tried : ℕ) → (g .number ≡ 0 → ⊥) → refusalLine (g .number) (g .line) ≡ printed (closedListing visited tried d s)
     unfolding printed bytes
-    close-refused visited z = go made close-answer
+    close-refused visited tried z = go made close-answer
       where
         go : (c : Checked Refusal (List Command)) → answered g list ≡ operations.given fullestRunList (onLine 0 c >>= λ cs. ok (runList cs))
-            → refusalLine (g .number) (g .line) ≡ printed (onLine 0 c >>= λ cs. ok (listingOf visited s cs))
+            → refusalLine (g .number) (g .line) ≡ printed (onLine 0 c >>= λ cs. ok (listingOf visited tried s cs))
         go (refused f) a = rw (ap (λ (x : runs.Answer). x .number) a, ap (λ (x : runs.Answer). x .line) a) refl
         go (ok cs) a = absurd (z (ap (λ (x : runs.Answer). x .number) a))
 
@@ -195,9 +195,9 @@ module _ (dev t : List ℕ) (used : ℕ) (d : Device) (s : State) (w : LeftBy de
               },
             )
 
-  pub made-listing : (visited : ℕ) (cs : List Command) → made ≡ ok cs → listingOf visited s cs ≡ printed (closedListing visited d s)
+  pub made-listing : (visited tried : ℕ) (cs : List Command) → made ≡ ok cs → listingOf visited tried s cs ≡ printed (closedListing visited tried d s)
   unfolding printed
-  made-listing visited cs e = rw e refl
+  made-listing visited tried cs e = rw e refl
 
 -- ---- the check of the record
 

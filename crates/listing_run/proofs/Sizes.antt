@@ -1,4 +1,4 @@
--- No listing is longer than 86,848 bytes.
+-- No listing is longer than 86,865 bytes.
 -- Assumes nothing.
 use Prim.Native.Nat.{ℕ, zero, suc, _+_, _-_, _*_, _/_, _%_, _≤_}
 use mathlib.Core.Path.{_≡_}
@@ -120,34 +120,35 @@ owner-size word x h = omega (arith, set-size word x, leb-true (length x) mostOwn
 
 -- ---- listings
 
-listing-size : (visited n : ℕ) (s : State) (cs : List Command) → O.Good n s → Made (length (s .runs)) cs → length (listingOf visited s cs) ≤ 86848
+listing-size : (visited tried n : ℕ) (s : State) (cs : List Command) → O.Good n s → Made (length (s .runs)) cs → length (listingOf visited tried s cs) ≤ 86865
 unfolding listingOf bytes
-listing-size visited n s cs g m =
+listing-size visited tried n s cs g m =
     let a = line-size (bytes "visited") (decimal visited) in
+    let k = line-size (bytes "tried") (decimal tried) in
     let b = line-size (bytes "priority") (signed (s .priority)) in
     let l = cat-size (λ x. lineOf (bytes "link") (escaped x)) okLink 518 link-size (s .links) (g .links .each) in
     let p = cat-size envLine okProp 1286 env-size (s .properties) (g .properties .each) in
     let t = cat-size (λ x. lineOf (bytes "tag") (escaped x)) okTag 261 tag-size (s .tags) (g .tags .each) in
     let c = cat-size commandLine shortText 2057 command-size cs (m .each) in
     simp length-append
-    (omega (arith, a, b, l, p, t, c, decimal-size visited, signed-size (s .priority), mode-size (s .mode), owner-size (bytes "owner") (s .owner) (g .owner), owner-size (bytes "group") (s .group) (g .group), g .links .few, g .properties .few, g .tags .few, g .runs .few, m .count))
+    (omega (arith, a, k, b, l, p, t, c, decimal-size visited, decimal-size tried, signed-size (s .priority), mode-size (s .mode), owner-size (bytes "owner") (s .owner) (g .owner), owner-size (bytes "group") (s .group) (g .group), g .links .few, g .properties .few, g .tags .few, g .runs .few, m .count))
 
 refusal-size : (n : ℕ) (f : Refusal) → length (printed (refused (line n f))) ≤ 35
 unfolding printed bytes
 refusal-size n f = simp length-append (omega (arith, decimal-size (number f), decimal-size n))
 
-printed-size : (c : Checked (Placed Refusal) (List ℕ)) → Holds (λ (l : List ℕ). length l ≤ 86848) c → length (printed c) ≤ 86848
+printed-size : (c : Checked (Placed Refusal) (List ℕ)) → Holds (λ (l : List ℕ). length l ≤ 86865) c → length (printed c) ≤ 86865
 unfolding printed
 printed-size (refused (line n f)) h = omega (arith, refusal-size n f)
 printed-size (ok l) h = h
 
-pub listing-fits : (text dev out : List ℕ) → Bytes out → length (listingFrom text dev out) ≤ 86848
+pub listing-fits : (text dev out : List ℕ) → Bytes out → length (listingFrom text dev out) ≤ 86865
 unfolding listingFrom listed
 listing-fits text dev out by =
-    let Q : List ℕ → Type 0 = λ l. length l ≤ 86848 in
+    let Q : List ℕ → Type 0 = λ l. length l ≤ 86865 in
     printed-size (listed text dev out)
     (holds-bind (Ends text dev out) Q (runChecked engine text dev out fullestOutcome) _ (run-ends text dev out by) λ h w.
     holds-bind (λ (d : Device). D.decode dev ≡ some d) Q (found (D.decode dev) (line 0 device-bad)) _ (holds-found (D.decode dev) (line 0 device-bad)) λ d f.
     holds-bind (Made (length (h .state .runs))) Q (onLine 0 (commands d (h .state .properties) (h .state .runs))) _
     (holds-onLine (Made (length (h .state .runs))) 0 (commands d (h .state .properties) (h .state .runs)) (commands-made d (h .state .properties) (h .state .runs))) λ cs m.
-    listing-size (h .visited) (length (chain (w .0))) (h .state) cs (engine-good (w .0) (h .state) (w .2)) m)
+    listing-size (h .visited) (h .tried) (length (chain (w .0))) (h .state) cs (engine-good (w .0) (h .state) (w .2)) m)

@@ -26,9 +26,9 @@ pub record Made (list : List ℕ) (cs : List Command) : Type 0 where
   pub short : All (λ (c : Command). length (c .text) < 1024) cs
 
 -- the record of a state in the target, and its run list
-abbrev pub OfBoth : ℕ → List ℕ → Layout → List ℕ → List ℕ → Put → List ℕ → Type 0
-OfBoth visited t lay list o r o₁ =
-    (n : ℕ) (s : State) → Held n t lay s → (cs : List Command) → Made list cs → Appended (listingOf visited s cs) o 0 r o₁
+abbrev pub OfBoth : ℕ → ℕ → List ℕ → Layout → List ℕ → List ℕ → Put → List ℕ → Type 0
+OfBoth visited tried t lay list o r o₁ =
+    (n : ℕ) (s : State) → Held n t lay s → (cs : List Command) → Made list cs → Appended (listingOf visited tried s cs) o 0 r o₁
 
 -- what a run left in the target beside a device record
 pub record LeftBy (dev t : List ℕ) (used : ℕ) (d : Device) (s : State) : Type 0 where
@@ -40,8 +40,8 @@ abbrev pub Left : List ℕ → List ℕ → ℕ → Type 0
 Left dev t used = (d : Device) × (s : State) × LeftBy dev t used d s
 
 -- the listing of a state beside its commands, if they can be made
-abbrev pub closedListing : ℕ → Device → State → Checked (Placed Refusal) (List ℕ)
-closedListing visited d s = onLine 0 (commands d (s .properties) (s .runs)) >>= λ cs. ok (listingOf visited s cs)
+abbrev pub closedListing : ℕ → ℕ → Device → State → Checked (Placed Refusal) (List ℕ)
+closedListing visited tried d s = onLine 0 (commands d (s .properties) (s .runs)) >>= λ cs. ok (listingOf visited tried s cs)
 
-abbrev pub OfLeft : ℕ → List ℕ → List ℕ → ℕ → List ℕ → Put → List ℕ → Type 0
-OfLeft visited dev t used o r o₁ = (d : Device) (s : State) → LeftBy dev t used d s → Appended (printed (closedListing visited d s)) o 0 r o₁
+abbrev pub OfLeft : ℕ → ℕ → List ℕ → List ℕ → ℕ → List ℕ → Put → List ℕ → Type 0
+OfLeft visited tried dev t used o r o₁ = (d : Device) (s : State) → LeftBy dev t used d s → Appended (printed (closedListing visited tried d s)) o 0 r o₁

@@ -13,18 +13,25 @@ ghost use Rattle.listing_commands.specs.Lines.{Stands};
 ghost use Rattle.listing_run.specs.Listed.{OfBoth, OfLeft, Left};
 
 // What a run left and what its close made.
-fn put_both(out: &mut [u8], visited: u32, t: &[u8], layout: Layout, list: &[u8]) -> Put
+fn put_both(out: &mut [u8], visited: u32, tried: u32, t: &[u8], layout: Layout, list: &[u8]) -> Put
     requires { ⌜ Holds (now t) layout × Stands (now list) ⌝ }
-    ensures { λ r. ⌜ OfBoth visited (now (t .entry)) layout (now (list .entry)) (now (out .entry)) r (now (out .exit)) ⌝ }
+    ensures { λ r. ⌜ OfBoth visited tried (now (t .entry)) layout (now (list .entry)) (now (out .entry)) r (now (out .exit)) ⌝ }
 {
-    let put = listing_record::put_record(out, Put::Done(0), visited, t, layout);
+    let put = listing_record::put_record(out, Put::Done(0), visited, tried, t, layout);
     listing_commands::put_commands(out, put, list)
 }
 
 // The close of what a run left, and the listing of both.
-fn list_closed(out: &mut [u8], visited: u32, device: &[u8], t: &[u8], used: usize) -> Put
+fn list_closed(
+    out: &mut [u8],
+    visited: u32,
+    tried: u32,
+    device: &[u8],
+    t: &[u8],
+    used: usize,
+) -> Put
     requires { ⌜ Left (now device) (now t) used ⌝ }
-    ensures { λ r. ⌜ OfLeft visited (now (device .entry)) (now (t .entry)) used (now (out .entry)) r (now (out .exit)) ⌝ }
+    ensures { λ r. ⌜ OfLeft visited tried (now (device .entry)) (now (t .entry)) used (now (out .entry)) r (now (out .exit)) ⌝ }
 {
     let mut list: [u8; 8225] = [0; 8225];
     let closed = close::close(device, &t[..used], &mut list);
@@ -35,7 +42,7 @@ fn list_closed(out: &mut [u8], visited: u32, device: &[u8], t: &[u8], used: usiz
     let Checked::Sound(layout) = outcome_check::check(&t[..used], chain.len) else {
         return Put::Full;
     };
-    put_both(out, visited, t, layout, &list)
+    put_both(out, visited, tried, t, layout, &list)
 }
 
 // From an outcome record.
@@ -47,7 +54,14 @@ pub fn list_from(text: &[u8], device: &[u8], outcome: &[u8], out: &mut [u8]) -> 
     if ran.number != 0 {
         return listing_lines::put_refusal_line(out, Put::Done(0), ran.number, ran.line);
     }
-    list_closed(out, ran.visited, device, &target, ran.used as usize)
+    list_closed(
+        out,
+        ran.visited,
+        ran.tried,
+        device,
+        &target,
+        ran.used as usize,
+    )
 }
 
 // From the fresh outcome record of the device.

@@ -2,51 +2,38 @@
 -- Assumes nothing.
 use mathlib.Core.List.{_++_}
 use Rattle.lists.specs.Quoted.{bytes}
-use Rattle.template.specs.Decimal.{decimal}
 use Rattle.engine.specs.Listing.{signed, lineOf, setLine, modeLine}
 use Rattle.listing_lines.proofs.Laws.{behind-both}
 use borrow.Author.Needs.{needs}
 use Rattle.listing_record.proofs.put_settings.Statement.{statement}
 use Rattle.listing_record.proofs.put_settings.Tie as tie
 
-slice-aggregate-put-number-line : tie.Need-slice-aggregate-put-number-line
-slice-aggregate-put-number-line c = search needs
-
-put-number-line-requires : tie.Need-put-number-line-requires
-put-number-line-requires c κs = search needs
-
-slice-aggregate-put-priority : tie.Need-slice-aggregate-put-priority
-slice-aggregate-put-priority c = search needs
-
-put-priority-requires : tie.Need-put-priority-requires
-put-priority-requires c κs = search needs
-
-put-mode-requires : tie.Need-put-mode-requires
-put-mode-requires c κs = search needs
-
-put-owner-requires : tie.Need-put-owner-requires
-put-owner-requires c κs = search needs
-
-put-group-requires : tie.Need-put-group-requires
-put-group-requires c κs = search needs
-
-same-length : tie.Need-same-length
-same-length c = search needs
-
 returns : tie.Need-returns
 unfolding bytes
-returns c = (c .before .before .put-group .ensures .0, λ n s h. (behind-both (lineOf (bytes "visited") (decimal (c .before .before .before .before .before .before .before .before .before .before .before .before .before .before .before .before .before .before .before .before .before .before .before .before .args .visited))) (lineOf (bytes "priority") (signed (s .priority)) ++ (modeLine (s .mode) ++ (setLine (bytes "owner") (s .owner) ++ (setLine (bytes "group") (s .group))))) (c .before .before .before .before .before .before .before .before .before .before .before .before .before .before .before .before .before .before .before .before .before .before .before .before .args .out .now) (c .before .before .before .before .before .before .before .before .before .before .before .before .before .before .before .before .before .before .before .put-number-line .last .0) (c .before .before .put-group .last .0) (c .before .before .before .before .before .before .before .before .before .before .before .before .before .before .before .before .before .before .before .before .before .before .before .before .args .front) (c .before .before .before .before .before .before .before .before .before .before .before .before .before .before .before .before .before .before .before .put-number-line .result) (c .before .before .put-group .result) (c .before .before .before .before .before .before .before .before .before .before .before .before .before .before .before .before .before .before .before .put-number-line .ensures .1) (behind-both (lineOf (bytes "priority") (signed (s .priority))) (modeLine (s .mode) ++ (setLine (bytes "owner") (s .owner) ++ (setLine (bytes "group") (s .group)))) (c .before .before .before .before .before .before .before .before .before .before .before .before .before .before .before .before .before .before .before .put-number-line .last .0) (c .before .before .before .before .before .before .before .before .before .before .before .before .before .before .put-priority .last .0) (c .before .before .put-group .last .0) (c .before .before .before .before .before .before .before .before .before .before .before .before .before .before .before .before .before .before .before .put-number-line .result) (c .before .before .before .before .before .before .before .before .before .before .before .before .before .before .put-priority .result) (c .before .before .put-group .result) (c .before .before .before .before .before .before .before .before .before .before .before .before .before .before .put-priority .ensures .1 n s h) (behind-both (modeLine (s .mode)) (setLine (bytes "owner") (s .owner) ++ (setLine (bytes "group") (s .group))) (c .before .before .before .before .before .before .before .before .before .before .before .before .before .before .put-priority .last .0) (c .before .before .before .before .before .before .before .before .before .before .put-mode .last .0) (c .before .before .put-group .last .0) (c .before .before .before .before .before .before .before .before .before .before .before .before .before .before .put-priority .result) (c .before .before .before .before .before .before .before .before .before .before .put-mode .result) (c .before .before .put-group .result) (c .before .before .before .before .before .before .before .before .before .before .put-mode .ensures .1 n s h) (behind-both (setLine (bytes "owner") (s .owner)) (setLine (bytes "group") (s .group)) (c .before .before .before .before .before .before .before .before .before .before .put-mode .last .0) (c .before .before .before .before .before .before .put-owner .last .0) (c .before .before .put-group .last .0) (c .before .before .before .before .before .before .before .before .before .before .put-mode .result) (c .before .before .before .before .before .before .put-owner .result) (c .before .before .put-group .result) (c .before .before .before .before .before .before .put-owner .ensures .1 n s h) (c .before .before .put-group .ensures .1 n s h))))))
+returns c =
+    let args = c .before .before .before .before .before .before .before .before .before .before .before .before .before .before .before .before .before .before .before .args in
+    let priority = c .before .before .before .before .before .before .before .before .before .before .before .before .before .before .put-priority in
+    let mode = c .before .before .before .before .before .before .before .before .before .before .put-mode in
+    let owner = c .before .before .before .before .before .before .put-owner in
+    let group = c .before .before .put-group in (
+      group .ensures .0,
+      λ n s h.
+          let groupLine = setLine (bytes "group") (s .group) in
+          let ownerLine = setLine (bytes "owner") (s .owner) in
+          behind-both (lineOf (bytes "priority") (signed (s .priority))) (modeLine (s .mode) ++ (ownerLine ++ groupLine)) (args .out .now) (priority .last .0) (group .last .0) (args .front) (priority .result) (group .result)
+          (priority .ensures .1 n s h)
+          (behind-both (modeLine (s .mode)) (ownerLine ++ groupLine) (priority .last .0) (mode .last .0) (group .last .0) (priority .result) (mode .result) (group .result) (mode .ensures .1 n s h)
+          (behind-both ownerLine groupLine (mode .last .0) (owner .last .0) (group .last .0) (mode .result) (owner .result) (group .result) (owner .ensures .1 n s h) (group .ensures .1 n s h))),
+    )
 
 pub put-settings-spec : {M : Type 1} → statement M
 put-settings-spec =
     tie.close
     (tie.spec
-    slice-aggregate-put-number-line
-    put-number-line-requires
-    slice-aggregate-put-priority
-    put-priority-requires
-    put-mode-requires
-    put-owner-requires
-    put-group-requires
-    same-length
+    (λ c. search needs)
+    (λ c κs. search needs)
+    (λ c κs. search needs)
+    (λ c κs. search needs)
+    (λ c κs. search needs)
+    (λ c. search needs)
     returns)

@@ -31,7 +31,7 @@ same-length : tie.Need-same-length
 same-length c = search needs
 
 returns : tie.Need-returns
-returns c = λ d s w. appended-is (refusalLine (c .before .before .before .before .before .before .before .close .result .number) (c .before .before .before .before .before .before .before .close .result .line)) (printed (closedListing (c .before .before .before .before .before .before .before .before .before .before .before .before .before .args .visited) d s)) (c .before .before .before .before .before .before .before .before .before .before .before .before .before .args .out .now) (c .before .before .put-refusal-line .last .0) (c .before .before .put-refusal-line .result) (close-refused (c .before .before .before .before .before .before .before .before .before .before .before .before .before .args .device .now) (c .before .before .before .before .before .before .before .before .before .before .before .before .before .args .t .now) (c .before .before .before .before .before .before .before .before .before .before .before .before .before .args .used) d s w (c .before .before .before .before .before .before .before .close .result) (c .before .before .before .before .before .before .before .close .last .1 .1 .0) (c .before .before .before .before .before .before .before .close .ensures) (c .before .before .before .before .before .before .before .before .before .before .before .before .before .args .visited) (c .before .before .before .before .if1 .taken)) (from-start (refusalLine (c .before .before .before .before .before .before .before .close .result .number) (c .before .before .before .before .before .before .before .close .result .line)) (c .before .before .before .before .before .before .before .before .before .before .before .before .before .args .out .now) (c .before .before .put-refusal-line .last .0) (c .before .before .put-refusal-line .result) (c .before .before .put-refusal-line .ensures .1))
+returns c = λ d s w. appended-is (refusalLine (c .before .before .before .before .before .before .before .close .result .number) (c .before .before .before .before .before .before .before .close .result .line)) (printed (closedListing (c .before .before .before .before .before .before .before .before .before .before .before .before .before .args .visited) (c .before .before .before .before .before .before .before .before .before .before .before .before .before .args .tried) d s)) (c .before .before .before .before .before .before .before .before .before .before .before .before .before .args .out .now) (c .before .before .put-refusal-line .last .0) (c .before .before .put-refusal-line .result) (close-refused (c .before .before .before .before .before .before .before .before .before .before .before .before .before .args .device .now) (c .before .before .before .before .before .before .before .before .before .before .before .before .before .args .t .now) (c .before .before .before .before .before .before .before .before .before .before .before .before .before .args .used) d s w (c .before .before .before .before .before .before .before .close .result) (c .before .before .before .before .before .before .before .close .last .1 .1 .0) (c .before .before .before .before .before .before .before .close .ensures) (c .before .before .before .before .before .before .before .before .before .before .before .before .before .args .visited) (c .before .before .before .before .before .before .before .before .before .before .before .before .before .args .tried) (c .before .before .before .before .if1 .taken)) (from-start (refusalLine (c .before .before .before .before .before .before .before .close .result .number) (c .before .before .before .before .before .before .before .close .result .line)) (c .before .before .before .before .before .before .before .before .before .before .before .before .before .args .out .now) (c .before .before .put-refusal-line .last .0) (c .before .before .put-refusal-line .result) (c .before .before .put-refusal-line .ensures .1))
 
 chain-of-requires : tie.Need-chain-of-requires
 chain-of-requires c κs = let (d, s, w) = c .before .before .before .before .before .before .before .before .before .pre in (d, w .device)
@@ -61,7 +61,7 @@ same-length-2 : tie.Need-same-length-2
 same-length-2 c = search needs
 
 returns-3 : tie.Need-returns-3
-returns-3 c = λ d s w. let (cs, q, m) = close-made (c .before .before .before .before .before .before .before .before .before .before .before .before .before .before .before .before .before .before .before .before .args .device .now) (c .before .before .before .before .before .before .before .before .before .before .before .before .before .before .before .before .before .before .before .before .args .t .now) (c .before .before .before .before .before .before .before .before .before .before .before .before .before .before .before .before .before .before .before .before .args .used) d s w (c .before .before .before .before .before .before .before .before .before .before .before .before .before .before .close .result) (c .before .before .before .before .before .before .before .before .before .before .before .before .before .before .close .last .1 .1 .0) (c .before .before .before .before .before .before .before .before .before .before .before .before .before .before .close .ensures) (c .before .before .before .before .before .before .before .before .before .before .before .if1 .left) in appended-is (listingOf (c .before .before .before .before .before .before .before .before .before .before .before .before .before .before .before .before .before .before .before .before .args .visited) s cs) (printed (closedListing (c .before .before .before .before .before .before .before .before .before .before .before .before .before .before .before .before .before .before .before .before .args .visited) d s)) (c .before .before .before .before .before .before .before .before .before .before .before .before .before .before .before .before .before .before .before .before .args .out .now) (c .before .before .put-both .last .0) (c .before .before .put-both .result) (made-listing (c .before .before .before .before .before .before .before .before .before .before .before .before .before .before .before .before .before .before .before .before .args .device .now) (c .before .before .before .before .before .before .before .before .before .before .before .before .before .before .before .before .before .before .before .before .args .t .now) (c .before .before .before .before .before .before .before .before .before .before .before .before .before .before .before .before .before .before .before .before .args .used) d s w (c .before .before .before .before .before .before .before .before .before .before .before .before .before .before .before .before .before .before .before .before .args .visited) cs q) (c .before .before .put-both .ensures (length (chain d)) s (subst (λ (x : Layout). Held (length (chain d)) (c .before .before .before .before .before .before .before .before .before .before .before .before .before .before .before .before .before .before .before .before .args .t .now) x s) (sym (checked-layout (length (chain d)) (c .before .before .before .before .before .before .before .before .before .before .chain-of .result .len) (take (c .before .before .before .before .before .before .before .before .before .before .before .before .before .before .before .before .before .before .before .before .args .used) (c .before .before .before .before .before .before .before .before .before .before .before .before .before .before .before .before .before .before .before .before .args .t .now)) s (c .before .before .before .before .before .before .before .before .before .before .chain-of .ensures d (w .device) .len) (left-read (c .before .before .before .before .before .before .before .before .before .before .before .before .before .before .before .before .before .before .before .before .args .device .now) (c .before .before .before .before .before .before .before .before .before .before .before .before .before .before .before .before .before .before .before .before .args .t .now) (c .before .before .before .before .before .before .before .before .before .before .before .before .before .before .before .before .before .before .before .before .args .used) d s w) (c .before .before .before .before .before .before .layout .given .0 .0) (sym (c .before .before .before .before .before .before .layout .given .1) ∙ c .before .before .before .before .before .before .before .before .check .ensures))) (w .held)) cs m)
+returns-3 c = λ d s w. let (cs, q, m) = close-made (c .before .before .before .before .before .before .before .before .before .before .before .before .before .before .before .before .before .before .before .before .args .device .now) (c .before .before .before .before .before .before .before .before .before .before .before .before .before .before .before .before .before .before .before .before .args .t .now) (c .before .before .before .before .before .before .before .before .before .before .before .before .before .before .before .before .before .before .before .before .args .used) d s w (c .before .before .before .before .before .before .before .before .before .before .before .before .before .before .close .result) (c .before .before .before .before .before .before .before .before .before .before .before .before .before .before .close .last .1 .1 .0) (c .before .before .before .before .before .before .before .before .before .before .before .before .before .before .close .ensures) (c .before .before .before .before .before .before .before .before .before .before .before .if1 .left) in appended-is (listingOf (c .before .before .before .before .before .before .before .before .before .before .before .before .before .before .before .before .before .before .before .before .args .visited) (c .before .before .before .before .before .before .before .before .before .before .before .before .before .before .before .before .before .before .before .before .args .tried) s cs) (printed (closedListing (c .before .before .before .before .before .before .before .before .before .before .before .before .before .before .before .before .before .before .before .before .args .visited) (c .before .before .before .before .before .before .before .before .before .before .before .before .before .before .before .before .before .before .before .before .args .tried) d s)) (c .before .before .before .before .before .before .before .before .before .before .before .before .before .before .before .before .before .before .before .before .args .out .now) (c .before .before .put-both .last .0) (c .before .before .put-both .result) (made-listing (c .before .before .before .before .before .before .before .before .before .before .before .before .before .before .before .before .before .before .before .before .args .device .now) (c .before .before .before .before .before .before .before .before .before .before .before .before .before .before .before .before .before .before .before .before .args .t .now) (c .before .before .before .before .before .before .before .before .before .before .before .before .before .before .before .before .before .before .before .before .args .used) d s w (c .before .before .before .before .before .before .before .before .before .before .before .before .before .before .before .before .before .before .before .before .args .visited) (c .before .before .before .before .before .before .before .before .before .before .before .before .before .before .before .before .before .before .before .before .args .tried) cs q) (c .before .before .put-both .ensures (length (chain d)) s (subst (λ (x : Layout). Held (length (chain d)) (c .before .before .before .before .before .before .before .before .before .before .before .before .before .before .before .before .before .before .before .before .args .t .now) x s) (sym (checked-layout (length (chain d)) (c .before .before .before .before .before .before .before .before .before .before .chain-of .result .len) (take (c .before .before .before .before .before .before .before .before .before .before .before .before .before .before .before .before .before .before .before .before .args .used) (c .before .before .before .before .before .before .before .before .before .before .before .before .before .before .before .before .before .before .before .before .args .t .now)) s (c .before .before .before .before .before .before .before .before .before .before .chain-of .ensures d (w .device) .len) (left-read (c .before .before .before .before .before .before .before .before .before .before .before .before .before .before .before .before .before .before .before .before .args .device .now) (c .before .before .before .before .before .before .before .before .before .before .before .before .before .before .before .before .before .before .before .before .args .t .now) (c .before .before .before .before .before .before .before .before .before .before .before .before .before .before .before .before .before .before .before .before .args .used) d s w) (c .before .before .before .before .before .before .layout .given .0 .0) (sym (c .before .before .before .before .before .before .layout .given .1) ∙ c .before .before .before .before .before .before .before .before .check .ensures))) (w .held)) cs m)
 
 pub list-closed-spec : {M : Type 1} → statement M
 list-closed-spec =
