@@ -10,7 +10,7 @@ use crate::generate::{self, Case, Rooms};
 use crate::joined;
 use crate::operations::{self, Answer};
 
-/// Number, line, visited and used, then four zeros.
+/// Number, line, visited, used and tried, then three zeros.
 pub type AnswerArray = [u32; 8];
 
 pub trait Engine {
@@ -30,8 +30,9 @@ impl From<Answer> for AnswerArray {
             line,
             visited,
             used,
+            tried,
         } = answer;
-        [number, line, visited, used, 0, 0, 0, 0]
+        [number, line, visited, used, tried, 0, 0, 0]
     }
 }
 
@@ -82,6 +83,10 @@ impl Reply {
 
     pub fn visited(&self) -> u32 {
         self.answer[2]
+    }
+
+    pub fn tried(&self) -> u32 {
+        self.answer[4]
     }
 
     /// The target, cut at the used length.

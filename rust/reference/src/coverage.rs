@@ -6,7 +6,9 @@ use std::fmt;
 use crate::compare::{first_number, Operation, Reply};
 use crate::content::{Assignment, Content, Match, Subject};
 use crate::device::{Device, EVENT_DEVICE, NO_PLACE};
-use crate::engine::{feature_of, holds, is_closed, matched_place, Runner};
+use crate::engine::{
+    devices_tried, feature_of, has_parent_keys, holds, is_closed, matched_place, Runner,
+};
 use crate::generate::Case;
 use crate::key::{Key, Operator};
 use crate::outcome::Outcome;
@@ -49,10 +51,13 @@ pub enum Fact {
     RuleMatchedOtherwiseAfterIt,
     AbsentJudgedAgainstEmpty,
     PresentAndEmpty,
+    TriedSomeDevices,
+    TriedAllDevicesInVain,
+    TriedNoneForAnotherKey,
 }
 
 impl Fact {
-    pub const ALL: [Fact; 13] = [
+    pub const ALL: [Fact; 16] = [
         Fact::AcceptedRunVisitsRules,
         Fact::AcceptedRunSkipsRules,
         Fact::AcceptedRunChangesRecord,
@@ -66,6 +71,9 @@ impl Fact {
         Fact::RuleMatchedOtherwiseAfterIt,
         Fact::AbsentJudgedAgainstEmpty,
         Fact::PresentAndEmpty,
+        Fact::TriedSomeDevices,
+        Fact::TriedAllDevicesInVain,
+        Fact::TriedNoneForAnotherKey,
     ];
 }
 
@@ -161,6 +169,7 @@ impl Coverage {
             Some(_) => self.fact(Fact::ParentKeysMatchParent),
             None => self.fact_if(each_holds, Fact::ParentKeysMatchOnlyApart),
         }
+        self.see_search(rule, device, outcome);
         self.fact_if(matched.is_some() && rule.jump.is_some(), Fact::JumpTaken);
         for (_, content) in rule.matches() {
             self.see_features(content, device);
@@ -179,6 +188,19 @@ impl Coverage {
                 count.without_effect += 1;
             }
         }
+    }
+
+    fn see_search(&mut self, rule: &Rule, device: &Device, outcome: &Outcome) {
+        if !has_parent_keys(rule) {
+            return;
+        }
+        let matched = matched_place(rule, device, outcome);
+        let fact = match (devices_tried(rule, device, outcome), matched) {
+            (0, _) => Fact::TriedNoneForAnotherKey,
+            (_, None) => Fact::TriedAllDevicesInVain,
+            (_, Some(_)) => Fact::TriedSomeDevices,
+        };
+        self.fact(fact);
     }
 
     /// Looks for attributes and drivers that are absent or empty, where that makes a difference.

@@ -19,6 +19,15 @@ pub struct Runner<'a> {
     outcome: Outcome,
     next: usize,
     visited: u32,
+    tried: u32,
+}
+
+/// What a run leaves, with its counts.
+#[derive(Clone, Debug, PartialEq, Eq)]
+pub struct Finished {
+    pub visited: u32,
+    pub tried: u32,
+    pub outcome: Outcome,
 }
 
 impl<'a> Runner<'a> {
@@ -29,6 +38,7 @@ impl<'a> Runner<'a> {
             outcome,
             next: 0,
             visited: 0,
+            tried: 0,
         }
     }
 
@@ -44,6 +54,7 @@ impl<'a> Runner<'a> {
     /// Runs one rule.
     pub fn step(&mut self, rule: &Rule) -> Result<(), Refusal> {
         self.visited += 1;
+        self.tried += devices_tried(rule, self.device, &self.outcome) as u32;
         self.next += 1;
         if let Some(matched) = matched_place(rule, self.device, &self.outcome) {
             let mut assigner = Assigner {
@@ -62,30 +73,65 @@ impl<'a> Runner<'a> {
         Ok(())
     }
 
-    /// Runs the rules that are left, and gives the visited count with the outcome.
-    pub fn finish(mut self) -> Result<(u32, Outcome), Refusal> {
+    /// Runs the rules that are left.
+    pub fn finish(mut self) -> Result<Finished, Refusal> {
         while let Some(rule) = self.next_rule() {
             self.step(rule)?;
         }
-        Ok((self.visited, self.outcome))
+        Ok(Finished {
+            visited: self.visited,
+            tried: self.tried,
+            outcome: self.outcome,
+        })
     }
 }
 
 /// The place that the parent keys matched (none without parent keys), or `None` if the rule
 /// does not match.
 pub fn matched_place(rule: &Rule, device: &Device, outcome: &Outcome) -> Option<Place> {
-    let all_hold_at = |place: &Place| {
-        rule.matches()
-            .all(|(operator, content)| holds(operator, content, *place, device, outcome))
-    };
-    // The other match keys hold at every place or at none.
-    let nearest = (EVENT_DEVICE..=device.chain.len()).find(all_hold_at)?;
-    let has_parent_keys = rule.matches().any(|(_, content)| is_parent_key(content));
-    Some(if has_parent_keys { nearest } else { NO_PLACE })
+    if !other_keys_hold(rule, device, outcome) {
+        None
+    } else if has_parent_keys(rule) {
+        nearest_place(rule, device, outcome)
+    } else {
+        Some(NO_PLACE)
+    }
+}
+
+/// How many devices the search for the parent keys tries: up to the nearest that satisfies
+/// them, or all. Without parent keys, or if another key does not hold, there is no search.
+pub fn devices_tried(rule: &Rule, device: &Device, outcome: &Outcome) -> usize {
+    if has_parent_keys(rule) && other_keys_hold(rule, device, outcome) {
+        nearest_place(rule, device, outcome).unwrap_or(device.chain.len())
+    } else {
+        0
+    }
+}
+
+pub fn has_parent_keys(rule: &Rule) -> bool {
+    rule.matches().any(|(_, content)| is_parent_key(content))
 }
 
 fn is_parent_key(content: &Match) -> bool {
     matches!(content.subject, Subject::OfChain(_))
+}
+
+/// Whether all match keys but the parent keys hold.
+fn other_keys_hold(rule: &Rule, device: &Device, outcome: &Outcome) -> bool {
+    // They are the same at every place.
+    rule.matches()
+        .filter(|(_, content)| !is_parent_key(content))
+        .all(|(operator, content)| holds(operator, content, EVENT_DEVICE, device, outcome))
+}
+
+/// The nearest place at which all parent keys hold.
+fn nearest_place(rule: &Rule, device: &Device, outcome: &Outcome) -> Option<Place> {
+    let all_hold_at = |place: &Place| {
+        rule.matches()
+            .filter(|(_, content)| is_parent_key(content))
+            .all(|(operator, content)| holds(operator, content, *place, device, outcome))
+    };
+    (EVENT_DEVICE..=device.chain.len()).find(all_hold_at)
 }
 
 /// Whether a match key holds; a parent key is judged at the place.

@@ -54,6 +54,7 @@ fn expected_of_join(runs: &[Reply], list: &JoinList) -> Option<Reply> {
     let mut expected = runs.last()?.clone();
     if expected.number() == 0 {
         expected.answer[2] = runs.iter().map(Reply::visited).sum();
+        expected.answer[4] = runs.iter().map(Reply::tried).sum();
     } else {
         let texts_before = &list.texts[..runs.len() - 1];
         expected.answer[1] += newlines(&texts_before.concat());

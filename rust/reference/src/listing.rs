@@ -1,6 +1,6 @@
 //! The listing of what a text makes of a device.
 
-use crate::engine::Runner;
+use crate::engine::{Finished, Runner};
 use crate::operations::{decode_device, decode_outcome, make_run_list};
 use crate::outcome::Outcome;
 use crate::refusal::Refusal;
@@ -29,14 +29,20 @@ fn list_from(text: &[u8], device: &[u8], outcome: &[u8]) -> Result<Vec<u8>, Refu
     let rules = rules::read(text)?;
     let device = decode_device(device)?;
     let outcome = decode_outcome(outcome, &device)?;
-    let (visited, outcome) = Runner::new(&rules, &device, outcome).finish()?;
-    let run_list = make_run_list(&outcome, &device)?;
-    Ok(lines(visited, &outcome, &run_list))
+    let finished = Runner::new(&rules, &device, outcome).finish()?;
+    let run_list = make_run_list(&finished.outcome, &device)?;
+    Ok(lines(&finished, &run_list))
 }
 
-fn lines(visited: u32, outcome: &Outcome, run_list: &RunList) -> Vec<u8> {
+fn lines(finished: &Finished, run_list: &RunList) -> Vec<u8> {
+    let Finished {
+        visited,
+        tried,
+        outcome,
+    } = finished;
     let mut lines = Lines(Vec::new());
     lines.add("visited", visited.to_string().as_bytes());
+    lines.add("tried", tried.to_string().as_bytes());
     lines.add("priority", outcome.priority.to_string().as_bytes());
     if let Some(mode) = outcome.mode {
         lines.add("mode", format!("{mode:04o}").as_bytes());

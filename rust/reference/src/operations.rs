@@ -14,6 +14,7 @@ pub struct Answer {
     pub line: u32,
     pub visited: u32,
     pub used: u32,
+    pub tried: u32,
 }
 
 impl From<Refusal> for Answer {
@@ -26,8 +27,10 @@ impl From<Refusal> for Answer {
     }
 }
 
+#[derive(Default)]
 struct Accepted {
     visited: u32,
+    tried: u32,
     record: Vec<u8>,
 }
 
@@ -60,10 +63,12 @@ pub fn close(device: &[u8], outcome: &[u8], target: &mut [u8]) -> Answer {
 fn deliver(result: Result<Accepted, Refusal>, target: &mut [u8]) -> Answer {
     target.fill(0);
     match result {
-        Ok(Accepted { visited, record }) => {
-            target[..record.len()].copy_from_slice(&record);
+        Ok(accepted) => {
+            let record = &accepted.record;
+            target[..record.len()].copy_from_slice(record);
             Answer {
-                visited,
+                visited: accepted.visited,
+                tried: accepted.tried,
                 used: record.len() as u32,
                 ..Answer::default()
             }
@@ -76,8 +81,8 @@ fn make_fresh(device: &[u8], room: usize) -> Result<Accepted, Refusal> {
     check_room(room, sizes::OUTCOME_TARGET)?;
     let device = decode_device(device)?;
     Ok(Accepted {
-        visited: 0,
         record: Outcome::fresh(&device).encode(),
+        ..Accepted::default()
     })
 }
 
@@ -86,10 +91,11 @@ fn make_run(text: &[u8], device: &[u8], outcome: &[u8], room: usize) -> Result<A
     let rules = rules::read(text)?;
     let device = decode_device(device)?;
     let outcome = decode_outcome(outcome, &device)?;
-    let (visited, outcome) = Runner::new(&rules, &device, outcome).finish()?;
+    let finished = Runner::new(&rules, &device, outcome).finish()?;
     Ok(Accepted {
-        visited,
-        record: outcome.encode(),
+        visited: finished.visited,
+        tried: finished.tried,
+        record: finished.outcome.encode(),
     })
 }
 
@@ -99,8 +105,8 @@ fn make_close(device: &[u8], outcome: &[u8], room: usize) -> Result<Accepted, Re
     let outcome = decode_outcome(outcome, &device)?;
     let run_list = make_run_list(&outcome, &device)?;
     Ok(Accepted {
-        visited: 0,
         record: run_list.encode(),
+        ..Accepted::default()
     })
 }
 

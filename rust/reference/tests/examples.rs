@@ -142,7 +142,7 @@ const LISTED_RULE: &str = "KERNEL==\"ttyUSB[0-9]*\", ATTRS{serial}==\"RC-0417\",
 #[test]
 fn listing_example() {
     let listing = reference::listing(LISTED_RULE.as_bytes(), &tty_usb0().encode(), None);
-    let expected = "visited 1\npriority 0\nmode 0660\ngroup dialout\nlink rope/trip0\n";
+    let expected = "visited 1\ntried 2\npriority 0\nmode 0660\ngroup dialout\nlink rope/trip0\n";
     assert_eq!(string(&listing), expected);
 }
 
@@ -162,6 +162,7 @@ fn listing_of_everything() {
                 KERNEL==\"no\", TAG+=\"v\"\n";
     let listing = reference::listing(text.as_bytes(), &device.encode(), None);
     let expected = "visited 3\n\
+                    tried 0\n\
                     priority -5\n\
                     mode 0005\n\
                     owner root\n\
@@ -186,7 +187,7 @@ fn listing_from_a_given_outcome() {
     };
     let record = outcome.encode();
     let listing = reference::listing(b"TAG+=\"x\"", &device.encode(), Some(&record));
-    let expected = "visited 1\npriority 0\nmode 0600\ntag seat\ntag x\n";
+    let expected = "visited 1\ntried 0\npriority 0\nmode 0600\ntag seat\ntag x\n";
     assert_eq!(string(&listing), expected);
     let listing = reference::listing(b"", &device.encode(), Some(&record[1..]));
     assert_eq!(string(&listing), "refused 4 line 0\n");

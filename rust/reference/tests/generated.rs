@@ -10,6 +10,7 @@ use reference::generate::rng::Rng;
 use reference::generate::{case, pairing_shape};
 use reference::key::{Operator, KEYS};
 use reference::refusal::Fault;
+use reference::Device;
 
 const CASES: u64 = 50_000;
 
@@ -85,6 +86,23 @@ fn cases_reach_everything() {
     }
 }
 
+#[test]
+fn no_run_tries_more_than_its_chain_for_each_visited_rule() {
+    let mut at_the_bound = 0;
+    for seed in 0..CASES / 10 {
+        let case = case(seed);
+        let Some(device) = Device::decode(&case.device) else {
+            continue;
+        };
+        for reply in replies(&Reference, &case) {
+            let bound = reply.visited() * device.chain.len() as u32;
+            assert!(reply.tried() <= bound, "seed {seed}");
+            at_the_bound += u32::from(bound > 0 && reply.tried() == bound);
+        }
+    }
+    assert!(at_the_bound > 20, "{at_the_bound} at the bound");
+}
+
 /// The reference with a change to what some operation gives.
 struct Flawed {
     flaw: fn(&mut [u32; 8], &mut [u8]),
@@ -131,6 +149,7 @@ fn the_comparison_finds_flaws() {
     assert!(finds(|answer, _| answer[1] += u32::from(answer[0] > 9)));
     assert!(finds(|answer, _| answer[2] = 1));
     assert!(finds(|answer, _| answer[3] += u32::from(answer[3] > 20)));
+    assert!(finds(|answer, _| answer[4] += u32::from(answer[4] > 0)));
     assert!(finds(|answer, _| answer[7] = 1));
     assert!(finds(|answer, target| if answer[0] == 0 {
         if let Some(last) = target.last_mut() {

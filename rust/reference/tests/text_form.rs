@@ -36,7 +36,7 @@ fn device_of_the_readme() {
     let rule = b"KERNEL==\"ttyUSB[0-9]*\", ATTRS{serial}==\"RC-0417\", \
                  SYMLINK+=\"rope/trip%n\", MODE=\"0660\", GROUP=\"dialout\"";
     let listing = reference::listing(rule, &device.encode(), None);
-    let expected = "visited 1\npriority 0\nmode 0660\ngroup dialout\nlink rope/trip0\n";
+    let expected = "visited 1\ntried 2\npriority 0\nmode 0660\ngroup dialout\nlink rope/trip0\n";
     assert_eq!(string(&listing), expected);
     assert_eq!(show_device(&device), example("device"));
 }

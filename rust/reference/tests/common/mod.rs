@@ -122,7 +122,11 @@ pub fn refusal(text: &str, device: &Device) -> (u32, u32) {
 pub fn refusal_on(text: &str, device: &Device, outcome: &Outcome) -> (u32, u32) {
     let (answer, record) = run_from(text, device, outcome);
     assert_ne!(answer.number, 0, "{text}");
-    assert_eq!((answer.visited, answer.used), (0, 0), "{text}");
+    assert_eq!(
+        (answer.visited, answer.tried, answer.used),
+        (0, 0, 0),
+        "{text}"
+    );
     assert!(record.is_empty());
     (answer.number, answer.line)
 }
@@ -130,7 +134,7 @@ pub fn refusal_on(text: &str, device: &Device, outcome: &Outcome) -> (u32, u32) 
 /// The number and line that a check gives.
 pub fn check(text: impl AsRef<[u8]>) -> (u32, u32) {
     let answer = reference::check(text.as_ref());
-    assert_eq!((answer.visited, answer.used), (0, 0));
+    assert_eq!((answer.visited, answer.tried, answer.used), (0, 0, 0));
     (answer.number, answer.line)
 }
 
@@ -148,7 +152,7 @@ pub fn runs_of(text: &str, device: &Device) -> Vec<String> {
 pub fn close(device: &Device, outcome: &Outcome) -> (u32, u32, Vec<u8>) {
     let mut target = vec![0xAA; RUN_LIST_TARGET];
     let answer = reference::close(&device.encode(), &outcome.encode(), &mut target);
-    assert_eq!(answer.visited, 0);
+    assert_eq!((answer.visited, answer.tried), (0, 0));
     let (record, rest) = target.split_at(answer.used as usize);
     assert!(
         rest.iter().all(|&byte| byte == 0),
