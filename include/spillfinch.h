@@ -11,7 +11,10 @@
  *   answer[SPILLFINCH_LINE]     the line of the rules text that is refused, from 1; 0 if the refusal is about no line
  *   answer[SPILLFINCH_VISITED]  how many rules had their matching begun; 0 for all but a run
  *   answer[SPILLFINCH_USED]     the length of the record at the start of the target; 0 after a refusal and for a check
- *   answer[4] to answer[7]      0, kept for later counts
+ *   answer[SPILLFINCH_TRIED]    how many devices were tried for the parent keys (KERNELS, SUBSYSTEMS, DRIVERS, ATTRS) of all rules: for a
+ *                               visited rule with such keys whose other keys hold, the place of the nearest device that has them all, from 1, or
+ *                               the length of the chain if none has; at most the visited count times that length; 0 for all but a run
+ *   answer[5] to answer[7]      0, kept for later counts
  *
  * All bytes of `target` are written in every call: behind the record they are zero, after a refusal all of them are.
  */
@@ -54,6 +57,7 @@ enum spillfinch_answer {
     SPILLFINCH_LINE = 1,
     SPILLFINCH_VISITED = 2,
     SPILLFINCH_USED = 3,
+    SPILLFINCH_TRIED = 4,
     SPILLFINCH_ANSWER_LENGTH = 8
 };
 

@@ -59,6 +59,11 @@ fn main() {
         &DEVICE,
     );
     show(
+        b"devices tried: another key fails; no device has the serial; the event device",
+        b"KERNELS==\"1-2\", KERNEL==\"sda\", TAG+=\"a\"\x0aATTRS{serial}==\"none\", TAG+=\"b\"\x0aKERNELS==\"ttyUSB0\"\x0a",
+        &DEVICE,
+    );
+    show(
         b"bytes that are not printed",
         b"ENV{Q}=\"a\x09b~\x7f\\ \xc3\xa9\", TAG+=\"x\x01 y\"",
         &DEVICE,
