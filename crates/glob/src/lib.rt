@@ -22,14 +22,9 @@ fn byte_or_bar(pattern: &[u8], i: usize) -> u8
 fn is_plain(b: u8) -> bool
     ensures { λ r. ⌜ r ≡ not (isSpecial b) ⌝ }
 {
-    if b'[' < b {
-        return b != b'|';
-    }
-    if b'?' < b {
-        return b != b'[';
-    }
     match b {
-        b'*' | b'?' => false,
+        b'a'..=b'z' | b'A'..=b'Z' | b'0'..=b'9' => true,
+        b'*' | b'?' | b'[' | b'|' => false,
         _ => true,
     }
 }

@@ -1,31 +1,30 @@
 -- `glob::is_plain` meets its contract.
 -- Assumes nothing.
-use mathlib.Core.Bool.{or-false}
-use mathlib.Core.Logic.{⊎-elim, inl, inr}
-use native.Mathlib.Omega.{arith}
+use Prim.Native.Nat.{ℕ}
+use mathlib.Core.Path.{_≡_}
+use mathlib.Core.Bool.{true, not}
+use mathlib.Core.Logic.{_⊎_, ⊎-elim, inl, inr}
 use borrow.Author.Tests.{ne-eqb}
-use lib.Dec.{eqb}
+use Rattle.pattern.specs.Pattern.{isSpecial}
 use Rattle.glob.proofs.is_plain.Statement.{statement}
 use Rattle.glob.proofs.is_plain.Tie as tie
 
-returns : tie.Need-returns
-returns c =
-    let b = c .before .args .b in
-    rw (ne-eqb b 42 (λ e. omega arith), ne-eqb b 63 (λ e. omega arith), ne-eqb b 91 (λ e. omega arith))
+plain : (b : ℕ) → ((b ≡ 42) ⊎ ((b ≡ 63) ⊎ ((b ≡ 91) ⊎ (b ≡ 124))) → ⊥) → true ≡ not (isSpecial b)
+plain b n =
+    rw (ne-eqb b 42 (λ e. n (inl e)), ne-eqb b 63 (λ e. n (inr (inl e))), ne-eqb b 91 (λ e. n (inr (inr (inl e)))), ne-eqb b 124 (λ e. n (inr (inr (inr e)))))
 
-returns-2 : tie.Need-returns-2
-returns-2 c =
-    let b = c .before .before .args .b in
-    rw (ne-eqb b 42 (λ e. omega arith), ne-eqb b 63 (λ e. omega arith), ne-eqb b 124 (λ e. omega arith), or-false (eqb b 91))
-
-returns-3 : tie.Need-returns-3
-returns-3 c = ⊎-elim (λ w. rw w) (λ w. rw w) (c .match .keys1)
-
-returns-4 : tie.Need-returns-4
-returns-4 c =
-    let b = c .before .before .before .args .b in
-    let n = c .match .rest .1 in
-    rw (ne-eqb b 42 (λ e. n (inl e)), ne-eqb b 63 (λ e. n (inr e)), ne-eqb b 91 (λ e. omega arith), ne-eqb b 124 (λ e. omega arith))
+special : tie.Need-returns
+special c = ⊎-elim (λ w. rw w) (⊎-elim (λ w. rw w) (⊎-elim (λ w. rw w) (λ w. rw w))) (c .match .keys1)
 
 pub is-plain-spec : {M : Type 1} → statement M
-is-plain-spec = tie.close (tie.spec returns returns-2 returns-3 returns-4)
+is-plain-spec =
+    tie.close
+    (tie.spec
+    special
+    (λ c. plain _ (c .before .before .match .rest .1))
+    (λ c. plain _ (c .before .before .before .before .match .rest .1))
+    (λ c. plain _ (c .before .before .before .before .before .before .match .rest .1))
+    (λ c. plain _ (c .before .match .rest .1))
+    (λ c. plain _ (c .before .before .before .match .rest .1))
+    (λ c. plain _ (c .before .before .before .before .before .match .rest .1))
+    (λ c. plain _ (c .before .before .before .before .before .before .match .rest .1)))
