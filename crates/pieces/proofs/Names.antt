@@ -1,7 +1,7 @@
 -- Names and letters behind their signs.
 -- Assumes nothing.
 use Prim.Native.Nat.{ℕ, _+_, _≤_, _<_}
-use mathlib.Core.Path.{_≡_, refl, sym}
+use mathlib.Core.Path.{_≡_, refl, sym, _∙_}
 use mathlib.Core.Bool.{Bool, true, false}
 use mathlib.Core.List.{List, [], _∷_}
 use mathlib.Core.Option.{none, some}
@@ -16,8 +16,8 @@ use Rattle.lists.specs.Bytes.{starts}
 use Rattle.lists.specs.Quoted.{bytes}
 use Rattle.lists.proofs.Rest.{rest-at, byte-in}
 use Rattle.lists.proofs.Tests.{and-both}
-use Rattle.template.specs.Template.{Piece, plain, braced, kernel, number, devpath, id, driver, major, minor, attr, env, names, letters, nameIn, textIn, withText, namedPiece}
-use Rattle.pieces.specs.Read.{Read, piece, fault, itemRead, ifNamed, PieceWithin, Ahead, Within}
+use Rattle.template.specs.Template.{Piece, Named, plain, braced, kernel, number, devpath, id, driver, major, minor, attr, env, names, letters, nameIn, textIn, withText, namedPiece}
+use Rattle.pieces.specs.Read.{piece, fault, itemRead, afterPercent, afterDollar, ifNamed, meaning, PieceWithin, Ahead, Within}
 use Rattle.pieces.specs.declared.Piece as P
 use Rattle.pieces.specs.declared.PieceRead.{PieceRead}
 use Rattle.pieces.specs.declared.PieceRead.the-variants as Reads
@@ -29,13 +29,6 @@ unfolding starts
 name-inside [] bs e = omega arith
 name-inside (x ∷ name) [] e = let z : _≡_ {A = ℕ} 0 1 = cc in absurd (omega arith)
 name-inside (x ∷ name) (y ∷ bs) e = let k = name-inside name bs (and-both (eqb x y) (starts name bs) e .1) in omega arith
-
--- what the tables give at a place
-abbrev pub lettered : List ℕ → ℕ → Read
-lettered t i = itemRead (namedPiece (nameIn letters (drop i t)) (drop i t)) i
-
-abbrev pub dollared : List ℕ → ℕ → Read
-dollared t i = itemRead (namedPiece (nameIn names (drop i t)) (drop i t)) i
 
 -- a name of which all but a test is known
 choose : (u : Bool) (name : List ℕ) (p : Piece) (bs : List ℕ) (i : ℕ) → itemRead (namedPiece (pick u (some (record { name = name; form = plain p })) none) bs) i ≡ pick u (piece p (i + length name)) fault
@@ -57,70 +50,73 @@ module _ (t : List ℕ) (i : ℕ) where
       go (yes h) = rw (rest-at t i h, ne-eqb x (getD t i 0) (λ e. n (sym e)))
       go (no h) = rw (drop-of-length-le t {i = i} (omega arith))
 
-  -- one byte, and a piece that takes no text
-  pub one-ahead : (b : ℕ) (p : P.Piece) → getD t i 0 ≡ b → 0 < b → PieceWithin p t → Ahead p (i + 1) t i
-  one-ahead b p e h w = record { forward = omega arith; inside = omega (arith, byte-in t i b e h); text = w }
+  -- one byte that stands in a table for a piece without a text
+  pub one-byte : {b : ℕ} (table : List Named) (p : P.Piece) → getD t i 0 ≡ b → 0 < b → PieceWithin p t
+      → nameIn table (b ∷ drop (i + 1) t) ≡ some (record { name = b ∷ []; form = plain (meaning p t) })
+      → (piece (meaning p t) (i + 1) ≡ itemRead (namedPiece (nameIn table (drop i t)) (drop i t)) i) × Ahead p (i + 1) t i
+  one-byte {b} table p e h w f =
+      (rw (open-at t i b e h, f), record { forward = omega arith; inside = omega (arith, byte-in t i b e h); text = w })
 
   -- ---- letters that take a text
 
-  pub letter-s : getD t i 0 ≡ 115 → lettered t i ≡ itemRead (withText attr 0 (textIn (drop (i + 1) t))) (i + 1)
+  pub letter-s : getD t i 0 ≡ 115 → afterPercent t i ≡ itemRead (withText attr 0 (textIn (drop (i + 1) t))) (i + 1)
   unfolding letters nameIn starts
   letter-s e = rw (open-at t i 115 e (omega arith)) (sym (braced-behind attr 1 i (textIn (drop (i + 1) t))))
 
-  pub letter-E : getD t i 0 ≡ 69 → lettered t i ≡ itemRead (withText env 0 (textIn (drop (i + 1) t))) (i + 1)
+  pub letter-E : getD t i 0 ≡ 69 → afterPercent t i ≡ itemRead (withText env 0 (textIn (drop (i + 1) t))) (i + 1)
   unfolding letters nameIn starts
   letter-E e = rw (open-at t i 69 e (omega arith)) (sym (braced-behind env 1 i (textIn (drop (i + 1) t))))
 
-  pub letter-none :
-      (getD t i 0 ≡ 107 → ⊥)
-      → (getD t i 0 ≡ 110 → ⊥)
-      → (getD t i 0 ≡ 112 → ⊥)
-      → (getD t i 0 ≡ 98 → ⊥)
-      → (getD t i 0 ≡ 115 → ⊥)
-      → (getD t i 0 ≡ 69 → ⊥)
-      → (getD t i 0 ≡ 77 → ⊥)
-      → (getD t i 0 ≡ 109 → ⊥)
-      → (getD t i 0 ≡ 37 → ⊥)
-      → lettered t i ≡ fault
-  unfolding letters nameIn
-  letter-none k n p b s E M m c = rw (not-begun 107 [] k, not-begun 110 [] n, not-begun 112 [] p, not-begun 98 [] b, not-begun 115 [] s, not-begun 69 [] E, not-begun 77 [] M, not-begun 109 [] m, not-begun 37 [] c)
+  -- a byte that is no letter of the table
+  module _ {b : ℕ} (e : b ≡ getD t i 0) (sign : b ≡ 37 → ⊥) where
+    other : (x : ℕ) → (b ≡ x → ⊥) → starts (x ∷ []) (drop i t) ≡ false
+    other x n = not-begun x [] (λ f. n (e ∙ f))
+
+    pub letter-none : (b ≡ 107 → ⊥) → (b ≡ 110 → ⊥) → (b ≡ 112 → ⊥) → (b ≡ 98 → ⊥) → (b ≡ 115 → ⊥) → (b ≡ 69 → ⊥) → (b ≡ 77 → ⊥) → (b ≡ 109 → ⊥) → fault ≡ afterPercent t i
+    unfolding letters nameIn
+    letter-none k n p d s E M m = rw (other 107 k, other 110 n, other 112 p, other 98 d, other 115 s, other 69 E, other 77 M, other 109 m, other 37 sign)
+
+    pub no-letter : (65 ≤ b → b ≤ 90 → ⊥) → (97 ≤ b → b ≤ 122 → ⊥) → fault ≡ afterPercent t i
+    no-letter C S =
+        letter-none (λ q. S (omega arith) (omega arith)) (λ q. S (omega arith) (omega arith)) (λ q. S (omega arith) (omega arith)) (λ q. S (omega arith) (omega arith))
+        (λ q. S (omega arith) (omega arith)) (λ q. C (omega arith) (omega arith)) (λ q. C (omega arith) (omega arith)) (λ q. S (omega arith) (omega arith))
 
   -- ---- names
 
-  pub name-k : getD t i 0 ≡ 107 → dollared t i ≡ ifNamed (bytes "kernel") kernel t i
+  pub name-k : getD t i 0 ≡ 107 → afterDollar t i ≡ ifNamed (bytes "kernel") kernel t i
   unfolding names nameIn starts bytes
   name-k e = rw (open-at t i 107 e (omega arith)) (choose (starts (bytes "ernel") (drop (i + 1) t)) (bytes "kernel") kernel (107 ∷ drop (i + 1) t) i)
 
-  pub name-n : getD t i 0 ≡ 110 → dollared t i ≡ ifNamed (bytes "number") number t i
+  pub name-n : getD t i 0 ≡ 110 → afterDollar t i ≡ ifNamed (bytes "number") number t i
   unfolding names nameIn starts bytes
   name-n e = rw (open-at t i 110 e (omega arith)) (choose (starts (bytes "umber") (drop (i + 1) t)) (bytes "number") number (110 ∷ drop (i + 1) t) i)
 
-  pub name-i : getD t i 0 ≡ 105 → dollared t i ≡ ifNamed (bytes "id") id t i
+  pub name-i : getD t i 0 ≡ 105 → afterDollar t i ≡ ifNamed (bytes "id") id t i
   unfolding names nameIn starts bytes
   name-i e = rw (open-at t i 105 e (omega arith)) (choose (starts (bytes "d") (drop (i + 1) t)) (bytes "id") id (105 ∷ drop (i + 1) t) i)
 
 -- names with a common first byte, told apart by the second
 
 module _ (t : List ℕ) (i : ℕ) where
-  pub name-de : getD t i 0 ≡ 100 → getD t (i + 1) 0 ≡ 101 → dollared t i ≡ ifNamed (bytes "devpath") devpath t i
+  pub name-de : getD t i 0 ≡ 100 → getD t (i + 1) 0 ≡ 101 → afterDollar t i ≡ ifNamed (bytes "devpath") devpath t i
   unfolding names nameIn starts bytes
   name-de e f =
       rw (open-at t i 100 e (omega arith), open-at t (i + 1) 101 f (omega arith))
       (choose (starts (bytes "vpath") (drop (i + 1 + 1) t)) (bytes "devpath") devpath (100 ∷ 101 ∷ drop (i + 1 + 1) t) i)
 
-  pub name-d : getD t i 0 ≡ 100 → (getD t (i + 1) 0 ≡ 101 → ⊥) → dollared t i ≡ ifNamed (bytes "driver") driver t i
+  pub name-d : getD t i 0 ≡ 100 → (getD t (i + 1) 0 ≡ 101 → ⊥) → afterDollar t i ≡ ifNamed (bytes "driver") driver t i
   unfolding names nameIn starts bytes
   name-d e n =
       rw (open-at t i 100 e (omega arith), not-begun t (i + 1) 101 (bytes "vpath") n)
       (choose (starts (bytes "river") (drop (i + 1) t)) (bytes "driver") driver (100 ∷ drop (i + 1) t) i)
 
-  pub name-ma : getD t i 0 ≡ 109 → getD t (i + 1) 0 ≡ 97 → dollared t i ≡ ifNamed (bytes "major") major t i
+  pub name-ma : getD t i 0 ≡ 109 → getD t (i + 1) 0 ≡ 97 → afterDollar t i ≡ ifNamed (bytes "major") major t i
   unfolding names nameIn starts bytes
   name-ma e f =
       rw (open-at t i 109 e (omega arith), open-at t (i + 1) 97 f (omega arith))
       (choose (starts (bytes "jor") (drop (i + 1 + 1) t)) (bytes "major") major (109 ∷ 97 ∷ drop (i + 1 + 1) t) i)
 
-  pub name-m : getD t i 0 ≡ 109 → (getD t (i + 1) 0 ≡ 97 → ⊥) → dollared t i ≡ ifNamed (bytes "minor") minor t i
+  pub name-m : getD t i 0 ≡ 109 → (getD t (i + 1) 0 ≡ 97 → ⊥) → afterDollar t i ≡ ifNamed (bytes "minor") minor t i
   unfolding names nameIn starts bytes
   name-m e n =
       rw (open-at t i 109 e (omega arith), not-begun t (i + 1) 97 (bytes "jor") n)
@@ -128,42 +124,43 @@ module _ (t : List ℕ) (i : ℕ) where
 
   -- ---- names that take a text
 
-  pub name-a : getD t i 0 ≡ 97 → dollared t i ≡ pick (starts (bytes "attr") (drop i t)) (itemRead (withText attr 0 (textIn (drop (i + 4) t))) (i + 4)) fault
+  pub name-a : getD t i 0 ≡ 97 → afterDollar t i ≡ pick (starts (bytes "attr") (drop i t)) (itemRead (withText attr 0 (textIn (drop (i + 4) t))) (i + 4)) fault
   unfolding names nameIn starts bytes
   name-a e =
       rw (braced-behind attr 4 i (textIn (drop (i + 4) t)), ← drop-drop 4 i t, open-at t i 97 e (omega arith))
       (choose-braced (starts (bytes "ttr") (drop (i + 1) t)) (bytes "attr") attr (97 ∷ drop (i + 1) t) i)
 
-  pub name-e : getD t i 0 ≡ 101 → dollared t i ≡ pick (starts (bytes "env") (drop i t)) (itemRead (withText env 0 (textIn (drop (i + 3) t))) (i + 3)) fault
+  pub name-e : getD t i 0 ≡ 101 → afterDollar t i ≡ pick (starts (bytes "env") (drop i t)) (itemRead (withText env 0 (textIn (drop (i + 3) t))) (i + 3)) fault
   unfolding names nameIn starts bytes
   name-e e =
       rw (braced-behind env 3 i (textIn (drop (i + 3) t)), ← drop-drop 3 i t, open-at t i 101 e (omega arith))
       (choose-braced (starts (bytes "nv") (drop (i + 1) t)) (bytes "env") env (101 ∷ drop (i + 1) t) i)
 
-  pub name-none :
-      (getD t i 0 ≡ 107 → ⊥)
-      → (getD t i 0 ≡ 110 → ⊥)
-      → (getD t i 0 ≡ 100 → ⊥)
-      → (getD t i 0 ≡ 105 → ⊥)
-      → (getD t i 0 ≡ 97 → ⊥)
-      → (getD t i 0 ≡ 101 → ⊥)
-      → (getD t i 0 ≡ 109 → ⊥)
-      → (getD t i 0 ≡ 36 → ⊥)
-      → dollared t i ≡ fault
-  unfolding names nameIn bytes
-  name-none k n d i′ a e m s =
-      rw (
-        not-begun t i 107 (bytes "ernel") k,
-        not-begun t i 110 (bytes "umber") n,
-        not-begun t i 100 (bytes "evpath") d,
-        not-begun t i 105 (bytes "d") i′,
-        not-begun t i 100 (bytes "river") d,
-        not-begun t i 97 (bytes "ttr") a,
-        not-begun t i 101 (bytes "nv") e,
-        not-begun t i 109 (bytes "ajor") m,
-        not-begun t i 109 (bytes "inor") m,
-        not-begun t i 36 [] s,
-      )
+  -- a byte that no name begins with
+  module _ {b : ℕ} (e : b ≡ getD t i 0) (sign : b ≡ 36 → ⊥) where
+    other-name : (x : ℕ) (name : List ℕ) → (b ≡ x → ⊥) → starts (x ∷ name) (drop i t) ≡ false
+    other-name x name n = not-begun t i x name (λ f. n (e ∙ f))
+
+    pub name-none : (b ≡ 107 → ⊥) → (b ≡ 110 → ⊥) → (b ≡ 100 → ⊥) → (b ≡ 105 → ⊥) → (b ≡ 97 → ⊥) → (b ≡ 101 → ⊥) → (b ≡ 109 → ⊥) → fault ≡ afterDollar t i
+    unfolding names nameIn bytes
+    name-none k n d i′ a e′ m =
+        rw (
+          other-name 107 (bytes "ernel") k,
+          other-name 110 (bytes "umber") n,
+          other-name 100 (bytes "evpath") d,
+          other-name 105 (bytes "d") i′,
+          other-name 100 (bytes "river") d,
+          other-name 97 (bytes "ttr") a,
+          other-name 101 (bytes "nv") e′,
+          other-name 109 (bytes "ajor") m,
+          other-name 109 (bytes "inor") m,
+          other-name 36 [] sign,
+        )
+
+    pub no-name : (97 ≤ b → b ≤ 122 → ⊥) → fault ≡ afterDollar t i
+    no-name S =
+        name-none (λ q. S (omega arith) (omega arith)) (λ q. S (omega arith) (omega arith)) (λ q. S (omega arith) (omega arith)) (λ q. S (omega arith) (omega arith))
+        (λ q. S (omega arith) (omega arith)) (λ q. S (omega arith) (omega arith)) (λ q. S (omega arith) (omega arith))
 
 -- bounds behind n bytes are bounds before them
 pub behind : (t : List ℕ) (i n : ℕ) (r : PieceRead) → Within r t (i + n) → Within r t i

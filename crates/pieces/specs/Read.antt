@@ -9,7 +9,7 @@ use Rattle.lists.specs.Lists.{pick, isSome}
 use Rattle.lists.specs.Bytes.{starts}
 use Rattle.lists.specs.Items.{Item}
 use Rattle.template.specs.Template as T
-use Rattle.template.specs.Template.{pieceAt, pieces}
+use Rattle.template.specs.Template.{names, letters, nameIn, namedPiece, pieceAt, pieces}
 use Rattle.pieces.specs.declared.Piece.{Piece}
 use Rattle.pieces.specs.declared.Piece.the-variants.{Written, Kernel, Number, Devpath, Id, Driver, Major, Minor, Attr, Env, Dollar, Percent}
 use Rattle.pieces.specs.declared.PieceRead.{PieceRead}
@@ -34,6 +34,13 @@ readFrom (b ∷ bs) i = itemRead (pieceAt b bs) (i + 1)
 -- what stands at a place of a template
 unfoldable pub readAt : List ℕ → ℕ → Read
 readAt template i = readFrom (drop i template) i
+
+-- what stands behind a per cent sign, and behind a dollar sign
+abbrev pub afterPercent : List ℕ → ℕ → Read
+afterPercent template i = itemRead (namedPiece (nameIn letters (drop i template)) (drop i template)) i
+
+abbrev pub afterDollar : List ℕ → ℕ → Read
+afterDollar template i = itemRead (namedPiece (nameIn names (drop i template)) (drop i template)) i
 
 -- a piece if its name begins at a place
 abbrev pub ifNamed : List ℕ → T.Piece → List ℕ → ℕ → Read

@@ -1,10 +1,10 @@
 // Reads a template piece by piece, and writes a number in decimal.
 ghost use mathlib.Core.Path.{_≡_};
 ghost use Prim.Native.Nat.{_+_, _≤_, _<_};
-ghost use lib.ListN.{length, drop};
-ghost use Rattle.template.specs.Template.{attr, env, names, letters, nameIn, textIn, withText, namedPiece, wellFormed};
+ghost use lib.ListN.{length, getD, drop};
+ghost use Rattle.template.specs.Template.{attr, env, textIn, withText, wellFormed};
 ghost use Rattle.pieces.specs.Number.{DigitsOf};
-ghost use Rattle.pieces.specs.Read.{meaning, told, itemRead, readAt, ifNamed, PieceWithin, Within, textTold, TextWithin, PassesWritten};
+ghost use Rattle.pieces.specs.Read.{meaning, told, itemRead, readAt, afterPercent, afterDollar, ifNamed, PieceWithin, Within, textTold, TextWithin, PassesWritten};
 
 // A piece of a template; of a text in braces its start and its length.
 pub enum Piece {
@@ -74,9 +74,10 @@ fn env_at(template: &[u8], at: usize) -> PieceRead
 
 // ---- behind a per cent sign
 
+// The piece of a letter.
 fn letter_at(template: &[u8], at: usize) -> PieceRead
-    requires { ⌜ at ≤ length (now template) ⌝ }
-    ensures { λ r. ⌜ (told r (now (template .entry)) ≡ itemRead (namedPiece (nameIn letters (drop at (now (template .entry)))) (drop at (now (template .entry)))) at) × Within r (now (template .entry)) at ⌝ }
+    requires { ⌜ (at ≤ length (now template)) × (getD (now template) at 0 ≡ 37 → ⊥) ⌝ }
+    ensures { λ r. ⌜ (told r (now (template .entry)) ≡ afterPercent (now (template .entry)) at) × Within r (now (template .entry)) at ⌝ }
 {
     match scan::byte_at(template, at) {
         b'k' => PieceRead::Read(Piece::Kernel, at + 1),
@@ -87,6 +88,17 @@ fn letter_at(template: &[u8], at: usize) -> PieceRead
         b'E' => env_at(template, at + 1),
         b'M' => PieceRead::Read(Piece::Major, at + 1),
         b'm' => PieceRead::Read(Piece::Minor, at + 1),
+        _ => PieceRead::Fault,
+    }
+}
+
+// A letter, or a second per cent sign.
+fn after_percent(template: &[u8], at: usize) -> PieceRead
+    requires { ⌜ at ≤ length (now template) ⌝ }
+    ensures { λ r. ⌜ (told r (now (template .entry)) ≡ afterPercent (now (template .entry)) at) × Within r (now (template .entry)) at ⌝ }
+{
+    match scan::byte_at(template, at) {
+        b'a'..=b'z' | b'A'..=b'Z' => letter_at(template, at),
         b'%' => PieceRead::Read(Piece::Percent, at + 1),
         _ => PieceRead::Fault,
     }
@@ -107,8 +119,8 @@ fn if_named(template: &[u8], at: usize, name: &[u8], p: Piece) -> PieceRead
 }
 
 fn name_at(template: &[u8], at: usize) -> PieceRead
-    requires { ⌜ at ≤ length (now template) ⌝ }
-    ensures { λ r. ⌜ (told r (now (template .entry)) ≡ itemRead (namedPiece (nameIn names (drop at (now (template .entry)))) (drop at (now (template .entry)))) at) × Within r (now (template .entry)) at ⌝ }
+    requires { ⌜ (at ≤ length (now template)) × (getD (now template) at 0 ≡ 36 → ⊥) ⌝ }
+    ensures { λ r. ⌜ (told r (now (template .entry)) ≡ afterDollar (now (template .entry)) at) × Within r (now (template .entry)) at ⌝ }
 {
     match scan::byte_at(template, at) {
         b'k' => if_named(template, at, b"kernel", Piece::Kernel),
@@ -134,6 +146,17 @@ fn name_at(template: &[u8], at: usize) -> PieceRead
         } else {
             if_named(template, at, b"minor", Piece::Minor)
         },
+        _ => PieceRead::Fault,
+    }
+}
+
+// A name, which begins with a small letter, or a second dollar sign.
+fn after_dollar(template: &[u8], at: usize) -> PieceRead
+    requires { ⌜ at ≤ length (now template) ⌝ }
+    ensures { λ r. ⌜ (told r (now (template .entry)) ≡ afterDollar (now (template .entry)) at) × Within r (now (template .entry)) at ⌝ }
+{
+    match scan::byte_at(template, at) {
+        b'a'..=b'z' => name_at(template, at),
         b'$' => PieceRead::Read(Piece::Dollar, at + 1),
         _ => PieceRead::Fault,
     }
@@ -148,8 +171,8 @@ pub fn piece_at(template: &[u8], at: usize) -> PieceRead
         return PieceRead::End;
     }
     match template[at] {
-        b'$' => name_at(template, at + 1),
-        b'%' => letter_at(template, at + 1),
+        b'$' => after_dollar(template, at + 1),
+        b'%' => after_percent(template, at + 1),
         b => PieceRead::Read(Piece::Written(b), at + 1),
     }
 }

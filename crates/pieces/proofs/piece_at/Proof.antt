@@ -14,33 +14,17 @@ returns c =
     let args = c .before .before .args in
     (sym (read-end (args .template .now) (args .at) (c .if1 .taken)), tt)
 
-shared-slice-read-match : tie.Need-shared-slice-read-match
-shared-slice-read-match c = search needs
-
-add-name-at : tie.Need-add-name-at
-add-name-at c = omega arith
-
-name-at-requires : tie.Need-name-at-requires
-name-at-requires c κs = omega arith
-
-add-letter-at : tie.Need-add-letter-at
-add-letter-at c = omega arith
-
-letter-at-requires : tie.Need-letter-at-requires
-letter-at-requires c κs = omega arith
-
-add-t13 : tie.Need-add-t13
-add-t13 c = omega arith
-
 returns-2 : tie.Need-returns-2
 returns-2 c =
     let args = c .before .before .before .before .before .args in
-    (c .name-at .ensures .0 ∙ sym (read-byte (args .template .now) (args .at) 36 (open-at (args .template .now) (args .at) 36 (c .before .match .keys1) (omega arith))), behind (args .template .now) (args .at) 1 (c .name-at .result) (c .name-at .ensures .1))
+    let here = open-at (args .template .now) (args .at) 36 (c .before .match .keys1) (omega arith) in
+    (c .after-dollar .ensures .0 ∙ sym (read-byte (args .template .now) (args .at) 36 here), behind (args .template .now) (args .at) 1 (c .after-dollar .result) (c .after-dollar .ensures .1))
 
 returns-3 : tie.Need-returns-3
 returns-3 c =
     let args = c .before .before .before .before .before .args in
-    (c .letter-at .ensures .0 ∙ sym (read-byte (args .template .now) (args .at) 37 (open-at (args .template .now) (args .at) 37 (c .before .match .keys2) (omega arith))), behind (args .template .now) (args .at) 1 (c .letter-at .result) (c .letter-at .ensures .1))
+    let here = open-at (args .template .now) (args .at) 37 (c .before .match .keys2) (omega arith) in
+    (c .after-percent .ensures .0 ∙ sym (read-byte (args .template .now) (args .at) 37 here), behind (args .template .now) (args .at) 1 (c .after-percent .result) (c .after-percent .ensures .1))
 
 returns-4 : tie.Need-returns-4
 returns-4 c =
@@ -52,12 +36,12 @@ piece-at-spec =
     tie.close
     (tie.spec
     returns
-    shared-slice-read-match
-    add-name-at
-    name-at-requires
-    add-letter-at
-    letter-at-requires
-    add-t13
+    (λ c. search needs)
+    (λ c. search needs)
+    (λ c κs. search needs)
+    (λ c. search needs)
+    (λ c κs. search needs)
+    (λ c. search needs)
     returns-2
     returns-3
     returns-4)
