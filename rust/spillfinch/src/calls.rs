@@ -1,0 +1,93 @@
+//! The operations as the library exports them: any bytes, any room, the whole answer.
+
+/// The numbers that every call writes.
+pub type Answer = [u32; 8];
+
+/// Places in an answer.
+pub const NUMBER: usize = 0;
+pub const LINE: usize = 1;
+pub const VISITED: usize = 2;
+pub const USED: usize = 3;
+
+extern "C" {
+    fn spillfinch_check(text: *const u8, text_length: usize, answer: *mut Answer);
+
+    fn spillfinch_fresh(
+        device: *const u8,
+        device_length: usize,
+        target: *mut u8,
+        target_length: usize,
+        answer: *mut Answer,
+    );
+
+    fn spillfinch_run(
+        text: *const u8,
+        text_length: usize,
+        device: *const u8,
+        device_length: usize,
+        outcome: *const u8,
+        outcome_length: usize,
+        target: *mut u8,
+        target_length: usize,
+        answer: *mut Answer,
+    );
+
+    fn spillfinch_close(
+        device: *const u8,
+        device_length: usize,
+        outcome: *const u8,
+        outcome_length: usize,
+        target: *mut u8,
+        target_length: usize,
+        answer: *mut Answer,
+    );
+}
+
+// Each call gives pointers and lengths of slices that live through it; what is written is
+// borrowed mutably, so it overlaps nothing else.
+
+pub fn check(text: &[u8], answer: &mut Answer) {
+    unsafe { spillfinch_check(text.as_ptr(), text.len(), answer) }
+}
+
+pub fn fresh(device: &[u8], target: &mut [u8], answer: &mut Answer) {
+    unsafe {
+        spillfinch_fresh(
+            device.as_ptr(),
+            device.len(),
+            target.as_mut_ptr(),
+            target.len(),
+            answer,
+        );
+    }
+}
+
+pub fn run(text: &[u8], device: &[u8], outcome: &[u8], target: &mut [u8], answer: &mut Answer) {
+    unsafe {
+        spillfinch_run(
+            text.as_ptr(),
+            text.len(),
+            device.as_ptr(),
+            device.len(),
+            outcome.as_ptr(),
+            outcome.len(),
+            target.as_mut_ptr(),
+            target.len(),
+            answer,
+        );
+    }
+}
+
+pub fn close(device: &[u8], outcome: &[u8], target: &mut [u8], answer: &mut Answer) {
+    unsafe {
+        spillfinch_close(
+            device.as_ptr(),
+            device.len(),
+            outcome.as_ptr(),
+            outcome.len(),
+            target.as_mut_ptr(),
+            target.len(),
+            answer,
+        );
+    }
+}

@@ -1,0 +1,77 @@
+//! Safe bindings of the proved udev rules engine: a function an operation, with typed answers.
+//!
+//! The C functions of `include/spillfinch.h` are declared here and nowhere else.
+
+pub mod calls;
+mod refusal;
+pub mod sizes;
+
+pub use refusal::{Refusal, Refused};
+
+use calls::Answer;
+
+/// What a run leaves.
+#[derive(Clone, Debug, PartialEq, Eq)]
+pub struct Ran {
+    /// How many rules had their matching begun.
+    pub visited: u32,
+    /// The outcome record.
+    pub record: Vec<u8>,
+}
+
+/// Reads a rules text without a device; the refusal is that of its first fault.
+pub fn check(text: &[u8]) -> Result<(), Refused> {
+    let mut answer = Answer::default();
+    calls::check(text, &mut answer);
+    accepted(&answer)
+}
+
+/// The outcome record that a device starts with.
+pub fn fresh(device: &[u8]) -> Result<Vec<u8>, Refused> {
+    let (_, record) = written(sizes::OUTCOME_ROOM, |target, answer| {
+        calls::fresh(device, target, answer);
+    })?;
+    Ok(record)
+}
+
+/// Runs a rules text for a device, from an outcome record to the next one.
+pub fn run(text: &[u8], device: &[u8], outcome: &[u8]) -> Result<Ran, Refused> {
+    let (answer, record) = written(sizes::OUTCOME_ROOM, |target, answer| {
+        calls::run(text, device, outcome, target, answer);
+    })?;
+    Ok(Ran {
+        visited: answer[calls::VISITED],
+        record,
+    })
+}
+
+/// The run list of an outcome record.
+pub fn close(device: &[u8], outcome: &[u8]) -> Result<Vec<u8>, Refused> {
+    let (_, list) = written(sizes::RUN_LIST_ROOM, |target, answer| {
+        calls::close(device, outcome, target, answer);
+    })?;
+    Ok(list)
+}
+
+fn accepted(answer: &Answer) -> Result<(), Refused> {
+    match answer[calls::NUMBER] {
+        0 => Ok(()),
+        number => Err(Refused {
+            refusal: Refusal::of_number(number).expect("the header names every number"),
+            line: answer[calls::LINE],
+        }),
+    }
+}
+
+/// The answer of a call and what it wrote, cut at its length.
+fn written(
+    room: usize,
+    call: impl FnOnce(&mut [u8], &mut Answer),
+) -> Result<(Answer, Vec<u8>), Refused> {
+    let mut target = vec![0; room];
+    let mut answer = Answer::default();
+    call(&mut target, &mut answer);
+    accepted(&answer)?;
+    target.truncate(answer[calls::USED] as usize);
+    Ok((answer, target))
+}

@@ -1,0 +1,111 @@
+//! Why an input is refused.
+
+use std::fmt;
+
+/// The refusals; the discriminant is the number that the library gives.
+#[derive(Clone, Copy, Debug, PartialEq, Eq, PartialOrd, Ord)]
+#[repr(u32)]
+pub enum Refusal {
+    TargetShort = 1,
+    TextLong = 2,
+    DeviceBad = 3,
+    OutcomeBad = 4,
+    LineBad = 10,
+    KeyBad = 11,
+    ArgumentBad = 12,
+    OperatorBad = 13,
+    ValueBad = 14,
+    ContentBad = 15,
+    PairExtra = 16,
+    CommaMissing = 17,
+    RuleExtra = 18,
+    LabelMissing = 19,
+    SubstitutionLong = 30,
+    LinkBad = 31,
+    ListFull = 32,
+    OwnerBad = 33,
+    ModeBad = 34,
+}
+
+use Refusal::*;
+
+impl Refusal {
+    pub const ALL: [Refusal; 19] = [
+        TargetShort,
+        TextLong,
+        DeviceBad,
+        OutcomeBad,
+        LineBad,
+        KeyBad,
+        ArgumentBad,
+        OperatorBad,
+        ValueBad,
+        ContentBad,
+        PairExtra,
+        CommaMissing,
+        RuleExtra,
+        LabelMissing,
+        SubstitutionLong,
+        LinkBad,
+        ListFull,
+        OwnerBad,
+        ModeBad,
+    ];
+
+    pub fn number(self) -> u32 {
+        self as u32
+    }
+
+    pub fn of_number(number: u32) -> Option<Refusal> {
+        Refusal::ALL
+            .into_iter()
+            .find(|refusal| refusal.number() == number)
+    }
+
+    /// What is wrong, in a few words.
+    pub fn text(self) -> &'static str {
+        match self {
+            TargetShort => "the room for the result is too small",
+            TextLong => "the rules text is longer than 32768 bytes",
+            DeviceBad => "the device record is faulty",
+            OutcomeBad => "the outcome record is faulty",
+            LineBad => "line longer than 1024 bytes, or with a NUL byte",
+            KeyBad => "unknown or missing key",
+            ArgumentBad => "argument in braces missing, faulty or not taken",
+            OperatorBad => "operator missing, or not one of this key",
+            ValueBad => "value not in quotation marks, or longer than 256 bytes",
+            ContentBad => "value not of the kind that its key takes",
+            PairExtra => "more than 32 pairs, or a second LABEL or GOTO",
+            CommaMissing => "neither a comma nor the end of the line",
+            RuleExtra => "more than 512 rules",
+            LabelMissing => "GOTO without a later LABEL",
+            SubstitutionLong => "substituted text longer than 512 bytes",
+            LinkBad => "faulty link name",
+            ListFull => "no room for one more link, tag, program or property",
+            OwnerBad => "faulty owner or group",
+            ModeBad => "faulty mode",
+        }
+    }
+}
+
+impl fmt::Display for Refusal {
+    fn fmt(&self, f: &mut fmt::Formatter) -> fmt::Result {
+        f.write_str(self.text())
+    }
+}
+
+/// A refusal and the line of the rules text that it is about.
+#[derive(Clone, Copy, Debug, PartialEq, Eq)]
+pub struct Refused {
+    pub refusal: Refusal,
+    /// From 1; 0 if the refusal is about no line.
+    pub line: u32,
+}
+
+impl fmt::Display for Refused {
+    fn fmt(&self, f: &mut fmt::Formatter) -> fmt::Result {
+        write!(f, "refused {} line {}", self.refusal.number(), self.line)
+    }
+}
+
+impl std::error::Error for Refused {}

@@ -1,0 +1,12 @@
+//! Rooms and limits of `include/spillfinch.h`, in bytes or entries.
+
+/// The fullest outcome record.
+pub const OUTCOME_ROOM: usize = 17_611;
+/// The fullest run list.
+pub const RUN_LIST_ROOM: usize = 8_225;
+
+pub const TEXT_MOST: usize = 32_768;
+pub const LINE_MOST: usize = 1_024;
+pub const VALUE_MOST: usize = 256;
+pub const PAIRS_MOST: usize = 32;
+pub const RULES_MOST: usize = 512;
