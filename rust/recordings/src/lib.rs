@@ -1,0 +1,17 @@
+//! Device and outcome records: packed, in their text form, and made from recordings of devices.
+//!
+//! Nothing here judges a record. What is read or made is packed, and the engine accepts or
+//! refuses it.
+
+pub mod device;
+pub mod escape;
+pub mod form;
+pub mod import;
+pub mod outcome;
+mod packed;
+pub mod recording;
+pub mod sizes;
+
+pub use device::{Action, ChainDevice, Device, Node};
+pub use outcome::{Outcome, RunList};
+pub use packed::Entry;
