@@ -19,6 +19,9 @@ use room::Room;
 /// Properties that an earlier run of udev left.
 const OF_EARLIER_RUN: [&[u8]; 4] = [b"DEVLINKS", b"TAGS", b"CURRENT_TAGS", b"USEC_INITIALIZED"];
 
+/// Symbolic links that udev reads as attributes. Other links are none there either.
+const READ_AS_ATTRIBUTES: [&[u8]; 2] = [b"module", b"subsystem"];
+
 /// Names that a rules text asks for; what has such a name is kept first.
 #[derive(Clone, Debug, Default)]
 pub struct Named {
@@ -150,7 +153,7 @@ fn attributes(block: &Block, notes: &mut Notes) -> Vec<Entry> {
         notes.push_if_sound(block, Kind::Attribute, &mut attributes, attribute);
     }
     for link in &block.symbolic_links {
-        if link.name != b"driver" {
+        if READ_AS_ATTRIBUTES.contains(&link.name.as_slice()) {
             notes.add(block, Kind::Attribute, &link.name, Reason::SymbolicLink);
         }
     }

@@ -96,7 +96,7 @@ H: nul=4100
 #[test]
 fn node_driver_and_action() {
     let recording = "P: /a/b\nE: ACTION=change\nE: DRIVER=plain\nA: dev=8:1\\n\n\
-        L: driver=../../bus/usb/drivers/linked\nL: module=../x\n";
+        L: driver=../../bus/usb/drivers/linked\nL: module=../x\nL: device=../y\n";
     let imported = imported(recording, 0, &[]);
     assert_eq!(imported.device.action.name(), "change");
     let node = Node { major: 8, minor: 1 };

@@ -1,0 +1,126 @@
+//! Folders of cases: rules, devices and the listing that is expected of them.
+
+use std::ffi::OsStr;
+use std::os::unix::ffi::OsStrExt;
+use std::path::{Path, PathBuf};
+
+use crate::listing::{head, About};
+use crate::report::Failure;
+use crate::syntax::names::named;
+use crate::{device, files, listing};
+
+/// The name of the expected listing in a case.
+pub const EXPECTED: &str = "expected";
+/// The name of the outcome record that a case starts from, if not from the fresh one.
+const START: &str = "from";
+const RULES: &str = ".rules";
+const DEVICES: [&str; 2] = [".device", ".umockdev"];
+
+/// A folder with devices, and the rules file that is run on them.
+#[derive(Debug)]
+pub struct Case {
+    pub folder: PathBuf,
+    rules: PathBuf,
+    devices: Vec<PathBuf>,
+}
+
+/// What a case gives now.
+#[derive(Debug, Default)]
+pub struct Outcome {
+    pub listing: String,
+    /// What of the recordings is not in the records.
+    pub left_out: Vec<String>,
+    /// What is refused, with its file and line.
+    pub refused: Vec<String>,
+}
+
+/// The cases of a folder and of those in it. One that cannot be read is told in its place.
+pub fn find(folder: &Path) -> Result<Vec<Result<Case, Failure>>, Failure> {
+    let mut cases = Vec::new();
+    add_cases(folder, None, &mut cases)?;
+    Ok(cases)
+}
+
+fn add_cases(
+    folder: &Path,
+    above: Option<&Path>,
+    cases: &mut Vec<Result<Case, Failure>>,
+) -> Result<(), Failure> {
+    let own = files::list(folder, &[RULES])?;
+    let devices = files::list(folder, &DEVICES)?;
+    let rules = match &own[..] {
+        [] => Ok(above.map(Path::to_path_buf)),
+        [rules] => Ok(Some(rules.clone())),
+        _ => Err(of_folder(folder, "more than one rules file")),
+    };
+    let has_expected = folder.join(EXPECTED).exists();
+    if !devices.is_empty() || has_expected {
+        cases.push(rules.clone().and_then(|rules| case(folder, rules, devices)));
+    }
+    let rules = rules.ok().flatten();
+    for entry in files::entries(folder)? {
+        if entry.is_dir() && !entry.is_symlink() {
+            add_cases(&entry, rules.as_deref(), cases)?;
+        }
+    }
+    Ok(())
+}
+
+fn of_folder(folder: &Path, message: &str) -> Failure {
+    Failure(format!("{}: {message}", files::shown(folder)))
+}
+
+fn case(folder: &Path, rules: Option<PathBuf>, devices: Vec<PathBuf>) -> Result<Case, Failure> {
+    if devices.is_empty() {
+        let message = "a listing is expected, but no file ends in .device or .umockdev";
+        return Err(of_folder(folder, message));
+    }
+    let Some(rules) = rules else {
+        return Err(of_folder(folder, "no rules file here or above"));
+    };
+    Ok(Case {
+        folder: folder.to_path_buf(),
+        rules,
+        devices,
+    })
+}
+
+impl Case {
+    pub fn expected(&self) -> PathBuf {
+        self.folder.join(EXPECTED)
+    }
+
+    /// Runs the rules on each device of the case.
+    pub fn run(&self) -> Result<Outcome, Failure> {
+        let text = files::read(&self.rules)?;
+        let named = named(&text);
+        let start_file = self.folder.join(START);
+        let start = match start_file.exists() {
+            true => Some(device::read_start(&start_file)?),
+            false => None,
+        };
+        let mut outcome = Outcome::default();
+        for path in &self.devices {
+            let recorded = device::read(path.as_os_str(), &named)?;
+            outcome.left_out.extend(recorded.left_out);
+            if self.devices.len() > 1 {
+                let name = path.file_name().map_or(&b""[..], OsStr::as_bytes);
+                outcome.listing += &head(&String::from_utf8_lossy(name));
+                outcome.listing.push('\n');
+            }
+            match listing::list(&text, &recorded.record, start.as_deref()) {
+                Ok(listed) => outcome.listing += &listed.listing,
+                Err(refused) => {
+                    outcome.listing += &listing::refused(&refused);
+                    let about = About {
+                        rules: &self.rules,
+                        device: &recorded.name,
+                        start: start.as_ref().map(|_| start_file.as_path()),
+                    };
+                    outcome.refused.push(about.explain(&refused));
+                }
+            }
+        }
+        Ok(outcome)
+    }
+}

@@ -1,0 +1,112 @@
+//! `spillfinch check`: every fault of rules files, and where the real daemon does otherwise.
+
+use std::env;
+use std::io::{self, IsTerminal};
+use std::path::{Path, PathBuf};
+
+use clap::{Arg, ArgAction, ArgMatches, Command};
+
+use super::{file, paths, Done};
+use crate::check::{check, json, long, short, warnings, Checked, Counts};
+use crate::files;
+use crate::report::{Failure, Report, Status};
+
+pub fn command() -> Command {
+    Command::new("check")
+        .about("Show the faults of rules files")
+        .arg(
+            file("files", "FILE|DIR")
+                .required(true)
+                .num_args(1..)
+                .help("Rules files; of a directory all files that end in .rules"),
+        )
+        .arg(
+            Arg::new("format")
+                .long("format")
+                .value_name("FORMAT")
+                .value_parser(["short", "long", "json"])
+                .default_value("long")
+                .help("A line each, the line itself too, or one JSON document"),
+        )
+        .arg(
+            Arg::new("allow")
+                .long("allow")
+                .value_name("E..")
+                .value_delimiter(',')
+                .action(ArgAction::Append)
+                .value_parser(difference)
+                .help("Do not warn of these differences to the real daemon, as E2,E4"),
+        )
+        .after_help("Example:\n  spillfinch check --allow=E2 examples/listing")
+}
+
+/// The number of a difference that is warned of.
+fn difference(written: &str) -> Result<u8, String> {
+    let number = written
+        .strip_prefix('E')
+        .and_then(|digits| digits.parse().ok());
+    let known = number.filter(|number| warnings::NUMBERS.contains(number));
+    known.ok_or_else(|| {
+        let numbers = warnings::NUMBERS.map(|number| format!("E{number}"));
+        format!("warned of are {}", numbers.join(", "))
+    })
+}
+
+pub fn run(matches: &ArgMatches) -> Done {
+    let allowed = matches.get_many("allow").into_iter().flatten();
+    let allowed: Vec<u8> = allowed.copied().collect();
+    let mut checked = Vec::new();
+    for path in files_of(&paths(matches, "files"))? {
+        let text = files::read(&path)?;
+        checked.push(check(path, text, &allowed));
+    }
+    let format = matches.get_one::<String>("format").map(String::as_str);
+    let mut report = Report {
+        results: shown(&checked, format).into_bytes(),
+        ..Report::default()
+    };
+    if Counts::of(&checked).faults > 0 {
+        report.ends(Status::Refused);
+    }
+    Ok(report)
+}
+
+/// The files that are meant, those of a directory in its place.
+fn files_of(paths: &[&PathBuf]) -> Result<Vec<PathBuf>, Failure> {
+    let mut files = Vec::new();
+    for path in paths {
+        if files::is_standard_input(path) || !path.is_dir() {
+            files.push(path.to_path_buf());
+            continue;
+        }
+        let mut rules = files::list(path, &[".rules"])?;
+        if rules.is_empty() {
+            let path = files::shown(Path::new(path));
+            return Err(Failure(format!("{path}: no file here ends in .rules")));
+        }
+        files.append(&mut rules);
+    }
+    Ok(files)
+}
+
+fn shown(checked: &[Checked], format: Option<&str>) -> String {
+    let closing = Counts::of(checked).line();
+    match format {
+        Some("json") => json(checked),
+        Some("short") => {
+            let lines: String = checked.iter().map(short).collect();
+            format!("{lines}{closing}\n")
+        }
+        _ => {
+            let colors = has_colors();
+            let lines: String = checked.iter().map(|file| long(file, colors)).collect();
+            format!("{lines}{closing}\n")
+        }
+    }
+}
+
+fn has_colors() -> bool {
+    let is_plain = env::var_os("NO_COLOR").is_some_and(|value| !value.is_empty())
+        || env::var_os("TERM").is_some_and(|term| term == "dumb");
+    io::stdout().is_terminal() && !is_plain
+}

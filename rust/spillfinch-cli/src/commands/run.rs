@@ -1,0 +1,105 @@
+//! `spillfinch run`: what a rules file makes of a device.
+
+use clap::builder::PossibleValuesParser;
+use clap::{Arg, ArgAction, ArgMatches, Command};
+use recordings::Action;
+
+use super::{device as device_argument, file, names, path, Done};
+use crate::report::{Failure, Report, Status};
+use crate::syntax::names::named;
+use crate::{device, files, listing};
+
+pub fn command() -> Command {
+    Command::new("run")
+        .about("Print what a rules file makes of a device")
+        .arg(file("rules", "RULES").required(true).help("The rules file"))
+        .arg(
+            device_argument("device", "DEV")
+                .long("device")
+                .required(true)
+                .action(ArgAction::Append)
+                .help(
+                    "A packed record, a text form, or a recording; FILE:/devices/... picks one \
+                     device of a recording. May be given several times",
+                ),
+        )
+        .arg(
+            Arg::new("action")
+                .long("action")
+                .value_name("A")
+                .value_parser(PossibleValuesParser::new(Action::ALL.map(Action::name)))
+                .help("The event, in place of the recorded one; in the property ACTION too"),
+        )
+        .arg(
+            file("from", "OUTCOME")
+                .long("from")
+                .help("The outcome record to start from, packed or as text; else a fresh one"),
+        )
+        .arg(
+            file("record", "OUT")
+                .long("record")
+                .help("Write the packed outcome record to this file; for one device"),
+        )
+        .after_help(
+            "Example:\n  spillfinch run examples/listing/rope.rules --device examples/listing/ttyUSB0.device",
+        )
+}
+
+pub fn run(matches: &ArgMatches) -> Done {
+    let rules = path(matches, "rules").expect("it is required");
+    let devices = names(matches, "device");
+    let start_file = path(matches, "from");
+    let record_file = path(matches, "record");
+    if record_file.is_some() && devices.len() > 1 {
+        return Err(Failure(String::from("--record takes one device")));
+    }
+    if record_file.is_some_and(|file| files::is_standard_input(file)) {
+        return Err(Failure(String::from("--record takes the name of a file")));
+    }
+    let text = files::read(rules)?;
+    let named = named(&text);
+    let action = matches.get_one::<String>("action");
+    let action = action.and_then(|name| Action::of_name(name.as_bytes()));
+    let mut recorded = Vec::new();
+    for name in &devices {
+        recorded.push(device::read(name, &named)?);
+    }
+    let start = start_file
+        .map(|file| device::read_start(file))
+        .transpose()?;
+
+    let mut report = Report::default();
+    for device in recorded {
+        for note in &device.left_out {
+            report.message_once(note);
+        }
+        let record = match action {
+            Some(action) => device::with_action(device.record, action),
+            None => device.record,
+        };
+        if devices.len() > 1 {
+            report.result(&listing::head(&device.name));
+        }
+        match listing::list(&text, &record, start.as_deref()) {
+            Ok(listed) => {
+                if let Some(file) = record_file {
+                    files::write_all(&[(file.clone(), listed.record)])?;
+                }
+                report.results.extend(listed.listing.into_bytes());
+            }
+            Err(refused) => {
+                report
+                    .results
+                    .extend(listing::refused(&refused).into_bytes());
+                let about = listing::About {
+                    rules,
+                    device: &device.name,
+                    start: start_file.map(|file| file.as_path()),
+                };
+                report.message_once(&about.explain(&refused));
+                report.ends(Status::Refused);
+            }
+        }
+    }
+    Ok(report)
+}

@@ -1,0 +1,175 @@
+//! Devices as they are named on the command line: a packed record, a text form, or one device
+//! of a recording.
+
+use std::ffi::OsStr;
+use std::os::unix::ffi::OsStrExt;
+use std::path::{Path, PathBuf};
+
+use recordings::escape::escape;
+use recordings::form::{read_device, read_outcome, FormError};
+use recordings::import::{import, Named};
+use recordings::recording::{is_recording, read_recording, Block};
+use recordings::{Action, Device, Entry};
+use spillfinch::Refused;
+
+use crate::files;
+use crate::report::Failure;
+
+/// A packed record, with what of its recording it lacks.
+#[derive(Debug)]
+pub struct Recorded {
+    /// As it was named.
+    pub name: String,
+    pub record: Vec<u8>,
+    pub left_out: Vec<String>,
+}
+
+/// A file, and the path of the device in it that is meant.
+#[derive(Clone, Debug, PartialEq, Eq)]
+pub struct Source {
+    pub file: PathBuf,
+    pub device: Option<Vec<u8>>,
+}
+
+impl Source {
+    /// `FILE` or `FILE:/PATH`. A file of the whole name is taken as it is.
+    pub fn of(argument: &OsStr) -> Source {
+        let whole = Path::new(argument);
+        let bytes = argument.as_bytes();
+        let colons = (0..bytes.len()).filter(|&at| bytes[at..].starts_with(b":/"));
+        let cut = |colon: usize| Source {
+            file: PathBuf::from(OsStr::from_bytes(&bytes[..colon])),
+            device: Some(bytes[colon + 1..].to_vec()),
+        };
+        let is_file =
+            |source: &Source| files::is_standard_input(&source.file) || source.file.exists();
+        let found = match whole.exists() {
+            true => None,
+            false => colons.map(cut).find(is_file),
+        };
+        found.unwrap_or_else(|| Source {
+            file: whole.to_path_buf(),
+            device: None,
+        })
+    }
+}
+
+/// What is wrong at a line of a file.
+pub fn at_line(file: &Path, error: &FormError) -> Failure {
+    let FormError { line, message } = error;
+    Failure(format!("{}:{line}: {message}", files::shown(file)))
+}
+
+/// The packed record of a device. Names that the rules ask for are kept first.
+pub fn read(argument: &OsStr, named: &Named) -> Result<Recorded, Failure> {
+    let source = Source::of(argument);
+    let bytes = files::read(&source.file)?;
+    let name = files::shown(Path::new(argument));
+    if is_recording(&bytes) {
+        let blocks = read_recording(&bytes).map_err(|error| at_line(&source.file, &error))?;
+        let event = event(&source, &blocks)?;
+        let imported = import_block(&source.file, &blocks, event, named)?;
+        return Ok(Recorded {
+            name,
+            record: packed(&source.file, &imported.device)?,
+            left_out: imported.left_out,
+        });
+    }
+    if source.device.is_some() {
+        let file = files::shown(&source.file);
+        return Err(Failure(format!(
+            "{file}: only a recording holds several devices"
+        )));
+    }
+    let record = match is_packed(&bytes) {
+        true => bytes,
+        false => {
+            let device = read_device(&bytes).map_err(|error| at_line(&source.file, &error))?;
+            packed(&source.file, &device)?
+        }
+    };
+    Ok(Recorded {
+        name,
+        record,
+        left_out: Vec::new(),
+    })
+}
+
+/// The packed record of an outcome, from a packed record or a text form.
+pub fn read_start(file: &Path) -> Result<Vec<u8>, Failure> {
+    let bytes = files::read(file)?;
+    if is_packed(&bytes) {
+        return Ok(bytes);
+    }
+    let outcome = read_outcome(&bytes).map_err(|error| at_line(file, &error))?;
+    let too_large = || Failure(format!("{}: it fits no record", files::shown(file)));
+    outcome.encode().ok_or_else(too_large)
+}
+
+/// A record begins with its edition, 1, in four bits; a text form holds no NUL.
+fn is_packed(bytes: &[u8]) -> bool {
+    matches!(bytes, [0x10..=0x1f, ..]) || bytes.contains(&0)
+}
+
+fn packed(file: &Path, device: &Device) -> Result<Vec<u8>, Failure> {
+    let too_large = || Failure(format!("{}: it fits no record", files::shown(file)));
+    device.encode().ok_or_else(too_large)
+}
+
+/// Which block of a recording is meant; without a path the first.
+pub fn event(source: &Source, blocks: &[Block]) -> Result<usize, Failure> {
+    let Some(path) = &source.device else {
+        return Ok(0);
+    };
+    let found = blocks.iter().position(|block| block.path == *path);
+    found.ok_or_else(|| {
+        let file = files::shown(&source.file);
+        Failure(format!("{file}: no device {}", escape(path)))
+    })
+}
+
+/// A device of a recording, and what it lacks, said of its file.
+pub struct FromRecording {
+    pub device: Device,
+    pub left_out: Vec<String>,
+}
+
+pub fn import_block(
+    file: &Path,
+    blocks: &[Block],
+    event: usize,
+    named: &Named,
+) -> Result<FromRecording, Failure> {
+    let file = files::shown(file);
+    let imported = import(blocks, event, named).map_err(|message| {
+        let path = escape(&blocks[event].path);
+        Failure(format!("{file}: {path}: {message}"))
+    })?;
+    let note = |note| format!("{file}: {note}");
+    Ok(FromRecording {
+        device: imported.device,
+        left_out: imported.left_out.iter().map(note).collect(),
+    })
+}
+
+/// The record of the same device in another event. A property ACTION says the new action too. A
+/// record that cannot be read stays as it is, for the engine to refuse.
+pub fn with_action(record: Vec<u8>, action: Action) -> Vec<u8> {
+    let Some(mut device) = Device::decode(&record) else {
+        return record;
+    };
+    device.action = action;
+    let is_action = |property: &&mut Entry| property.name == b"ACTION";
+    if let Some(property) = device.properties.iter_mut().find(is_action) {
+        property.value = action.name().into();
+    }
+    device.encode().unwrap_or(record)
+}
+
+/// Whether the engine takes a device record; else what is said of it.
+pub fn judge(record: &[u8]) -> Result<(), String> {
+    match spillfinch::fresh(record) {
+        Ok(_) => Ok(()),
+        Err(Refused { refusal, .. }) => Err(format!("refused {}: {refusal}", refusal.number())),
+    }
+}

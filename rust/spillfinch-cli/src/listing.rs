@@ -1,0 +1,112 @@
+//! The listing of what a rules text makes of a device.
+
+use std::path::Path;
+
+use recordings::escape::escape;
+use recordings::{Outcome, RunList};
+use spillfinch::{Ran, Refusal, Refused};
+
+use crate::files;
+
+/// An accepted run with its close.
+#[derive(Debug)]
+pub struct Listed {
+    pub listing: String,
+    /// The outcome record.
+    pub record: Vec<u8>,
+}
+
+/// Runs a text for a device, from an outcome record or from the fresh one, and closes.
+pub fn list(text: &[u8], device: &[u8], start: Option<&[u8]>) -> Result<Listed, Refused> {
+    let fresh = match start {
+        Some(_) => Vec::new(),
+        // A faulty device has no fresh record; the run refuses it, a faulty text first.
+        None => spillfinch::fresh(device).unwrap_or_default(),
+    };
+    let ran = spillfinch::run(text, device, start.unwrap_or(&fresh))?;
+    let list = spillfinch::close(device, &ran.record)?;
+    Ok(Listed {
+        listing: lines(&ran, &list),
+        record: ran.record,
+    })
+}
+
+/// The listing of a refusal.
+pub fn refused(refused: &Refused) -> String {
+    format!("{refused}\n")
+}
+
+fn lines(ran: &Ran, list: &[u8]) -> String {
+    let outcome = Outcome::decode(&ran.record).expect("the engine writes a record");
+    let list = RunList::decode(list).expect("the engine writes a run list");
+    let mut lines = Lines::default();
+    lines.add("visited", ran.visited.to_string().as_bytes());
+    lines.add("priority", outcome.priority.to_string().as_bytes());
+    if let Some(mode) = outcome.mode {
+        lines.add("mode", format!("{mode:04o}").as_bytes());
+    }
+    for (word, name) in [("owner", &outcome.owner), ("group", &outcome.group)] {
+        if !name.is_empty() {
+            lines.add(word, name);
+        }
+    }
+    for link in &outcome.links {
+        lines.add("link", link);
+    }
+    for property in &outcome.properties {
+        let entry = [&property.name[..], b"=", &property.value].concat();
+        lines.add("env", &entry);
+    }
+    for tag in &outcome.tags {
+        lines.add("tag", tag);
+    }
+    for command in &list.commands {
+        lines.add(command.run_type.name(), &command.text);
+    }
+    lines.0
+}
+
+#[derive(Default)]
+struct Lines(String);
+
+impl Lines {
+    fn add(&mut self, word: &str, text: &[u8]) {
+        self.0 += word;
+        self.0.push(' ');
+        self.0 += &escape(text);
+        self.0.push('\n');
+    }
+}
+
+/// The line before the listing of one device of several.
+pub fn head(device: &str) -> String {
+    format!("device {}", escape(device.as_bytes()))
+}
+
+/// The files of a run that a refusal may be about.
+pub struct About<'a> {
+    pub rules: &'a Path,
+    pub device: &'a str,
+    pub start: Option<&'a Path>,
+}
+
+impl About<'_> {
+    /// The refusal with the file and the line that it is about.
+    pub fn explain(&self, refused: &Refused) -> String {
+        let Refused { refusal, line } = *refused;
+        let number = refusal.number();
+        let rules = files::shown(self.rules);
+        let file = match (refusal, self.start) {
+            (Refusal::DeviceBad, _) => self.device.to_string(),
+            (Refusal::OutcomeBad, Some(start)) => files::shown(start),
+            _ if line > 0 => format!("{rules}:{line}"),
+            _ => rules,
+        };
+        let is_of_run = refusal >= Refusal::SubstitutionLong;
+        let device = match is_of_run {
+            true => format!(", for {}", self.device),
+            false => String::new(),
+        };
+        format!("{file}: refused {number}: {refusal}{device}")
+    }
+}

@@ -1,0 +1,132 @@
+//! What the command reads and lists by itself, beside the engine and the reference.
+
+use std::path::PathBuf;
+
+use reference::generate::case;
+use spillfinch::{Refusal, Refused};
+use spillfinch_cli::check::{check, Subject};
+use spillfinch_cli::listing::{list, refused};
+use spillfinch_cli::syntax::{lines, quote, read_line, Key};
+
+const CASES: u64 = 4_000;
+
+/// Of a line alone: the refusal that is about the line itself.
+fn of_engine(line: &[u8]) -> Option<Refusal> {
+    let Refused { refusal, .. } = spillfinch::check(line).err()?;
+    (refusal != Refusal::LabelMissing).then_some(refusal)
+}
+
+#[test]
+fn lines_are_read_as_the_engine_reads_them() {
+    let mut faults = [0; 40];
+    for seed in 0..CASES {
+        for (_, line) in lines(&case(seed).text) {
+            if line.len() > 32_768 {
+                continue;
+            }
+            let read = read_line(line);
+            let found = read.fault.as_ref().map(|fault| fault.refusal);
+            let shown = String::from_utf8_lossy(line);
+            assert_eq!(found, of_engine(line), "seed {seed}: {shown}");
+            if let Some(fault) = read.fault {
+                assert!(fault.span.end <= line.len(), "{shown}");
+                assert!(!fault.span.is_empty(), "{shown}");
+                faults[fault.refusal.number() as usize] += 1;
+            }
+        }
+    }
+    for number in 10..=17 {
+        assert!(faults[number] > 20, "{number}: {} faults", faults[number]);
+    }
+}
+
+/// A text with its faulty lines emptied is accepted, and each was refused in its turn.
+#[test]
+fn every_fault_is_found() {
+    for seed in 0..CASES {
+        let text = case(seed).text;
+        let checked = check(PathBuf::new(), text.clone(), &[]);
+        let faults = checked
+            .remarks
+            .iter()
+            .filter_map(|remark| match remark.subject {
+                Subject::Fault(refusal) => Some((remark.line, refusal)),
+                Subject::Warning(_) => None,
+            });
+        let faults: Vec<_> = faults.collect();
+        assert!(faults.windows(2).all(|pair| pair[0].0 < pair[1].0));
+        match spillfinch::check(&text) {
+            Ok(()) => assert!(faults.is_empty()),
+            Err(first) => assert!(faults.contains(&(first.line, first.refusal))),
+        }
+        if faults.first().is_some_and(|fault| fault.0 == 0) {
+            continue;
+        }
+        let is_faulty = |line: u32| faults.iter().any(|fault| fault.0 == line);
+        let kept: Vec<&[u8]> = lines(&text)
+            .map(|(number, line)| if is_faulty(number) { b"" } else { line })
+            .collect();
+        assert_eq!(spillfinch::check(&kept.join(&b'\n')), Ok(()), "seed {seed}");
+    }
+}
+
+#[test]
+fn listings_are_those_of_the_reference() {
+    for seed in 0..CASES {
+        let case = case(seed);
+        for start in [None, Some(&case.outcome[..])] {
+            let listing = match list(&case.text, &case.device, start) {
+                Ok(listed) => listed.listing,
+                Err(found) => refused(&found),
+            };
+            let expected = reference::listing(&case.text, &case.device, start);
+            assert_eq!(listing, String::from_utf8_lossy(&expected), "seed {seed}");
+        }
+    }
+}
+
+/// A rule of the pair alone holds of the device that it was written for.
+#[test]
+fn quoted_pairs_hold() {
+    let mut written = 0;
+    for seed in 0..CASES {
+        let record = case(seed).device;
+        let Ok(start) = spillfinch::fresh(&record) else {
+            continue;
+        };
+        let device = recordings::Device::decode(&record).expect("a sound record");
+        let mut pairs = vec![
+            (Key::Action, &b""[..], device.action.name().as_bytes()),
+            (Key::Devpath, b"", &device.chain[0].path),
+            (Key::Kernel, b"", device.chain[0].name()),
+            (Key::Subsystem, b"", &device.chain[0].subsystem),
+        ];
+        for property in &device.properties {
+            pairs.push((Key::Env, &property.name, &property.value));
+        }
+        for attribute in &device.chain[0].attributes {
+            pairs.push((Key::Attr, &attribute.name, &attribute.value));
+        }
+        for parent in &device.chain {
+            pairs.push((Key::Kernels, b"", parent.name()));
+            pairs.push((Key::Subsystems, b"", &parent.subsystem));
+            pairs.push((Key::Drivers, b"", &parent.driver));
+            for attribute in &parent.attributes {
+                pairs.push((Key::Attrs, &attribute.name, &attribute.value));
+            }
+        }
+        for (key, argument, value) in pairs {
+            let Ok(mut rule) = quote::pair(key, argument, value) else {
+                continue;
+            };
+            written += 1;
+            rule.extend_from_slice(b", OPTIONS=\"link_priority=7\"");
+            let shown = String::from_utf8_lossy(&rule).into_owned();
+            let ran = spillfinch::run(&rule, &record, &start);
+            let ran = ran.unwrap_or_else(|refused| panic!("{shown}: {refused}"));
+            let outcome = recordings::Outcome::decode(&ran.record).expect("a record");
+            assert_eq!(outcome.priority, 7, "seed {seed}: {shown}");
+        }
+    }
+    assert!(written > 10_000, "{written} pairs");
+}
