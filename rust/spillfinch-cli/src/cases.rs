@@ -1,6 +1,7 @@
 //! Folders of cases: rules, devices and the listing that is expected of them.
 
 use std::ffi::OsStr;
+use std::fs;
 use std::os::unix::ffi::OsStrExt;
 use std::path::{Path, PathBuf};
 
@@ -37,30 +38,51 @@ pub struct Outcome {
 /// The cases of a folder and of those in it. One that cannot be read is told in its place.
 pub fn find(folder: &Path) -> Result<Vec<Result<Case, Failure>>, Failure> {
     let mut cases = Vec::new();
-    add_cases(folder, None, &mut cases)?;
+    add_cases(folder, &rules_above(folder)?, &mut cases)?;
     Ok(cases)
+}
+
+/// The rules file of a folder, if it has one.
+type Rules = Result<Option<PathBuf>, Failure>;
+
+fn rules_in(folder: &Path) -> Rules {
+    match &files::list(folder, &[RULES])?[..] {
+        [] => Ok(None),
+        [rules] => Ok(Some(rules.clone())),
+        _ => Err(of_folder(folder, "more than one rules file")),
+    }
+}
+
+/// The rules file of the nearest folder above that has one.
+fn rules_above(folder: &Path) -> Result<Rules, Failure> {
+    let whole = fs::canonicalize(folder).map_err(|error| files::failure(folder, &error))?;
+    let mut above = folder.to_path_buf();
+    for _ in whole.ancestors().skip(1) {
+        above.push("..");
+        match rules_in(&above) {
+            Ok(None) => {}
+            found => return Ok(found),
+        }
+    }
+    Ok(Ok(None))
 }
 
 fn add_cases(
     folder: &Path,
-    above: Option<&Path>,
+    above: &Rules,
     cases: &mut Vec<Result<Case, Failure>>,
 ) -> Result<(), Failure> {
-    let own = files::list(folder, &[RULES])?;
-    let devices = files::list(folder, &DEVICES)?;
-    let rules = match &own[..] {
-        [] => Ok(above.map(Path::to_path_buf)),
-        [rules] => Ok(Some(rules.clone())),
-        _ => Err(of_folder(folder, "more than one rules file")),
+    let rules = match rules_in(folder) {
+        Ok(None) => above.clone(),
+        found => found,
     };
-    let has_expected = folder.join(EXPECTED).exists();
-    if !devices.is_empty() || has_expected {
+    let devices = files::list(folder, &DEVICES)?;
+    if !devices.is_empty() || folder.join(EXPECTED).exists() {
         cases.push(rules.clone().and_then(|rules| case(folder, rules, devices)));
     }
-    let rules = rules.ok().flatten();
     for entry in files::entries(folder)? {
         if entry.is_dir() && !entry.is_symlink() {
-            add_cases(&entry, rules.as_deref(), cases)?;
+            add_cases(&entry, &rules, cases)?;
         }
     }
     Ok(())

@@ -26,7 +26,8 @@ pub fn command() -> Command {
                 .value_name("FORMAT")
                 .value_parser(["short", "long", "json"])
                 .default_value("long")
-                .help("A line each, the line itself too, or one JSON document"),
+                .hide_possible_values(true)
+                .help("short, a line each; long, with the line shown; or json"),
         )
         .arg(
             Arg::new("allow")
@@ -37,7 +38,7 @@ pub fn command() -> Command {
                 .value_parser(difference)
                 .help("Do not warn of these differences to the real daemon, as E2,E4"),
         )
-        .after_help("Example:\n  spillfinch check --allow=E2 examples/listing")
+        .after_help("Example:\n  spillfinch check examples/cases")
 }
 
 /// The number of a difference that is warned of.

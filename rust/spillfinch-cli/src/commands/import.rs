@@ -24,7 +24,11 @@ pub fn command() -> Command {
             device_argument("recordings", "RECORDING")
                 .required(true)
                 .num_args(1..)
-                .help("Of umockdev-record or `udevadm info --export-db`; FILE:/devices/... is one device"),
+                .help(
+                    "Output of umockdev-record or `udevadm info --export-db`; FILE:/devices/...
+\
+                     is one device of it",
+                ),
         )
         .arg(
             file("directory", "DIR")

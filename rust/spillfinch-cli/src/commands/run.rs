@@ -19,8 +19,8 @@ pub fn command() -> Command {
                 .required(true)
                 .action(ArgAction::Append)
                 .help(
-                    "A packed record, a text form, or a recording; FILE:/devices/... picks one \
-                     device of a recording. May be given several times",
+                    "A packed record, a text form, or a recording (FILE:/devices/... is one\n\
+                     device of it); several, each with its own --device, get a head line each",
                 ),
         )
         .arg(
@@ -28,7 +28,11 @@ pub fn command() -> Command {
                 .long("action")
                 .value_name("A")
                 .value_parser(PossibleValuesParser::new(Action::ALL.map(Action::name)))
-                .help("The event, in place of the recorded one; in the property ACTION too"),
+                .hide_possible_values(true)
+                .help(
+                    "The event in place of the recorded one, in a property ACTION too: add,\n\
+                     remove, change, move, online, offline, bind or unbind",
+                ),
         )
         .arg(
             file("from", "OUTCOME")

@@ -28,7 +28,11 @@ impl Said {
     /// That nothing but this was said, and the status is this.
     #[track_caller]
     pub fn is(&self, status: i32, out: &str, err: &str) {
-        assert_eq!(self.out, out, "standard output; standard error: {}", self.err);
+        assert_eq!(
+            self.out, out,
+            "standard output; standard error: {}",
+            self.err
+        );
         assert_eq!(self.err, err, "standard error");
         assert_eq!(self.status, status);
     }
