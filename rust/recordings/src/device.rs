@@ -8,48 +8,25 @@ const HEAD: [u32; 8] = [4, 4, 3, 1, 12, 20, 6, 6];
 /// Path, subsystem, driver, attributes, unused.
 const DEVICE: [u32; 5] = [9, 6, 6, 5, 6];
 
+/// An action, by its number in a record.
 #[derive(Clone, Copy, Debug, PartialEq, Eq)]
-pub enum Action {
-    Add,
-    Remove,
-    Change,
-    Move,
-    Online,
-    Offline,
-    Bind,
-    Unbind,
-}
+pub struct Action(usize);
 
 impl Action {
-    /// By their numbers in a record.
-    pub const ALL: [Action; 8] = [
-        Action::Add,
-        Action::Remove,
-        Action::Change,
-        Action::Move,
-        Action::Online,
-        Action::Offline,
-        Action::Bind,
-        Action::Unbind,
+    pub const NAMES: [&'static str; 8] = [
+        "add", "remove", "change", "move", "online", "offline", "bind", "unbind",
     ];
+    pub const ADD: Action = Action(0);
 
     pub fn name(self) -> &'static str {
-        match self {
-            Action::Add => "add",
-            Action::Remove => "remove",
-            Action::Change => "change",
-            Action::Move => "move",
-            Action::Online => "online",
-            Action::Offline => "offline",
-            Action::Bind => "bind",
-            Action::Unbind => "unbind",
-        }
+        Action::NAMES[self.0]
     }
 
     pub fn of_name(name: &[u8]) -> Option<Action> {
-        Action::ALL
-            .into_iter()
-            .find(|action| action.name().as_bytes() == name)
+        let number = Action::NAMES
+            .iter()
+            .position(|known| known.as_bytes() == name)?;
+        Some(Action(number))
     }
 }
 
@@ -104,7 +81,7 @@ impl Device {
             [
                 EDITION,
                 self.chain.len().checked_sub(1)?,
-                self.action as usize,
+                self.action.0,
                 usize::from(self.node.is_some()),
                 node.major as usize,
                 node.minor as usize,
@@ -136,7 +113,7 @@ impl Device {
             return None;
         }
         let device = Device {
-            action: Action::ALL[action],
+            action: Action(action),
             node: (node == 1).then_some(Node {
                 major: major as u32,
                 minor: minor as u32,

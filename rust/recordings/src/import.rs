@@ -163,7 +163,7 @@ fn attributes(block: &Block, notes: &mut Notes) -> Vec<Entry> {
 
 fn action(block: &Block) -> Result<Action, String> {
     match value_of(&block.properties, b"ACTION") {
-        None => Ok(Action::Add),
+        None => Ok(Action::ADD),
         Some(name) => Action::of_name(name)
             .ok_or_else(|| format!("the property ACTION is `{}`, no action", escape(name))),
     }

@@ -1,7 +1,7 @@
 //! What is said of text forms that describe no record.
 
 use recordings::form::{read_device, read_outcome, FormError};
-use recordings::{Action, Node};
+use recordings::Node;
 
 fn lines(first: &str, line: impl Fn(usize) -> String, count: usize) -> String {
     let lines: String = (0..count).map(|index| line(index) + "\n").collect();
@@ -18,7 +18,7 @@ fn a_form_with_all_its_words() {
         device /devices/usb1/ttyUSB0\r\n\tsubsystem tty\n  driver\ndevice /devices/usb1\n\
         attribute \\x3d=\\x5c";
     let device = read_device(form).expect("a sound form");
-    assert_eq!(device.action, Action::Change);
+    assert_eq!(device.action.name(), "change");
     let node = Node {
         major: 188,
         minor: 3,

@@ -61,7 +61,7 @@ pub fn list(directory: &Path, endings: &[&str]) -> Result<Vec<PathBuf>, Failure>
         .collect())
 }
 
-/// All entries of a directory, in byte order.
+/// All entries of a directory, in byte order; those of `.` by their names alone.
 pub fn entries(directory: &Path) -> Result<Vec<PathBuf>, Failure> {
     let entries = fs::read_dir(directory)
         .and_then(|entries| {
@@ -69,7 +69,11 @@ pub fn entries(directory: &Path) -> Result<Vec<PathBuf>, Failure> {
             paths.collect::<io::Result<Vec<_>>>()
         })
         .map_err(|error| failure(directory, &error));
-    let mut entries = entries?;
+    let own = |path: PathBuf| match path.strip_prefix(".") {
+        Ok(name) => name.to_path_buf(),
+        Err(_) => path,
+    };
+    let mut entries: Vec<PathBuf> = entries?.into_iter().map(own).collect();
     entries.sort();
     Ok(entries)
 }

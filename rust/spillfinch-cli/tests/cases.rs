@@ -43,15 +43,14 @@ fn cases_that_pass() {
 fn a_case_that_fails_is_shown_and_updated() {
     let folder = folder("test_fail");
     folder.file("rope.rules", RULES.replace("0660", "0640"));
-    let expected =
-        "--- ./rope/expected\n+++ ./rope now\n@@ -1,5 +1,5 @@\n visited 1\n priority 0\n\
+    let expected = "--- rope/expected\n+++ rope now\n@@ -1,5 +1,5 @@\n visited 1\n priority 0\n\
         -mode 0660\n+mode 0640\n group dialout\n link rope/trip0\n2 cases: 1 passed, 1 failed\n";
     folder.run(&["test"]).is(1, expected, "");
     assert_eq!(folder.read("rope/expected"), LISTING);
     let said = folder.run(&["test", "--update"]);
     said.is(
         0,
-        "updated ./rope/expected\n2 cases: 1 updated, 1 as before\n",
+        "updated rope/expected\n2 cases: 1 updated, 1 as before\n",
         "",
     );
     assert_eq!(
@@ -110,12 +109,12 @@ fn a_refusal_can_be_expected() {
         .is(0, "2 cases: 2 passed, 0 failed\n", "");
     folder.file("rope/expected", "");
     let said = folder.run(&["test"]);
-    let out = "--- ./rope/expected\n+++ ./rope now\n@@ -0,0 +1 @@\n+refused 19 line 1\n\
+    let out = "--- rope/expected\n+++ rope now\n@@ -0,0 +1 @@\n+refused 19 line 1\n\
         2 cases: 1 passed, 1 failed\n";
     said.is(
         1,
         out,
-        "./rope/bad.rules:1: refused 19: GOTO without a later LABEL\n",
+        "rope/bad.rules:1: refused 19: GOTO without a later LABEL\n",
     );
 }
 
@@ -147,11 +146,11 @@ fn cases_that_cannot_be_read() {
         .file("start/tty.device", DEVICE)
         .file("start/from", "links a\n")
         .file("rope.rules", RULES.replace("0660", "0640"));
-    let errors = "spillfinch: ./broken/a.device:1: the device has 0 bytes; it takes 1 to 256\n\
-        spillfinch: ./none: a listing is expected, but no file ends in .device or .umockdev\n\
-        spillfinch: ./start/from:1: unknown word `links`; an outcome has closed, owner, group, mode, \
+    let errors = "spillfinch: broken/a.device:1: the device has 0 bytes; it takes 1 to 256\n\
+        spillfinch: none: a listing is expected, but no file ends in .device or .umockdev\n\
+        spillfinch: start/from:1: unknown word `links`; an outcome has closed, owner, group, mode, \
         priority, link, property, tag, program and builtin\n\
-        spillfinch: ./two: more than one rules file\n";
+        spillfinch: two: more than one rules file\n";
     let said = folder.run(&["test"]);
     assert_eq!((said.status, said.err.as_str()), (2, errors));
     assert!(
@@ -180,7 +179,7 @@ fn folders_without_cases() {
     said.is(
         2,
         "1 case: 0 passed, 0 failed, 1 not read\n",
-        "spillfinch: ./a: no rules file here or above\n",
+        "spillfinch: a: no rules file here or above\n",
     );
 }
 

@@ -144,7 +144,7 @@ fn hints_of_every_fault() {
         ),
         (
             "OPTIONS=\"x\"",
-            "15 OPTIONS takes string_escape=none, string_escape=replace or link_priority=N",
+            "15 OPTIONS takes link_priority=N, string_escape=none or string_escape=replace",
         ),
         ("LABEL=\"\"", "15 a label has a name"),
         (&tag, "15 the tag has 65 bytes; 64 are taken"),

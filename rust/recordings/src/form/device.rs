@@ -119,7 +119,7 @@ impl Reading {
             return Err(String::from("no `device`"));
         }
         let device = Device {
-            action: self.action.unwrap_or(Action::Add),
+            action: self.action.unwrap_or(Action::ADD),
             node: self.node,
             properties: self.properties,
             chain: self.chain.into_iter().map(Part::finish).collect(),
@@ -148,7 +148,7 @@ impl Part {
 
 fn action(line: &Line) -> Taken<Action> {
     Action::of_name(line.text).ok_or_else(|| {
-        let names = Action::ALL.map(Action::name).join(", ");
+        let names = Action::NAMES.join(", ");
         format!("`action` takes one of {names}")
     })
 }

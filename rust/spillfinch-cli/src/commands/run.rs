@@ -27,7 +27,7 @@ pub fn command() -> Command {
             Arg::new("action")
                 .long("action")
                 .value_name("A")
-                .value_parser(PossibleValuesParser::new(Action::ALL.map(Action::name)))
+                .value_parser(PossibleValuesParser::new(Action::NAMES))
                 .hide_possible_values(true)
                 .help(
                     "The event in place of the recorded one, in a property ACTION too: add,\n\

@@ -101,7 +101,7 @@ fn option_fault(value: &[u8]) -> Option<ContentFault> {
         let alike = did_you_mean(&written, OPTIONS);
         alike.unwrap_or_else(|| {
             String::from(
-                "OPTIONS takes string_escape=none, string_escape=replace or link_priority=N",
+                "OPTIONS takes link_priority=N, string_escape=none or string_escape=replace",
             )
         })
     };
