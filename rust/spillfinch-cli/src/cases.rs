@@ -7,7 +7,6 @@ use std::path::{Path, PathBuf};
 
 use crate::listing::{head, About};
 use crate::report::Failure;
-use crate::syntax::names::named;
 use crate::{device, files, listing};
 
 /// The name of the expected listing in a case.
@@ -115,7 +114,6 @@ impl Case {
     /// Runs the rules on each device of the case.
     pub fn run(&self) -> Result<Outcome, Failure> {
         let text = files::read(&self.rules)?;
-        let named = named(&text);
         let start_file = self.folder.join(START);
         let start = match start_file.exists() {
             true => Some(device::read_start(&start_file)?),
@@ -123,7 +121,7 @@ impl Case {
         };
         let mut outcome = Outcome::default();
         for path in &self.devices {
-            let recorded = device::read(path.as_os_str(), &named)?;
+            let recorded = device::read(path.as_os_str(), &text)?;
             outcome.left_out.extend(recorded.left_out);
             if self.devices.len() > 1 {
                 let name = path.file_name().map_or(&b""[..], OsStr::as_bytes);

@@ -14,6 +14,7 @@ use spillfinch::Refused;
 
 use crate::files;
 use crate::report::Failure;
+use crate::syntax::names::named;
 
 /// A packed record, with what of its recording it lacks.
 #[derive(Debug)]
@@ -60,15 +61,15 @@ pub fn at_line(file: &Path, error: &FormError) -> Failure {
     Failure(format!("{}:{line}: {message}", files::shown(file)))
 }
 
-/// The packed record of a device. Names that the rules ask for are kept first.
-pub fn read(argument: &OsStr, named: &Named) -> Result<Recorded, Failure> {
+/// The packed record of a device. Of a recording, what the rules name is kept first.
+pub fn read(argument: &OsStr, rules: &[u8]) -> Result<Recorded, Failure> {
     let source = Source::of(argument);
     let bytes = files::read(&source.file)?;
     let name = files::shown(Path::new(argument));
     if is_recording(&bytes) {
         let blocks = read_recording(&bytes).map_err(|error| at_line(&source.file, &error))?;
         let event = event(&source, &blocks)?;
-        let imported = import_block(&source.file, &blocks, event, named)?;
+        let imported = import_block(&source.file, &blocks, event, rules)?;
         return Ok(Recorded {
             name,
             record: packed(&source.file, &imported.device)?,
@@ -134,17 +135,28 @@ pub struct FromRecording {
     pub left_out: Vec<String>,
 }
 
+/// Makes the record of a block. What the rules name is kept first, if not all of it has room.
 pub fn import_block(
     file: &Path,
     blocks: &[Block],
     event: usize,
-    named: &Named,
+    rules: &[u8],
 ) -> Result<FromRecording, Failure> {
     let file = files::shown(file);
-    let imported = import(blocks, event, named).map_err(|message| {
-        let path = escape(&blocks[event].path);
-        Failure(format!("{file}: {path}: {message}"))
-    })?;
+    let import = |named: &Named| {
+        import(blocks, event, named).map_err(|message| {
+            let path = escape(&blocks[event].path);
+            Failure(format!("{file}: {path}: {message}"))
+        })
+    };
+    let mut imported = import(&Named::default())?;
+    if imported
+        .left_out
+        .iter()
+        .any(|note| note.reason.is_of_room())
+    {
+        imported = import(&named(rules))?;
+    }
     let note = |note| format!("{file}: {note}");
     Ok(FromRecording {
         device: imported.device,

@@ -2,7 +2,8 @@
 
 mod common;
 
-use common::{repository, run_in, Folder, RULES};
+use common::{program, repository, run_in, Folder, RULES};
+use std::process::Command;
 
 const FIVE: &str = "# a site file with five faults\n\
     KERNAL==\"ttyUSB*\", SYMLINK+=\"a\"\n\
@@ -193,4 +194,31 @@ fn the_examples_have_no_faults() {
         b"",
     );
     said.is(0, "2 files: 0 faults, 0 warnings\n", "");
+}
+
+/// What is seen on a terminal, with these variables set.
+fn on_terminal(folder: &Folder, variables: &[(&str, &str)]) -> String {
+    let shown = Command::new("script")
+        .args([
+            "-qec",
+            &format!("'{}' check bad.rules", program().display()),
+            "/dev/null",
+        ])
+        .current_dir(&folder.path)
+        .env_remove("NO_COLOR")
+        .env("TERM", "xterm")
+        .envs(variables.iter().copied())
+        .output()
+        .expect("script, a terminal for the command");
+    String::from_utf8_lossy(&shown.stdout).into_owned()
+}
+
+#[test]
+fn colors_are_for_terminals() {
+    let folder = Folder::new("check_colors");
+    folder.file("bad.rules", "KERNAL==\"a\"\n");
+    assert!(on_terminal(&folder, &[]).contains("\u{1b}["));
+    assert!(!on_terminal(&folder, &[("NO_COLOR", "1")]).contains("\u{1b}["));
+    assert!(!on_terminal(&folder, &[("TERM", "dumb")]).contains("\u{1b}["));
+    assert!(!folder.run(&["check", "bad.rules"]).out.contains("\u{1b}["));
 }

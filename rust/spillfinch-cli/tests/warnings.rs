@@ -203,3 +203,11 @@ fn faulty_lines_have_no_warnings() {
     );
     assert!(said.out.contains("-:2: warning E9:"), "{}", said.out);
 }
+
+#[test]
+fn the_table_has_every_number() {
+    let table = include_str!("../../../docs/DAEMON.md");
+    let row = |line: &str| line.strip_prefix("| E")?.split(' ').next()?.parse().ok();
+    let listed: Vec<u8> = table.lines().filter_map(row).collect();
+    assert_eq!(listed, spillfinch_cli::check::warnings::NUMBERS);
+}

@@ -62,6 +62,16 @@ impl Kind {
     }
 }
 
+impl Reason {
+    /// Whether it would be in the record if others were not.
+    pub fn is_of_room(self) -> bool {
+        matches!(
+            self,
+            Reason::Attributes | Reason::Properties | Reason::Record
+        )
+    }
+}
+
 impl fmt::Display for Reason {
     fn fmt(&self, f: &mut fmt::Formatter) -> fmt::Result {
         match self {

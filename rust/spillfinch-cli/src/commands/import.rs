@@ -7,7 +7,6 @@ use std::path::{Path, PathBuf};
 use clap::{Arg, ArgAction, ArgMatches, Command};
 use recordings::escape::escape;
 use recordings::form::write_device;
-use recordings::import::Named;
 use recordings::recording::{is_recording, read_recording, Block};
 use recordings::Device;
 
@@ -15,7 +14,6 @@ use super::{device as device_argument, file, names, path, Done};
 use crate::device::{at_line, event, import_block, judge, Source};
 use crate::files;
 use crate::report::{Failure, Report, Status};
-use crate::syntax::names::named;
 
 pub fn command() -> Command {
     Command::new("import")
@@ -64,9 +62,9 @@ pub fn run(matches: &ArgMatches) -> Done {
         let message = "several recordings are written to a directory: -o DIR";
         return Err(Failure(String::from(message)));
     }
-    let named = match path(matches, "rules") {
-        Some(rules) => named(&files::read(rules)?),
-        None => Named::default(),
+    let rules = match path(matches, "rules") {
+        Some(rules) => files::read(rules)?,
+        None => Vec::new(),
     };
     let mut recordings = Vec::new();
     for argument in arguments {
@@ -75,7 +73,7 @@ pub fn run(matches: &ArgMatches) -> Done {
     let mut report = Report::default();
     let mut devices = Vec::new();
     for recording in &recordings {
-        take(recording, &named, &mut devices, &mut report);
+        take(recording, &rules, &mut devices, &mut report);
     }
     match directory {
         None => report.results.extend(
@@ -108,7 +106,7 @@ fn read(source: &Source, takes_all: bool) -> Result<Recording, Failure> {
 }
 
 /// Makes the devices of a recording that the engine accepts; what is left out is said once.
-fn take(recording: &Recording, named: &Named, devices: &mut Vec<Device>, report: &mut Report) {
+fn take(recording: &Recording, rules: &[u8], devices: &mut Vec<Device>, report: &mut Report) {
     let file = files::shown(&recording.file);
     if recording
         .blocks
@@ -120,7 +118,7 @@ fn take(recording: &Recording, named: &Named, devices: &mut Vec<Device>, report:
         ));
     }
     for &event in &recording.events {
-        let made = import_block(&recording.file, &recording.blocks, event, named);
+        let made = import_block(&recording.file, &recording.blocks, event, rules);
         let made = made.map_err(|failure| failure.0).and_then(|made| {
             let path = escape(&recording.blocks[event].path);
             let record = made.device.encode().unwrap_or_default();

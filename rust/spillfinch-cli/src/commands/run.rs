@@ -6,7 +6,6 @@ use recordings::Action;
 
 use super::{device as device_argument, file, names, path, Done};
 use crate::report::{Failure, Report, Status};
-use crate::syntax::names::named;
 use crate::{device, files, listing};
 
 pub fn command() -> Command {
@@ -61,12 +60,11 @@ pub fn run(matches: &ArgMatches) -> Done {
         return Err(Failure(String::from("--record takes the name of a file")));
     }
     let text = files::read(rules)?;
-    let named = named(&text);
     let action = matches.get_one::<String>("action");
     let action = action.and_then(|name| Action::of_name(name.as_bytes()));
     let mut recorded = Vec::new();
     for name in &devices {
-        recorded.push(device::read(name, &named)?);
+        recorded.push(device::read(name, &text)?);
     }
     let start = start_file
         .map(|file| device::read_start(file))

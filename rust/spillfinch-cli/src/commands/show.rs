@@ -2,7 +2,6 @@
 
 use clap::{ArgMatches, Command};
 use recordings::escape::escape;
-use recordings::import::Named;
 use recordings::{ChainDevice, Device, Node};
 
 use super::{device as device_argument, names, Done};
@@ -30,7 +29,7 @@ const OF_PARENT: Keys = [Key::Kernels, Key::Subsystems, Key::Drivers, Key::Attrs
 pub fn run(matches: &ArgMatches) -> Done {
     let mut report = Report::default();
     for name in names(matches, "device") {
-        let recorded = device::read(name, &Named::default())?;
+        let recorded = device::read(name, b"")?;
         for note in &recorded.left_out {
             report.message_once(note);
         }

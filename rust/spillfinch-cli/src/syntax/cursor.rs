@@ -166,23 +166,31 @@ impl<'a> Cursor<'a> {
             let hint = hints::unopened(self.rest());
             return fault(Refusal::ValueBad, self.here(), hint);
         }
-        let (mut bytes, mut places) = (Vec::new(), Vec::new());
+        let (mut bytes, mut escaped) = (Vec::new(), Vec::new());
         self.place += 1;
         loop {
-            let (byte, length) = match self.rest() {
+            let is_special = |byte: &u8| matches!(byte, b'"' | b'\\');
+            let plain = self.rest().iter().position(is_special);
+            let (before, special) = self.rest().split_at(plain.unwrap_or(self.rest().len()));
+            bytes.extend_from_slice(before);
+            self.place += before.len();
+            match special {
                 [] => {
                     let hint = hints::unclosed(&self.line[open..]);
                     return fault(Refusal::ValueBad, open..open + 1, hint);
                 }
                 [b'"', ..] => break,
-                [b'\\', b'"', ..] => (b'"', 2),
-                [byte, ..] => (*byte, 1),
-            };
-            bytes.push(byte);
-            places.push(self.place);
-            self.place += length;
+                [_, b'"', ..] => {
+                    escaped.push(bytes.len());
+                    bytes.push(b'"');
+                    self.place += 2;
+                }
+                _ => {
+                    bytes.push(b'\\');
+                    self.place += 1;
+                }
+            }
         }
-        places.push(self.place);
         self.place += 1;
         let span = open..self.place;
         if bytes.len() > sizes::VALUE_MOST {
@@ -193,7 +201,7 @@ impl<'a> Cursor<'a> {
         Ok(Value {
             bytes,
             span,
-            places,
+            escaped,
         })
     }
 }

@@ -37,15 +37,20 @@ pub struct Value {
     pub bytes: Vec<u8>,
     /// With the marks.
     pub span: Span,
-    /// Where each byte stands in the line, and behind the last one the closing mark.
-    pub(super) places: Vec<usize>,
+    /// Which bytes are written with a backslash before them.
+    pub(super) escaped: Vec<usize>,
 }
 
 impl Value {
     /// The place in the line of a part of the value.
     pub fn place(&self, part: &Span) -> Span {
-        let start = self.places[part.start];
-        start..self.places[part.end].max(start + 1)
+        let start = self.place_of(part.start);
+        start..self.place_of(part.end).max(start + 1)
+    }
+
+    fn place_of(&self, byte: usize) -> usize {
+        let before = self.escaped.iter().filter(|&&escaped| escaped < byte);
+        self.span.start + 1 + byte + before.count()
     }
 }
 

@@ -124,3 +124,12 @@ pub const RULES: &str = "KERNEL==\"ttyUSB[0-9]*\", ATTRS{serial}==\"RC-0417\", \
     SYMLINK+=\"rope/trip%n\", MODE=\"0660\", GROUP=\"dialout\"\n";
 
 pub const LISTING: &str = "visited 1\npriority 0\nmode 0660\ngroup dialout\nlink rope/trip0\n";
+
+/// A folder with the rules, the device, and the recorded counter.
+pub fn run_folder(name: &str) -> Folder {
+    let folder = Folder::new(name);
+    folder.file("rope.rules", RULES).file("tty.device", DEVICE);
+    let recording = repository().join("examples/devices/counter.umockdev");
+    fs::copy(recording, folder.path.join("counter.umockdev")).expect("the recording");
+    folder
+}
