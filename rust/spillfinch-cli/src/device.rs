@@ -72,7 +72,7 @@ pub fn read(argument: &OsStr, rules: &[u8]) -> Result<Recorded, Failure> {
         let imported = import_block(&source.file, &blocks, event, rules)?;
         return Ok(Recorded {
             name,
-            record: packed(&source.file, &imported.device)?,
+            record: packed(&source.file, imported.device.encode())?,
             left_out: imported.left_out,
         });
     }
@@ -86,7 +86,7 @@ pub fn read(argument: &OsStr, rules: &[u8]) -> Result<Recorded, Failure> {
         true => bytes,
         false => {
             let device = read_device(&bytes).map_err(|error| at_line(&source.file, &error))?;
-            packed(&source.file, &device)?
+            packed(&source.file, device.encode())?
         }
     };
     Ok(Recorded {
@@ -103,8 +103,7 @@ pub fn read_start(file: &Path) -> Result<Vec<u8>, Failure> {
         return Ok(bytes);
     }
     let outcome = read_outcome(&bytes).map_err(|error| at_line(file, &error))?;
-    let too_large = || Failure(format!("{}: it fits no record", files::shown(file)));
-    outcome.encode().ok_or_else(too_large)
+    packed(file, outcome.encode())
 }
 
 /// A record begins with its edition, 1, in four bits; a text form holds no NUL.
@@ -112,9 +111,9 @@ fn is_packed(bytes: &[u8]) -> bool {
     matches!(bytes, [0x10..=0x1f, ..]) || bytes.contains(&0)
 }
 
-fn packed(file: &Path, device: &Device) -> Result<Vec<u8>, Failure> {
-    let too_large = || Failure(format!("{}: it fits no record", files::shown(file)));
-    device.encode().ok_or_else(too_large)
+/// What was made of a file; its lengths were looked at before, so it fits.
+fn packed(file: &Path, record: Option<Vec<u8>>) -> Result<Vec<u8>, Failure> {
+    record.ok_or_else(|| Failure(format!("{}: it fits no record", files::shown(file))))
 }
 
 /// Which block of a recording is meant; without a path the first.

@@ -1,6 +1,6 @@
 //! `spillfinch test`: cases run, and their listings compared with those that are expected.
 
-use std::path::{Path, PathBuf};
+use std::path::PathBuf;
 
 use clap::{Arg, ArgAction, ArgMatches, Command};
 use similar::TextDiff;
@@ -48,22 +48,26 @@ pub fn run(matches: &ArgMatches) -> Done {
         let message = format!("{folder}: no case, which is a folder with a device");
         return Err(Failure(message));
     }
+    let is_update = matches.get_flag("update");
     let mut report = Report::default();
     let mut counts = Counts::default();
     let mut changed: Vec<(PathBuf, Vec<u8>)> = Vec::new();
     let mut progress = Progress::new(cases.len());
     for (done, case) in cases.into_iter().enumerate() {
         progress.at(done);
-        let ran = case.and_then(|case| case.run().map(|outcome| (case, outcome)));
-        match ran {
-            Ok((case, outcome)) => {
-                let is_passed = judge(&case, &outcome, matches.get_flag("update"), &mut report)?;
-                match is_passed {
-                    true => counts.passed += 1,
-                    false => {
-                        counts.failed += 1;
-                        changed.push((case.expected(), outcome.listing.into_bytes()));
-                    }
+        match case.and_then(Ran::of) {
+            Ok(ran) => {
+                for note in &ran.outcome.left_out {
+                    report.message_once(note);
+                }
+                if ran.is_passed() {
+                    counts.passed += 1;
+                    continue;
+                }
+                counts.failed += 1;
+                match is_update {
+                    true => changed.push((ran.case.expected(), ran.outcome.listing.into())),
+                    false => ran.show(&mut report),
                 }
             }
             Err(failure) => {
@@ -73,56 +77,62 @@ pub fn run(matches: &ArgMatches) -> Done {
         }
     }
     drop(progress);
-    match matches.get_flag("update") {
+    match is_update {
         true => update(&counts, &changed, &mut report)?,
         false => close(&counts, &mut report),
     }
     Ok(report)
 }
 
-/// Whether a case gives what is expected; what differs is shown.
-fn judge(
-    case: &Case,
-    outcome: &Outcome,
-    is_update: bool,
-    report: &mut Report,
-) -> Result<bool, Failure> {
-    for note in &outcome.left_out {
-        report.message_once(note);
-    }
-    let path = case.expected();
-    let expected = match path.exists() {
-        true => Some(files::read(&path)?),
-        false => None,
-    };
-    if expected.as_deref() == Some(outcome.listing.as_bytes()) {
-        return Ok(true);
-    }
-    if is_update {
-        return Ok(false);
-    }
-    if expected.is_none() {
-        let folder = files::shown(&case.folder);
-        report.message(&format!(
-            "{folder}: no file `{EXPECTED}`; --update writes it"
-        ));
-    }
-    for refused in &outcome.refused {
-        report.message_once(refused);
-    }
-    let expected = expected.unwrap_or_default();
-    let diff = diff(&path, &case.folder, &expected, &outcome.listing);
-    report.results.extend(diff.into_bytes());
-    Ok(false)
+/// A case with what it gives and what is expected of it.
+struct Ran {
+    case: Case,
+    outcome: Outcome,
+    expected: Option<Vec<u8>>,
 }
 
-fn diff(path: &Path, folder: &Path, expected: &[u8], listing: &str) -> String {
-    let expected = String::from_utf8_lossy(expected);
-    let names = (files::shown(path), format!("{} now", files::shown(folder)));
-    TextDiff::from_lines(expected.as_ref(), listing)
+impl Ran {
+    fn of(case: Case) -> Result<Ran, Failure> {
+        let path = case.expected();
+        let expected = match path.exists() {
+            true => Some(files::read(&path)?),
+            false => None,
+        };
+        Ok(Ran {
+            outcome: case.run()?,
+            case,
+            expected,
+        })
+    }
+
+    fn is_passed(&self) -> bool {
+        self.expected.as_deref() == Some(self.outcome.listing.as_bytes())
+    }
+
+    /// Shows what differs.
+    fn show(&self, report: &mut Report) {
+        let folder = files::shown(&self.case.folder);
+        if self.expected.is_none() {
+            report.message(&format!(
+                "{folder}: no file `{EXPECTED}`; --update writes it"
+            ));
+        }
+        for refused in &self.outcome.refused {
+            report.message_once(refused);
+        }
+        let expected = self.expected.as_deref().unwrap_or_default();
+        let diff = TextDiff::from_lines(
+            String::from_utf8_lossy(expected).as_ref(),
+            self.outcome.listing.as_str(),
+        )
         .unified_diff()
-        .header(&names.0, &names.1)
-        .to_string()
+        .header(
+            &files::shown(&self.case.expected()),
+            &format!("{folder} now"),
+        )
+        .to_string();
+        report.results.extend(diff.into_bytes());
+    }
 }
 
 fn cases(count: usize) -> String {
