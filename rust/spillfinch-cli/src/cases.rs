@@ -1,13 +1,11 @@
 //! Folders of cases: rules, devices and the listing that is expected of them.
 
-use std::ffi::OsStr;
 use std::fs;
-use std::os::unix::ffi::OsStrExt;
 use std::path::{Path, PathBuf};
 
-use crate::listing::{head, About};
 use crate::report::Failure;
-use crate::{device, files, listing};
+use crate::running::{head, Rules};
+use crate::{device, files};
 
 /// The name of the expected listing in a case.
 pub const EXPECTED: &str = "expected";
@@ -42,9 +40,9 @@ pub fn find(folder: &Path) -> Result<Vec<Result<Case, Failure>>, Failure> {
 }
 
 /// The rules file of a folder, if it has one.
-type Rules = Result<Option<PathBuf>, Failure>;
+type Found = Result<Option<PathBuf>, Failure>;
 
-fn rules_in(folder: &Path) -> Rules {
+fn rules_in(folder: &Path) -> Found {
     match &files::list(folder, &[RULES])?[..] {
         [] => Ok(None),
         [rules] => Ok(Some(rules.clone())),
@@ -53,7 +51,7 @@ fn rules_in(folder: &Path) -> Rules {
 }
 
 /// The rules file of the nearest folder above that has one.
-fn rules_above(folder: &Path) -> Result<Rules, Failure> {
+fn rules_above(folder: &Path) -> Result<Found, Failure> {
     let whole = fs::canonicalize(folder).map_err(|error| files::failure(folder, &error))?;
     let mut above = folder.to_path_buf();
     for _ in whole.ancestors().skip(1) {
@@ -68,7 +66,7 @@ fn rules_above(folder: &Path) -> Result<Rules, Failure> {
 
 fn add_cases(
     folder: &Path,
-    above: &Rules,
+    above: &Found,
     cases: &mut Vec<Result<Case, Failure>>,
 ) -> Result<(), Failure> {
     let rules = match rules_in(folder) {
@@ -113,33 +111,20 @@ impl Case {
 
     /// Runs the rules on each device of the case.
     pub fn run(&self) -> Result<Outcome, Failure> {
-        let text = files::read(&self.rules)?;
-        let start_file = self.folder.join(START);
-        let start = match start_file.exists() {
-            true => Some(device::read_start(&start_file)?),
-            false => None,
-        };
+        let start = self.folder.join(START);
+        let rules = Rules::read(&self.rules, start.exists().then_some(&start))?;
         let mut outcome = Outcome::default();
         for path in &self.devices {
-            let recorded = device::read(path.as_os_str(), &text)?;
-            outcome.left_out.extend(recorded.left_out);
+            let device = device::read(path.as_os_str(), &rules.text)?;
             if self.devices.len() > 1 {
-                let name = path.file_name().map_or(&b""[..], OsStr::as_bytes);
-                outcome.listing += &head(&String::from_utf8_lossy(name));
+                let name = path.file_name().map(Path::new).unwrap_or(path);
+                outcome.listing += &head(&files::shown(name));
                 outcome.listing.push('\n');
             }
-            match listing::list(&text, &recorded.record, start.as_deref()) {
-                Ok(listed) => outcome.listing += &listed.listing,
-                Err(refused) => {
-                    outcome.listing += &listing::refused(&refused);
-                    let about = About {
-                        rules: &self.rules,
-                        device: &recorded.name,
-                        start: start.as_ref().map(|_| start_file.as_path()),
-                    };
-                    outcome.refused.push(about.explain(&refused));
-                }
-            }
+            let given = rules.run(&device);
+            outcome.listing += &given.listing;
+            outcome.refused.extend(given.record.err());
+            outcome.left_out.extend(device.left_out);
         }
         Ok(outcome)
     }

@@ -11,4 +11,5 @@ pub mod files;
 pub mod listing;
 pub mod progress;
 pub mod report;
+pub mod running;
 pub mod syntax;

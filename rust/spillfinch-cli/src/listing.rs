@@ -1,12 +1,8 @@
 //! The listing of what a rules text makes of a device.
 
-use std::path::Path;
-
 use recordings::escape::escape;
 use recordings::{Outcome, RunList};
-use spillfinch::{Ran, Refusal, Refused};
-
-use crate::files;
+use spillfinch::{Ran, Refused};
 
 /// An accepted run with its close.
 #[derive(Debug)]
@@ -75,38 +71,5 @@ impl Lines {
         self.0.push(' ');
         self.0 += &escape(text);
         self.0.push('\n');
-    }
-}
-
-/// The line before the listing of one device of several.
-pub fn head(device: &str) -> String {
-    format!("device {}", escape(device.as_bytes()))
-}
-
-/// The files of a run that a refusal may be about.
-pub struct About<'a> {
-    pub rules: &'a Path,
-    pub device: &'a str,
-    pub start: Option<&'a Path>,
-}
-
-impl About<'_> {
-    /// The refusal with the file and the line that it is about.
-    pub fn explain(&self, refused: &Refused) -> String {
-        let Refused { refusal, line } = *refused;
-        let number = refusal.number();
-        let rules = files::shown(self.rules);
-        let file = match (refusal, self.start) {
-            (Refusal::DeviceBad, _) => self.device.to_string(),
-            (Refusal::OutcomeBad, Some(start)) => files::shown(start),
-            _ if line > 0 => format!("{rules}:{line}"),
-            _ => rules,
-        };
-        let is_of_run = refusal >= Refusal::SubstitutionLong;
-        let device = match is_of_run {
-            true => format!(", for {}", self.device),
-            false => String::new(),
-        };
-        format!("{file}: refused {number}: {refusal}{device}")
     }
 }

@@ -136,3 +136,28 @@ fn what_rules_name_is_kept() {
          a37: a device has at most 31\n"
     );
 }
+
+/// Names that are no readable text are shown escaped, the same everywhere.
+#[test]
+fn odd_names() {
+    let folder = folder("run_odd");
+    folder
+        .file("a\nb.device", DEVICE)
+        .file("\u{e9}\\.device", DEVICE);
+    let said = folder.run(&[
+        "run",
+        "rope.rules",
+        "--device",
+        "a\nb.device",
+        "--device",
+        "\u{e9}\\.device",
+    ]);
+    let expected = format!("device a\\x0ab.device\n{LISTING}device \u{e9}\\.device\n{LISTING}");
+    said.is(0, &expected, "");
+    let said = folder.run(&["show", "a\nc.device"]);
+    said.is(
+        2,
+        "",
+        "spillfinch: a\\x0ac.device: No such file or directory\n",
+    );
+}

@@ -1,12 +1,15 @@
 //! `spillfinch run`: what a rules file makes of a device.
 
+use std::path::PathBuf;
+
 use clap::builder::PossibleValuesParser;
 use clap::{Arg, ArgAction, ArgMatches, Command};
 use recordings::Action;
 
 use super::{device as device_argument, file, names, path, Done};
 use crate::report::{Failure, Report, Status};
-use crate::{device, files, listing};
+use crate::running::{head, Rules};
+use crate::{device, files};
 
 pub fn command() -> Command {
     Command::new("run")
@@ -51,7 +54,7 @@ pub fn command() -> Command {
 pub fn run(matches: &ArgMatches) -> Done {
     let rules = path(matches, "rules").expect("it is required");
     let devices = names(matches, "device");
-    let start_file = path(matches, "from");
+    let start = path(matches, "from");
     let record_file = path(matches, "record");
     if record_file.is_some() && devices.len() > 1 {
         return Err(Failure(String::from("--record takes one device")));
@@ -59,46 +62,32 @@ pub fn run(matches: &ArgMatches) -> Done {
     if record_file.is_some_and(|file| files::is_standard_input(file)) {
         return Err(Failure(String::from("--record takes the name of a file")));
     }
-    let text = files::read(rules)?;
     let action = matches.get_one::<String>("action");
     let action = action.and_then(|name| Action::of_name(name.as_bytes()));
+    let rules = Rules::read(rules, start.map(PathBuf::as_path))?;
     let mut recorded = Vec::new();
     for name in &devices {
-        recorded.push(device::read(name, &text)?);
+        recorded.push(device::read(name, &rules.text)?);
     }
-    let start = start_file
-        .map(|file| device::read_start(file))
-        .transpose()?;
 
     let mut report = Report::default();
-    for device in recorded {
+    for mut device in recorded {
         for note in &device.left_out {
             report.message_once(note);
         }
-        let record = match action {
-            Some(action) => device::with_action(device.record, action),
-            None => device.record,
-        };
-        if devices.len() > 1 {
-            report.result(&listing::head(&device.name));
+        if let Some(action) = action {
+            device.record = device::with_action(device.record, action);
         }
-        match listing::list(&text, &record, start.as_deref()) {
-            Ok(listed) => {
-                if let Some(file) = record_file {
-                    files::write_all(&[(file.clone(), listed.record)])?;
-                }
-                report.results.extend(listed.listing.into_bytes());
-            }
-            Err(refused) => {
-                report
-                    .results
-                    .extend(listing::refused(&refused).into_bytes());
-                let about = listing::About {
-                    rules,
-                    device: &device.name,
-                    start: start_file.map(|file| file.as_path()),
-                };
-                report.message_once(&about.explain(&refused));
+        if devices.len() > 1 {
+            report.result(&head(&device.name));
+        }
+        let given = rules.run(&device);
+        report.results.extend(given.listing.into_bytes());
+        match (given.record, record_file) {
+            (Ok(record), Some(file)) => files::write_all(&[(file.clone(), record)])?,
+            (Ok(_), None) => {}
+            (Err(refused), _) => {
+                report.message_once(&refused);
                 report.ends(Status::Refused);
             }
         }
