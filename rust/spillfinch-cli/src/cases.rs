@@ -1,6 +1,5 @@
 //! Folders of cases: rules, devices and the listing that is expected of them.
 
-use std::fs;
 use std::path::{Path, PathBuf};
 
 use crate::report::Failure;
@@ -35,7 +34,7 @@ pub struct Outcome {
 /// The cases of a folder and of those in it. One that cannot be read is told in its place.
 pub fn find(folder: &Path) -> Result<Vec<Result<Case, Failure>>, Failure> {
     let mut cases = Vec::new();
-    add_cases(folder, &rules_above(folder)?, &mut cases)?;
+    add_cases(folder, &Ok(None), &mut cases)?;
     Ok(cases)
 }
 
@@ -48,20 +47,6 @@ fn rules_in(folder: &Path) -> Found {
         [rules] => Ok(Some(rules.clone())),
         _ => Err(of_folder(folder, "more than one rules file")),
     }
-}
-
-/// The rules file of the nearest folder above that has one.
-fn rules_above(folder: &Path) -> Result<Found, Failure> {
-    let whole = fs::canonicalize(folder).map_err(|error| files::failure(folder, &error))?;
-    let mut above = folder.to_path_buf();
-    for _ in whole.ancestors().skip(1) {
-        above.push("..");
-        match rules_in(&above) {
-            Ok(None) => {}
-            found => return Ok(found),
-        }
-    }
-    Ok(Ok(None))
 }
 
 fn add_cases(
@@ -95,7 +80,10 @@ fn case(folder: &Path, rules: Option<PathBuf>, devices: Vec<PathBuf>) -> Result<
         return Err(of_folder(folder, message));
     }
     let Some(rules) = rules else {
-        return Err(of_folder(folder, "no rules file here or above"));
+        return Err(of_folder(
+            folder,
+            "no rules file here, nor above in the folder that is tested",
+        ));
     };
     Ok(Case {
         folder: folder.to_path_buf(),

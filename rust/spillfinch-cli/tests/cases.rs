@@ -2,7 +2,7 @@
 
 mod common;
 
-use common::{program, repository, run_in, Folder, DEVICE, LISTING, RULES};
+use common::{on_terminal, repository, run_in, Folder, DEVICE, LISTING, RULES};
 use std::fs;
 use std::process::Command;
 use std::thread;
@@ -31,9 +31,6 @@ fn cases_that_pass() {
     folder
         .run(&["test", "."])
         .is(0, "2 cases: 2 passed, 0 failed\n", "");
-    folder
-        .run(&["test", "rope"])
-        .is(0, "1 case: 1 passed, 0 failed\n", "");
     folder
         .run(&["test", "--update"])
         .is(0, "2 cases: 0 updated, 2 as before\n", "");
@@ -66,15 +63,18 @@ fn a_case_that_fails_is_shown_and_updated() {
 fn a_new_case() {
     let folder = folder("test_new");
     folder.file("new/tty.device", DEVICE);
-    let said = folder.run(&["test", "new"]);
+    let said = folder.run(&["test"]);
     let shown = LISTING.replace('\n', "\n+");
     let diff = format!("--- new/expected\n+++ new now\n@@ -0,0 +1,5 @@\n+{shown}");
-    let out = format!("{}1 case: 0 passed, 1 failed\n", diff.trim_end_matches('+'));
+    let out = format!(
+        "{}3 cases: 2 passed, 1 failed\n",
+        diff.trim_end_matches('+')
+    );
     said.is(1, &out, "new: no file `expected`; --update writes it\n");
     assert!(!folder.has("new/expected"));
-    folder.run(&["test", "new", "--update"]).is(
+    folder.run(&["test", "--update"]).is(
         0,
-        "updated new/expected\n1 case: 1 updated, 0 as before\n",
+        "updated new/expected\n3 cases: 1 updated, 2 as before\n",
         "",
     );
     assert_eq!(folder.read("new/expected"), LISTING);
@@ -127,9 +127,9 @@ fn what_recordings_leave_out_is_said() {
             "udev/expected",
             "visited 1\npriority 0\nenv ACTION=add\nenv DEVPATH=/devices/sda\n",
         );
-    folder.run(&["test", "udev"]).is(
+    folder.run(&["test", "."]).is(
         0,
-        "1 case: 1 passed, 0 failed\n",
+        "3 cases: 3 passed, 0 failed\n",
         "udev/a.umockdev: /devices/sda: left out property TAGS: left by an earlier run of udev\n",
     );
 }
@@ -175,14 +175,11 @@ fn folders_without_cases() {
     folder.run(&["test", "notes"]).is(2, "", message);
     let message = "spillfinch: absent: No such file or directory\n";
     folder.run(&["test", "absent"]).is(2, "", message);
-    let alone = Folder::new("test_alone");
-    alone.file("a/tty.device", DEVICE);
-    // No folder above the tests has rules.
-    let said = alone.run(&["test"]);
-    said.is(
+    // Rules above the folder that is tested are none of it.
+    folder.run(&["test", "rope"]).is(
         2,
         "1 case: 0 passed, 0 failed, 1 not read\n",
-        "spillfinch: a: no rules file here or above\n",
+        "spillfinch: rope: no rules file here, nor above in the folder that is tested\n",
     );
 }
 
@@ -204,17 +201,8 @@ fn a_long_test_tells_how_far_it_is() {
         thread::sleep(Duration::from_millis(1_300));
         fs::write(pipe, DEVICE).expect("the pipe is read");
     });
-    let shown = Command::new("script")
-        .args([
-            "-qec",
-            &format!("'{}' test", program().display()),
-            "/dev/null",
-        ])
-        .current_dir(&folder.path)
-        .output()
-        .expect("script, a terminal for the command");
+    let shown = on_terminal(&folder, "test", &[]);
     writer.join().expect("the writer ends");
-    let shown = String::from_utf8_lossy(&shown.stdout).into_owned();
     let line = "\r\u{1b}[K1 of 3 cases";
     assert!(shown.contains(line), "{shown:?}");
     let erased = shown.rfind("\r\u{1b}[K").expect("the line is erased");

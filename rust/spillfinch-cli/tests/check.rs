@@ -2,8 +2,7 @@
 
 mod common;
 
-use common::{program, repository, run_in, Folder, RULES};
-use std::process::Command;
+use common::{on_terminal, repository, run_in, Folder, RULES};
 
 const FIVE: &str = "# a site file with five faults\n\
     KERNAL==\"ttyUSB*\", SYMLINK+=\"a\"\n\
@@ -196,29 +195,12 @@ fn the_examples_have_no_faults() {
     said.is(0, "2 files: 0 faults, 0 warnings\n", "");
 }
 
-/// What is seen on a terminal, with these variables set.
-fn on_terminal(folder: &Folder, variables: &[(&str, &str)]) -> String {
-    let shown = Command::new("script")
-        .args([
-            "-qec",
-            &format!("'{}' check bad.rules", program().display()),
-            "/dev/null",
-        ])
-        .current_dir(&folder.path)
-        .env_remove("NO_COLOR")
-        .env("TERM", "xterm")
-        .envs(variables.iter().copied())
-        .output()
-        .expect("script, a terminal for the command");
-    String::from_utf8_lossy(&shown.stdout).into_owned()
-}
-
 #[test]
 fn colors_are_for_terminals() {
     let folder = Folder::new("check_colors");
     folder.file("bad.rules", "KERNAL==\"a\"\n");
-    assert!(on_terminal(&folder, &[]).contains("\u{1b}["));
-    assert!(!on_terminal(&folder, &[("NO_COLOR", "1")]).contains("\u{1b}["));
-    assert!(!on_terminal(&folder, &[("TERM", "dumb")]).contains("\u{1b}["));
+    assert!(on_terminal(&folder, "check bad.rules", &[]).contains("\u{1b}["));
+    assert!(!on_terminal(&folder, "check bad.rules", &[("NO_COLOR", "1")]).contains("\u{1b}["));
+    assert!(!on_terminal(&folder, "check bad.rules", &[("TERM", "dumb")]).contains("\u{1b}["));
     assert!(!folder.run(&["check", "bad.rules"]).out.contains("\u{1b}["));
 }

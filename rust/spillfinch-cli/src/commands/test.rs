@@ -26,9 +26,9 @@ pub fn command() -> Command {
                 .help("Write the listings as they are now to the expected files"),
         )
         .after_help(
-            "A case is a folder with devices (*.device, *.umockdev), the rules file (*.rules, here\n\
-             or in the nearest folder above) and the file `expected`: what `spillfinch run` prints\n\
-             for them. A file `from` is the outcome record to start from.\n\n\
+            "A case is a folder with devices (*.device, *.umockdev), a rules file (*.rules, there or\n\
+             in the nearest folder above it within DIR) and the file `expected`: what `spillfinch\n\
+             run` prints for them. A file `from` is the outcome record to start from.\n\n\
              Example:\n  spillfinch test examples/cases",
         )
 }

@@ -133,3 +133,17 @@ pub fn run_folder(name: &str) -> Folder {
     fs::copy(recording, folder.path.join("counter.umockdev")).expect("the recording");
     folder
 }
+
+/// What is seen on a terminal, with these variables set.
+pub fn on_terminal(folder: &Folder, arguments: &str, variables: &[(&str, &str)]) -> String {
+    let command = format!("'{}' {arguments}", program().display());
+    let shown = Command::new("script")
+        .args(["-qec", &command, "/dev/null"])
+        .current_dir(&folder.path)
+        .env_remove("NO_COLOR")
+        .env("TERM", "xterm")
+        .envs(variables.iter().copied())
+        .output()
+        .expect("script, a terminal for the command");
+    String::from_utf8_lossy(&shown.stdout).into_owned()
+}
