@@ -1,5 +1,6 @@
 //! What a command says, and how it ends.
 
+use std::collections::HashSet;
 use std::fmt;
 use std::io::{self, ErrorKind, Write};
 use std::process::ExitCode;
@@ -20,7 +21,9 @@ pub struct Report {
     /// For standard output.
     pub results: Vec<u8>,
     /// For standard error.
-    pub messages: String,
+    messages: String,
+    /// The messages that are not to be repeated.
+    said: HashSet<String>,
     pub status: Status,
 }
 
@@ -39,6 +42,7 @@ impl Default for Report {
         Report {
             results: Vec::new(),
             messages: String::new(),
+            said: HashSet::new(),
             status: Status::Well,
         }
     }
@@ -67,7 +71,7 @@ impl Report {
 
     /// A message that is not repeated.
     pub fn message_once(&mut self, line: &str) {
-        if !self.messages.lines().any(|said| said == line) {
+        if self.said.insert(line.to_string()) {
             self.message(line);
         }
     }

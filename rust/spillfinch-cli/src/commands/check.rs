@@ -62,10 +62,8 @@ pub fn run(matches: &ArgMatches) -> Done {
         checked.push(check(path, text, &allowed));
     }
     let format = matches.get_one::<String>("format").map(String::as_str);
-    let mut report = Report {
-        results: shown(&checked, format).into_bytes(),
-        ..Report::default()
-    };
+    let mut report = Report::default();
+    report.results.extend(shown(&checked, format).into_bytes());
     if Counts::of(&checked).faults > 0 {
         report.ends(Status::Refused);
     }
