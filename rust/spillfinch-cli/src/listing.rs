@@ -37,6 +37,7 @@ fn lines(ran: &Ran, list: &[u8]) -> String {
     let list = RunList::decode(list).expect("the engine writes a run list");
     let mut lines = Lines::default();
     lines.add("visited", ran.visited.to_string().as_bytes());
+    lines.add("tried", ran.tried.to_string().as_bytes());
     lines.add("priority", outcome.priority.to_string().as_bytes());
     if let Some(mode) = outcome.mode {
         lines.add("mode", format!("{mode:04o}").as_bytes());

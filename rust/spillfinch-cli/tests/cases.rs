@@ -17,7 +17,7 @@ fn folder(name: &str) -> Folder {
         .file("rope/tty.device", DEVICE)
         .file("rope/expected", LISTING)
         .file("disk/sda.device", other)
-        .file("disk/expected", "visited 1\npriority 0\n")
+        .file("disk/expected", "visited 1\ntried 0\npriority 0\n")
         .file("notes/readme", "no case");
     folder
 }
@@ -40,7 +40,8 @@ fn cases_that_pass() {
 fn a_case_that_fails_is_shown_and_updated() {
     let folder = folder("test_fail");
     folder.file("rope.rules", RULES.replace("0660", "0640"));
-    let expected = "--- rope/expected\n+++ rope now\n@@ -1,5 +1,5 @@\n visited 1\n priority 0\n\
+    let expected =
+        "--- rope/expected\n+++ rope now\n@@ -1,6 +1,6 @@\n visited 1\n tried 2\n priority 0\n\
         -mode 0660\n+mode 0640\n group dialout\n link rope/trip0\n2 cases: 1 passed, 1 failed\n";
     folder.run(&["test"]).is(1, expected, "");
     assert_eq!(folder.read("rope/expected"), LISTING);
@@ -65,7 +66,7 @@ fn a_new_case() {
     folder.file("new/tty.device", DEVICE);
     let said = folder.run(&["test"]);
     let shown = LISTING.replace('\n', "\n+");
-    let diff = format!("--- new/expected\n+++ new now\n@@ -0,0 +1,5 @@\n+{shown}");
+    let diff = format!("--- new/expected\n+++ new now\n@@ -0,0 +1,6 @@\n+{shown}");
     let out = format!(
         "{}3 cases: 2 passed, 1 failed\n",
         diff.trim_end_matches('+')
@@ -90,8 +91,8 @@ fn several_devices_a_start_and_rules_of_its_own() {
         .file("both/own.rules", "TAG+=\"own\"\n")
         .file(
             "both/expected",
-            "device a.device\nvisited 1\npriority 0\nlink kept\ntag own\n\
-             device b.device\nvisited 1\npriority 0\nlink kept\ntag own\n",
+            "device a.device\nvisited 1\ntried 0\npriority 0\nlink kept\ntag own\n\
+             device b.device\nvisited 1\ntried 0\npriority 0\nlink kept\ntag own\n",
         );
     folder
         .run(&["test"])
@@ -125,7 +126,7 @@ fn what_recordings_leave_out_is_said() {
         .file("udev/a.umockdev", "P: /devices/sda\nE: TAGS=:a:\n")
         .file(
             "udev/expected",
-            "visited 1\npriority 0\nenv ACTION=add\nenv DEVPATH=/devices/sda\n",
+            "visited 1\ntried 0\npriority 0\nenv ACTION=add\nenv DEVPATH=/devices/sda\n",
         );
     folder.run(&["test", "."]).is(
         0,

@@ -110,7 +110,9 @@ fn quoted_pairs_hold() {
         for parent in &device.chain {
             pairs.push((Key::Kernels, b"", parent.name()));
             pairs.push((Key::Subsystems, b"", &parent.subsystem));
-            pairs.push((Key::Drivers, b"", &parent.driver));
+            if !parent.driver.is_empty() {
+                pairs.push((Key::Drivers, b"", &parent.driver));
+            }
             for attribute in &parent.attributes {
                 pairs.push((Key::Attrs, &attribute.name, &attribute.value));
             }

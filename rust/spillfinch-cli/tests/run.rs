@@ -45,7 +45,8 @@ fn records_are_written_and_taken_up() {
         "--from",
         "out",
     ]);
-    said.is(0, &format!("{LISTING}link second\ntag seen\n"), "");
+    let untried = LISTING.replace("tried 2", "tried 0");
+    said.is(0, &format!("{untried}link second\ntag seen\n"), "");
     folder.file("start", "closed links\nlink kept\n");
     let said = folder.run(&[
         "run",
@@ -55,7 +56,11 @@ fn records_are_written_and_taken_up() {
         "--from",
         "start",
     ]);
-    said.is(0, "visited 1\npriority 0\nlink kept\ntag seen\n", "");
+    said.is(
+        0,
+        "visited 1\ntried 0\npriority 0\nlink kept\ntag seen\n",
+        "",
+    );
     assert_eq!(folder.names().len(), 6, "no other file is left");
 }
 
@@ -66,7 +71,7 @@ fn a_packed_record_is_a_device() {
     folder.file("packed", packed);
     folder.file("all.rules", "SYMLINK+=\"%k-%M\"\n");
     let said = folder.run(&["run", "all.rules", "--device", "packed"]);
-    said.is(0, "visited 1\npriority 0\nlink ttyUSB0-188\n", "");
+    said.is(0, "visited 1\ntried 0\npriority 0\nlink ttyUSB0-188\n", "");
     let said = folder.run(&[
         "run",
         "all.rules",
@@ -75,7 +80,7 @@ fn a_packed_record_is_a_device() {
         "--action",
         "remove",
     ]);
-    said.is(0, "visited 1\npriority 0\nlink ttyUSB0-188\n", "");
+    said.is(0, "visited 1\ntried 0\npriority 0\nlink ttyUSB0-188\n", "");
     folder.file("damaged", &packed[..20]);
     for arguments in [
         &["--device", "damaged"][..],
@@ -103,7 +108,8 @@ fn devices_of_a_recording() {
         "env ACTION=add\nenv DEVPATH={COUNTER}\nenv DEVNAME=/dev/ttyUSB0\nenv MAJOR=188\n\
          env MINOR=0\nenv SUBSYSTEM=tty\n"
     );
-    said.is(0, &format!("{LISTING}{properties}"), "");
+    let farther = LISTING.replace("tried 2", "tried 4");
+    said.is(0, &format!("{farther}{properties}"), "");
     let said = folder.run(&[
         "run",
         "one.rules",
@@ -114,10 +120,10 @@ fn devices_of_a_recording() {
         "tty.device",
     ]);
     let expected = format!(
-        "device {one}\nvisited 1\npriority 0\nenv ACTION=remove\n\
+        "device {one}\nvisited 1\ntried 0\npriority 0\nenv ACTION=remove\n\
          env DEVPATH=/devices/pci0000:00/0000:00:14.0/usb1/1-2\nenv DEVNAME=/dev/bus/usb/001/002\n\
          env DEVTYPE=usb_device\nenv DRIVER=usb\nenv MAJOR=189\nenv MINOR=1\nenv SUBSYSTEM=usb\n\
-         tag gone\ndevice tty.device\nvisited 1\npriority 0\n"
+         tag gone\ndevice tty.device\nvisited 1\ntried 0\npriority 0\n"
     );
     said.is(0, &expected, "");
 }

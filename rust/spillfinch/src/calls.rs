@@ -8,6 +8,7 @@ pub const NUMBER: usize = 0;
 pub const LINE: usize = 1;
 pub const VISITED: usize = 2;
 pub const USED: usize = 3;
+pub const TRIED: usize = 4;
 
 extern "C" {
     fn spillfinch_check(text: *const u8, text_length: usize, answer: *mut Answer);

@@ -15,6 +15,8 @@ use calls::Answer;
 pub struct Ran {
     /// How many rules had their matching begun.
     pub visited: u32,
+    /// How many devices were tried for the parent keys of its rules.
+    pub tried: u32,
     /// The outcome record.
     pub record: Vec<u8>,
 }
@@ -41,6 +43,7 @@ pub fn run(text: &[u8], device: &[u8], outcome: &[u8]) -> Result<Ran, Refused> {
     })?;
     Ok(Ran {
         visited: answer[calls::VISITED],
+        tried: answer[calls::TRIED],
         record,
     })
 }

@@ -25,12 +25,13 @@ pub enum Refusal {
     ListFull = 32,
     OwnerBad = 33,
     ModeBad = 34,
+    ModeShared = 36,
 }
 
 use Refusal::*;
 
 impl Refusal {
-    pub const ALL: [Refusal; 19] = [
+    pub const ALL: [Refusal; 20] = [
         TargetShort,
         TextLong,
         DeviceBad,
@@ -50,6 +51,7 @@ impl Refusal {
         ListFull,
         OwnerBad,
         ModeBad,
+        ModeShared,
     ];
 
     pub fn number(self) -> u32 {
@@ -84,6 +86,7 @@ impl Refusal {
             ListFull => "no room for one more link, tag, program or property",
             OwnerBad => "faulty owner or group",
             ModeBad => "faulty mode",
+            ModeShared => "mode that lets others write",
         }
     }
 }

@@ -89,11 +89,6 @@ fn falling(members: &[u8]) -> Option<usize> {
     None
 }
 
-/// Whether a pattern matches the empty value.
-pub fn matches_empty(pattern: &[u8]) -> bool {
-    alternatives(pattern).any(|(_, alternative)| alternative.iter().all(|&byte| byte == b'*'))
-}
-
 /// Whether a pattern is compared byte by byte.
 pub fn is_plain(pattern: &[u8]) -> bool {
     !pattern.iter().any(|byte| b"*?[".contains(byte))

@@ -123,7 +123,8 @@ pub const DEVICE: &str = "action add\nnode 188 0\ndevice /devices/usb1/1-1/1-1:1
 pub const RULES: &str = "KERNEL==\"ttyUSB[0-9]*\", ATTRS{serial}==\"RC-0417\", \
     SYMLINK+=\"rope/trip%n\", MODE=\"0660\", GROUP=\"dialout\"\n";
 
-pub const LISTING: &str = "visited 1\npriority 0\nmode 0660\ngroup dialout\nlink rope/trip0\n";
+pub const LISTING: &str =
+    "visited 1\ntried 2\npriority 0\nmode 0660\ngroup dialout\nlink rope/trip0\n";
 
 /// A folder with the rules, the device, and the recorded counter.
 pub fn run_folder(name: &str) -> Folder {

@@ -2,7 +2,7 @@
 //! properties (E5), kernel names (E19), subsystems of one meaning (E22).
 
 use super::Found;
-use crate::syntax::pattern::{alternatives, is_plain, matches_empty, sets};
+use crate::syntax::pattern::{alternatives, is_plain, sets};
 use crate::syntax::{Key, Operator, Pair, Rule, Span};
 
 /// Properties that the daemon always has.
@@ -45,9 +45,8 @@ pub fn given(name: &[u8]) -> String {
 }
 
 fn judge_missing(rule: &Rule, pair: &Pair, found: &mut Found) {
-    let holds = matches_empty(&pair.value.bytes) == (pair.operator == Operator::Equal);
-    if holds {
-        let text = "here a missing attribute reads as empty, so this holds without it; \
+    if pair.operator == Operator::Unequal {
+        let text = "here this holds without the attribute; \
                     in udev neither == nor != holds then";
         found.add(2, rule, &pair.span, text);
     }
