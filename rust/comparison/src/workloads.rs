@@ -1,14 +1,15 @@
 //! The texts that the benchmark runs, and the device that it runs them on.
 
 use reference::device::Device;
-use reference::sizes;
+use reference::generate::fullest;
 use reference::text_form::parse_device;
+use reference::{sizes, Outcome};
 
 pub struct Workload {
     pub name: &'static str,
     pub text: Vec<u8>,
-    /// The instructions that systemd 252 takes to read the text and to apply its rules.
-    pub daemon_instructions: Option<u64>,
+    /// The record that its run starts from.
+    pub outcome: Outcome,
 }
 
 impl Workload {
@@ -23,8 +24,8 @@ pub fn counter() -> Device {
     parse_device(form).expect("the form describes a sound device")
 }
 
-/// The texts with what the daemon takes on them, then jumps, then texts that ask little of a reader and much of what
-/// the engine does beside reading.
+/// Texts of 512 rules with few keys, then jumps, then texts that ask little of a reader and much of what the engine does
+/// beside reading, then small texts.
 pub fn workloads() -> Vec<Workload> {
     vec![
         plain_miss(),
@@ -41,6 +42,9 @@ pub fn workloads() -> Vec<Workload> {
         short_lines(),
         short_pairs(),
         full_record(),
+        one_rule(),
+        ten_rules(),
+        full_start(),
     ]
 }
 
@@ -48,12 +52,15 @@ pub fn workloads() -> Vec<Workload> {
 pub fn family() -> Vec<Workload> {
     [("site_8k", 128), ("site_16k", 256), ("site_32k", 512)]
         .into_iter()
-        .map(|(name, rules)| Workload {
-            name,
-            text: text_of(rules, |i| {
-                format!(r#"KERNEL=="ttyUSB[0-9]*",ATTRS{{serial}}=="RC-{i:04}",SYMLINK+="t{i:03}""#)
-            }),
-            daemon_instructions: None,
+        .map(|(name, rules)| {
+            workload(
+                name,
+                text_of(rules, |i| {
+                    format!(
+                        r#"KERNEL=="ttyUSB[0-9]*",ATTRS{{serial}}=="RC-{i:04}",SYMLINK+="t{i:03}""#
+                    )
+                }),
+            )
         })
         .collect()
 }
@@ -64,52 +71,62 @@ fn text_of(rules: usize, rule: impl Fn(usize) -> String) -> Vec<u8> {
         .collect()
 }
 
-fn full_text(name: &'static str, daemon: u64, rule: impl Fn(usize) -> String) -> Workload {
+fn workload(name: &'static str, text: Vec<u8>) -> Workload {
     Workload {
         name,
-        text: text_of(sizes::RULES, rule),
-        daemon_instructions: Some(daemon),
+        text,
+        outcome: Outcome::fresh(&counter()),
     }
+}
+
+fn full_text(name: &'static str, rule: impl Fn(usize) -> String) -> Workload {
+    workload(name, text_of(sizes::RULES, rule))
 }
 
 /// One plain comparison a rule; none holds.
 fn plain_miss() -> Workload {
-    full_text("plain_miss", 5_275_000, |i| {
-        format!(r#"KERNEL=="ttyACM{i:03}", SYMLINK+="rope/t{i:03}""#)
-    })
+    full_text("plain_miss", miss)
+}
+
+fn miss(i: usize) -> String {
+    link_of(&format!("ttyACM{i:03}"), &format!("t{i:03}"))
+}
+
+fn link_of(kernel: &str, link: &str) -> String {
+    format!(r#"KERNEL=="{kernel}", SYMLINK+="rope/{link}""#)
 }
 
 /// One plain comparison a rule; all hold, and a property is rewritten each time.
 fn plain_hit() -> Workload {
-    full_text("plain_hit", 6_390_000, |i| {
+    full_text("plain_hit", |i| {
         format!(r#"KERNEL=="ttyUSB0", ENV{{STEP}}="{i:03}""#)
     })
 }
 
 /// Three plain comparisons a rule; the first two hold, the third does not.
 fn plain_three() -> Workload {
-    full_text("plain_three", 7_778_000, |i| {
+    full_text("plain_three", |i| {
         format!(r#"SUBSYSTEM=="tty",KERNEL=="ttyUSB0",ACTION=="{i:03}",TAG+="t""#)
     })
 }
 
 /// A plain comparison of a parent's attribute, tried at all 4 devices; none holds.
 fn parents_miss() -> Workload {
-    full_text("parents_miss", 7_770_000, |i| {
+    full_text("parents_miss", |i| {
         format!(r#"ATTRS{{serial}}=="RC-{i:04}x", SYMLINK+="rope/t%n""#)
     })
 }
 
 /// Patterns with a set and a star; none holds.
 fn glob_miss() -> Workload {
-    full_text("glob_miss", 5_577_000, |i| {
+    full_text("glob_miss", |i| {
         format!(r#"KERNEL=="tty[A-R]*{i:03}", SYMLINK+="rope/t%n""#)
     })
 }
 
 /// A site's file: a pattern, a parent's attribute and a link; one rule of all holds.
 fn site() -> Workload {
-    full_text("site", 9_410_000, |i| {
+    full_text("site", |i| {
         format!(r#"KERNEL=="ttyUSB*",ATTRS{{serial}}=="RC-{i:04}",SYMLINK+="t{i}""#)
     })
 }
@@ -223,11 +240,20 @@ fn full_record() -> Workload {
     )
 }
 
-fn workload(name: &'static str, text: Vec<u8>) -> Workload {
+/// One rule, which holds.
+fn one_rule() -> Workload {
+    workload("one_rule", text_of(1, |_| link_of("ttyUSB0", "t0")))
+}
+
+fn ten_rules() -> Workload {
+    workload("ten_rules", text_of(10, miss))
+}
+
+/// One rule, which does not hold, from a record that is full. The names of a list differ in their last bytes only.
+fn full_start() -> Workload {
     Workload {
-        name,
-        text,
-        daemon_instructions: None,
+        outcome: fullest(),
+        ..workload("full_start", text_of(1, miss))
     }
 }
 
@@ -245,7 +271,6 @@ fn labels_of_one_hash() -> Vec<String> {
 #[cfg(test)]
 mod tests {
     use super::*;
-    use reference::Outcome;
     use std::collections::HashSet;
 
     /// As crate `jumps` has it.
@@ -270,12 +295,15 @@ mod tests {
 
     #[test]
     fn all_texts_run_but_one() {
-        let device = counter();
-        let outcome = Outcome::fresh(&device).encode();
-        let device = device.encode();
+        let device = counter().encode();
         let target = &mut [0; sizes::OUTCOME_TARGET];
-        for Workload { name, text, .. } in workloads().into_iter().chain(family()) {
-            let answer = reference::run(&text, &device, &outcome, target);
+        for workload in workloads().into_iter().chain(family()) {
+            let Workload {
+                name,
+                text,
+                outcome,
+            } = workload;
+            let answer = reference::run(&text, &device, &outcome.encode(), target);
             let refused = if name == "jumps_nowhere" { 19 } else { 0 };
             assert_eq!(answer.number, refused, "{name}");
         }

@@ -15,6 +15,7 @@ mod world;
 use crate::key::{ArgumentRule, KeyRow, Operator, KEYS};
 use crate::sizes;
 use damage::{damage, damage_text, random_bytes};
+pub use edge_cases::fullest;
 use edges::{Edge, EDGES};
 use faults::FAULTY_PAIRS;
 use pairs::{assignment_pair, pair};

@@ -3,6 +3,7 @@
 use std::env;
 use std::ffi::{c_char, c_int, CStr};
 use std::hint::black_box;
+use std::io::{self, Write};
 use std::process::ExitCode;
 use std::time::Instant;
 
@@ -12,7 +13,8 @@ use reference::compare::{run_reply, Engine, Reference};
 use reference::{generate, sizes, Outcome};
 
 const USAGE: &str = "usage: bench
-       bench list                       name, bytes, rules and the daemon's instructions of each text
+       bench list                       name, bytes and rules of each text
+       bench text TEXT                  a text itself
        bench count ENGINE TEXT TIMES    run a text so often with an engine, linked or reference
        bench worst CASES                the generated cases whose runs take longest beside the reference";
 
@@ -35,6 +37,7 @@ fn main() -> ExitCode {
             list();
             Some(())
         }
+        ["text", text] => show_text(text),
         ["count", engine, text, times] => count(engine, text, times),
         ["worst", cases] => show_worst(cases),
         _ => None,
@@ -56,15 +59,10 @@ struct Bench {
 }
 
 impl Bench {
-    /// The counter, with its fresh record and these tags in it.
-    fn new(tags: &[&CStr]) -> Bench {
-        let device = counter();
-        let outcome = Outcome {
-            tags: tags.iter().map(|tag| tag.to_bytes().to_vec()).collect(),
-            ..Outcome::fresh(&device)
-        };
+    /// The counter, with that record.
+    fn new(outcome: &Outcome) -> Bench {
         Bench {
-            device: device.encode(),
+            device: counter().encode(),
             outcome: outcome.encode(),
             target: vec![0; sizes::OUTCOME_TARGET],
         }
@@ -109,10 +107,10 @@ fn best<const N: usize>(runs: usize, mut run: impl FnMut(usize) -> f64) -> [f64;
 }
 
 /// The best times of the linked engine and of the reference on the counter.
-fn times_of_both(text: &[u8]) -> [f64; 2] {
-    let mut bench = Bench::new(&[]);
-    bench.assert_engines_agree(text);
-    bench.times_of_both(RUNS, text)
+fn times_of_both(workload: &Workload) -> [f64; 2] {
+    let mut bench = Bench::new(&workload.outcome);
+    bench.assert_engines_agree(&workload.text);
+    bench.times_of_both(RUNS, &workload.text)
 }
 
 // ---- texts
@@ -121,17 +119,24 @@ fn all_workloads() -> impl Iterator<Item = Workload> {
     workloads().into_iter().chain(family())
 }
 
+fn workload_of(name: &str) -> Option<Workload> {
+    all_workloads().find(|workload| workload.name == name)
+}
+
 fn list() {
     for workload in all_workloads() {
-        let daemon = workload.daemon_instructions;
         println!(
-            "{} {} {} {}",
+            "{} {} {}",
             workload.name,
             workload.text.len(),
             workload.rules(),
-            daemon.map_or(String::from("-"), |instructions| instructions.to_string()),
         );
     }
+}
+
+fn show_text(name: &str) -> Option<()> {
+    let workload = workload_of(name)?;
+    io::stdout().write_all(&workload.text).ok()
 }
 
 fn count(engine: &str, text: &str, times: &str) -> Option<()> {
@@ -140,9 +145,9 @@ fn count(engine: &str, text: &str, times: &str) -> Option<()> {
         "reference" => &Reference,
         _ => return None,
     };
-    let workload = all_workloads().find(|workload| workload.name == text)?;
+    let workload = workload_of(text)?;
     let times: usize = times.parse().ok()?;
-    let mut bench = Bench::new(&[]);
+    let mut bench = Bench::new(&workload.outcome);
     for _ in 0..times {
         bench.run(engine, &workload.text);
     }
@@ -155,7 +160,7 @@ fn show_texts() {
         "text", "bytes", "rules", "us a run", "ns/rule", "ns/byte", "reference us", "ratio"
     );
     for workload in all_workloads() {
-        let [ours, reference] = times_of_both(&workload.text);
+        let [ours, reference] = times_of_both(&workload);
         println!(
             "{:14} {:6} {:6} {:9.1} {:8.1} {:8.2} {:13.1} {:8.2}",
             workload.name,
@@ -174,7 +179,7 @@ fn show_growth() {
     println!("\ntime with size, each against the size before");
     let mut before: Option<f64> = None;
     for workload in family() {
-        let [ours, _] = times_of_both(&workload.text);
+        let [ours, _] = times_of_both(&workload);
         let growth = before.map_or(String::new(), |before| format!("{:.2}", ours / before));
         println!("{:14} {:9.1} us {growth:>6}", workload.name, ours / 1e3);
         before = Some(ours);
@@ -256,7 +261,12 @@ fn show_glob() {
         format!("TAG{operator}\"{pattern}\"\n").repeat(sizes::RULES)
     };
     let (equal, unequal) = (text("=="), text("!="));
-    let (mut without, mut with) = (Bench::new(&[]), Bench::new(&[NAME]));
+    let fresh = Outcome::fresh(&counter());
+    let tagged = Outcome {
+        tags: vec![NAME.to_bytes().to_vec()],
+        ..fresh.clone()
+    };
+    let (mut without, mut with) = (Bench::new(&fresh), Bench::new(&tagged));
     let [equal_without, equal_with, unequal_without, unequal_with, libc] =
         best(RUNS_FOR_DIFFERENCES, |which| match which {
             0 => without.run(&Linked, equal.as_bytes()),

@@ -368,6 +368,7 @@ fn long_names(count: usize, length: usize) -> Vec<Vec<u8>> {
         .collect()
 }
 
+/// The fullest outcome: every list and every text as long as can be.
 pub fn fullest() -> Outcome {
     Outcome {
         closed: Closed::default(),
