@@ -1,7 +1,7 @@
 //! The texts that the benchmark runs, and the device that it runs them on.
 
 use reference::device::Device;
-use reference::generate::fullest;
+use reference::generate::{fullest, Case, Rooms};
 use reference::text_form::parse_device;
 use reference::{sizes, Outcome};
 
@@ -16,12 +16,31 @@ impl Workload {
     pub fn rules(&self) -> usize {
         self.text.iter().filter(|&&byte| byte == b'\n').count()
     }
+
+    /// Its run on the counter, with the room that the records need.
+    pub fn case(&self) -> Case {
+        Case {
+            shape: self.name.to_string(),
+            text: self.text.clone(),
+            device: counter().encode(),
+            outcome: self.outcome.encode(),
+            rooms: Rooms {
+                fresh: sizes::OUTCOME_TARGET,
+                run: sizes::OUTCOME_TARGET,
+                close: sizes::RUN_LIST_TARGET,
+            },
+        }
+    }
 }
 
 /// A counter on a serial port, with a chain of 4 devices.
 pub fn counter() -> Device {
     let form = include_bytes!("../../../examples/devices/counter.device");
     parse_device(form).expect("the form describes a sound device")
+}
+
+pub fn all_workloads() -> impl Iterator<Item = Workload> {
+    workloads().into_iter().chain(family())
 }
 
 /// Texts of 512 rules with few keys, then jumps, then texts that ask little of a reader and much of what the engine does
@@ -297,7 +316,7 @@ mod tests {
     fn all_texts_run_but_one() {
         let device = counter().encode();
         let target = &mut [0; sizes::OUTCOME_TARGET];
-        for workload in workloads().into_iter().chain(family()) {
+        for workload in all_workloads() {
             let Workload {
                 name,
                 text,

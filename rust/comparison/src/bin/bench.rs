@@ -7,7 +7,7 @@ use std::io::{self, Write};
 use std::process::ExitCode;
 use std::time::Instant;
 
-use comparison::workloads::{counter, family, workloads, Workload};
+use comparison::workloads::{all_workloads, counter, family, Workload};
 use comparison::Linked;
 use reference::compare::{run_reply, Engine, Reference};
 use reference::{generate, sizes, Outcome};
@@ -114,10 +114,6 @@ fn times_of_both(workload: &Workload) -> [f64; 2] {
 }
 
 // ---- texts
-
-fn all_workloads() -> impl Iterator<Item = Workload> {
-    workloads().into_iter().chain(family())
-}
 
 fn workload_of(name: &str) -> Option<Workload> {
     all_workloads().find(|workload| workload.name == name)
