@@ -1,12 +1,10 @@
 -- Laws of the table: a row is found by its name alone, and stands at one place.
 -- Assumes nothing.
-use Prim.Native.Nat.{ℕ, zero, suc, _≤_, _<_}
+use Prim.Native.Nat.{ℕ, _<_}
 use mathlib.Core.Path.{_≡_, refl, sym, ap, subst, _∙_}
 use mathlib.Core.Bool.{Bool, true, false}
 use mathlib.Core.List.{List, [], _∷_}
 use mathlib.Core.Option.{Option, none, some, Option·none-ne-some, Option·some-injective}
-use mathlib.Core.Logic.{⊎-elim}
-use native.Mathlib.Nat.{eq-or-lt-of-le}
 use native.Mathlib.Omega.{arith}
 use borrow.Author.Tests.{ltb-true}
 use lib.Dec.{ltb}
@@ -15,10 +13,9 @@ use Rattle.lists.specs.Lists.{pick, nth, All}
 use Rattle.lists.specs.Bytes.{sameBytes}
 use Rattle.lists.specs.Quoted.{bytes}
 use Rattle.lists.proofs.Bytes.{same-eq}
-use Rattle.lists.proofs.Places.{nth-all, getD-all, nth-beyond}
+use Rattle.lists.proofs.Places.{nth-all, getD-all}
 use Rattle.rules.specs.Key.{Row, rows, rowIn, rowOf}
-use Rattle.keys.specs.Slots.{slotOf, IsPlace, keyIn}
-use Rattle.rules.specs.Key as rules
+use Rattle.keys.specs.Slots.{slotOf, IsPlace}
 
 -- the row that is found has the name
 found-named : (rs : List Row) (n : List ℕ) (r : Row) → rowIn rs n ≡ some r → sameBytes (r .name) n ≡ true
@@ -91,17 +88,3 @@ place-below k h = ltb-true (getD places k 0) 20 (getD-all (λ (p : ℕ). ltb p 2
 pub slot-below : (n : List ℕ) → slotOf n < 32
 unfolding slotOf
 slot-below n = omega arith
-
-pub last-key : (k : ℕ) → 19 ≤ k → rules.OPTIONS ≡ keyIn k rows
-unfolding bytes rows
-last-key k h = ⊎-elim (λ e. rw (← e)) (λ l. rw (nth-beyond rows k l)) (eq-or-lt-of-le h)
-
--- k is none of the first n numbers, as a match that goes on knows it
-unfoldable pub Unlike : ℕ → ℕ → Type 0
-Unlike k zero = Unit {0}
-Unlike k (suc n) = Unlike k n × (k ≡ n → ⊥)
-
-pub beyond : (k n : ℕ) → Unlike k n → n ≤ k
-unfolding Unlike
-beyond k zero r = omega arith
-beyond k (suc n) (r, e) = let h = beyond k n r in omega arith

@@ -3,7 +3,7 @@
 use Prim.Native.Nat.{ℕ, _+_, _*_, _%_}
 use mathlib.Core.Path.{_≡_}
 use mathlib.Core.List.{List}
-use mathlib.Core.Option.{Option, none, some}
+use mathlib.Core.Option.{some}
 use lib.ListN.{length, getD}
 use Rattle.lists.specs.Lists.{nth}
 use Rattle.rules.specs.Key as rules
@@ -15,11 +15,3 @@ slotOf n = (getD n 0 0 + 5 * getD n 1 0 + 8 * (length n % 4)) % 32
 -- the row of a name, if there is one, stands at this place
 abbrev pub IsPlace : List ℕ → ℕ → Type 0
 IsPlace n k = (row : rules.Row) → rules.rowOf n ≡ some row → nth k rules.rows ≡ some row
-
-abbrev pub keyOr : Option rules.Row → rules.Key
-keyOr none = rules.OPTIONS
-keyOr (some row) = row .key
-
--- the key of the row at a place
-abbrev pub keyIn : ℕ → List rules.Row → rules.Key
-keyIn k rows = keyOr (nth k rows)

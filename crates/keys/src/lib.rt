@@ -7,7 +7,7 @@ ghost use Rattle.lists.specs.Lists.{nth};
 ghost use Rattle.lists.specs.Bytes.{sameBytes};
 ghost use Rattle.rules.specs.Key as rules;
 ghost use Rattle.keys.specs.Table.{keyOf, operatorOf, allowedOf, rowOf, foundOf};
-ghost use Rattle.keys.specs.Slots.{slotOf, IsPlace, keyIn};
+ghost use Rattle.keys.specs.Slots.{slotOf, IsPlace};
 
 pub enum Key {
     Action,
@@ -294,33 +294,6 @@ fn place(name: &[u8]) -> usize
     scan::wide(PLACES[s])
 }
 
-fn key_at(place: usize) -> Key
-    ensures { λ r. ⌜ keyOf r ≡ keyIn place rules.rows ⌝ }
-{
-    match place {
-        0 => Key::Action,
-        1 => Key::Devpath,
-        2 => Key::Kernel,
-        3 => Key::Kernels,
-        4 => Key::Subsystem,
-        5 => Key::Subsystems,
-        6 => Key::Driver,
-        7 => Key::Drivers,
-        8 => Key::Attr,
-        9 => Key::Attrs,
-        10 => Key::Env,
-        11 => Key::Symlink,
-        12 => Key::Tag,
-        13 => Key::Owner,
-        14 => Key::Group,
-        15 => Key::Mode,
-        16 => Key::Run,
-        17 => Key::Label,
-        18 => Key::Goto,
-        _ => Key::Options,
-    }
-}
-
 // Whether a run of letters is the first len bytes of a row's name.
 fn same_name(run: &[u8], name: [u8; 10], len: usize) -> bool
     requires { ⌜ len ≤ 10 ⌝ }
@@ -356,11 +329,4 @@ pub fn find_key(name: &[u8]) -> KeyFound
         return KeyFound::Known(key, takes, row.operators);
     }
     KeyFound::Unknown
-}
-
-// The key of a name that the table has.
-pub fn known_key(name: &[u8]) -> Key
-    ensures { λ r. ⌜ ((row : rules.Row) → rules.rowOf (now (name .entry)) ≡ some row → keyOf r ≡ row .key) ⌝ }
-{
-    key_at(place(name))
 }

@@ -23,26 +23,37 @@ returns c = let a = c .before .args in let n : length (a .t2) ≡ 10 = search ne
 loop-holds : tie.Need-loop-holds Inv-loop μ-loop
 loop-holds c = let a = c .before .args in let n : length (a .t2) ≡ 10 = search needs in (omega arith, c .if1 .left, length-take-le (a .len) (a .t2) (omega arith), refl)
 
-shared-slice-read-if2 : tie.Need-shared-slice-read-if2 Inv-loop μ-loop
-shared-slice-read-if2 c = omega arith
-
-array-read-if2 : tie.Need-array-read-if2 Inv-loop μ-loop
-array-read-if2 c = omega arith
-
 returns-2 : tie.Need-returns-2 Inv-loop μ-loop
-returns-2 c = let l = c .before .before .before .loop in let a = c .before .before .before .before .before .args in sym (same-differs (take (a .len) (a .t2)) (a .run .now) (l .i) (omega arith) (omega arith) (λ e. c .if2 .taken (sym e ∙ getD-take (a .len) (a .t2) (l .i) 0 (omega arith)))) ∙ l .inv .3
-
-add-i : tie.Need-add-i Inv-loop μ-loop
-add-i c = omega arith
-
-loop-less : tie.Need-loop-less Inv-loop μ-loop
-loop-less c = omega arith
+returns-2 c =
+    let entry = c .before .before .before .before .before .args in
+    let loop = c .before .before .before .loop in
+    let l = loop in
+    let a = entry in
+    sym
+    (same-differs (take (a .len) (a .t2)) (a .run .now) (l .i) (omega arith) (omega arith)
+    (λ e. c .if2 .taken (sym e ∙ getD-take (a .len) (a .t2) (l .i) 0 (omega arith))))
+    ∙ l .inv .3
 
 loop-again : tie.Need-loop-again Inv-loop μ-loop
-loop-again c = let l = c .before .before .before .loop in let a = c .before .before .before .before .before .args in (omega arith, l .inv .1, l .inv .2, sym (same-on (take (a .len) (a .t2)) (a .run .now) (l .i) (omega arith) (omega arith) (getD-take (a .len) (a .t2) (l .i) 0 (omega arith) ∙ sym (c .if2 .left))) ∙ l .inv .3)
+loop-again c =
+    let entry = c .before .before .before .before .before .args in
+    let loop = c .before .before .before .loop in
+    let l = loop in
+    let a = entry in (
+      omega arith,
+      l .inv .1,
+      l .inv .2,
+      sym
+          (same-on (take (a .len) (a .t2)) (a .run .now) (l .i) (omega arith) (omega arith)
+          (getD-take (a .len) (a .t2) (l .i) 0 (omega arith) ∙ sym (c .if2 .left)))
+          ∙ l .inv .3,
+    )
 
 returns-3 : tie.Need-returns-3 Inv-loop μ-loop
-returns-3 c = let l = c .before .loop in let a = c .before .before .before .args in sym (same-out (take (a .len) (a .t2)) (a .run .now) (l .i) (omega arith) (omega arith)) ∙ l .inv .3
+returns-3 c =
+    let entry = c .before .before .before .args in
+    let l = c .before .loop in
+    let a = entry in sym (same-out (take (a .len) (a .t2)) (a .run .now) (l .i) (omega arith) (omega arith)) ∙ l .inv .3
 
 pub same-name-spec : {M : Type 1} → statement M
 same-name-spec =
@@ -52,10 +63,10 @@ same-name-spec =
     μ-loop
     returns
     loop-holds
-    shared-slice-read-if2
-    array-read-if2
+    (λ c. omega arith)
+    (λ c. omega arith)
     returns-2
-    add-i
-    loop-less
+    (λ c. omega arith)
+    (λ c. omega arith)
     loop-again
     returns-3)
