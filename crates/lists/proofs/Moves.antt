@@ -6,7 +6,7 @@ use mathlib.Core.List.{List, [], _∷_, _++_, append-assoc}
 use native.Mathlib.Nat.{not-suc-le-zero, le-of-suc-le-suc, suc-add, zero-add}
 use native.Mathlib.Omega.{arith}
 use lib.ListN.{length, getD, take, drop, set, replicate, length-append, length-take, length-drop, take-append-drop}
-use lib.Seq.{take-at, drop-at, take-append-le, drop-append-le, getD-drop, drop-drop}
+use lib.Seq.{take-all, take-at, drop-at, take-append-le, drop-append-le, getD-drop, drop-drop}
 use Rattle.lists.specs.Bytes.{Bytes}
 
 -- equal numbers give equal results; the numbers are written, so that `omega` can prove them equal
@@ -43,6 +43,14 @@ module _ {A : Type 0} where
       let l : a ≤ length p = omega arith in
       let k : n ≤ length (drop a p) = simp length-drop (omega arith) in
       ap (take n) (drop-append-le a p r l) ∙ take-append-le n (drop a p) r k
+
+  -- `&s[start..]`, of a slice of n elements
+  pub end-part : (s : List A) (n start : ℕ) → length s ≡ n → take (n - start) (drop start s) ≡ drop start s
+  end-part s n start h = take-all (n - start) (drop start s) (simp length-drop (omega arith))
+
+  -- `&s[start..start + n]`
+  pub sized-part : (s : List A) (start n : ℕ) → take (start + n - start) (drop start s) ≡ take n (drop start s)
+  sized-part s start n = ap-at (λ i. take i (drop start s)) (start + n - start) n (omega arith)
 
   pub drop-past : (p g r : List A) (a b : ℕ) → length p ≡ a → a + length g ≡ b → drop b (p ++ (g ++ r)) ≡ r
   drop-past p g r a b lp lg =

@@ -4,7 +4,7 @@ use Prim.Native.Nat.{ℕ, zero, suc, _≤_, _<_, zero-le, suc-le-suc}
 use mathlib.Core.Path.{_≡_, refl, ap, subst}
 use mathlib.Core.Bool.{Bool, true, false, _&&_}
 use mathlib.Core.List.{List, [], _∷_, map}
-use mathlib.Core.Option.{Option, none, some, Option·none-ne-some, Option·some-injective}
+use mathlib.Core.Option.{Option, some, Option·none-ne-some, Option·some-injective}
 use native.Mathlib.Nat.{le-of-suc-le-suc, not-suc-le-zero}
 use native.Mathlib.Omega.{arith}
 use lib.Dec.{eqb}
@@ -30,11 +30,6 @@ module _ {A : Type 0} where
   nth-map f [] k d l = absurd (not-suc-le-zero l)
   nth-map f (x ∷ xs) zero d l = refl
   nth-map f (x ∷ xs) (suc k) d l = nth-map f xs k d (le-of-suc-le-suc l)
-
-  pub nth-beyond : (xs : List A) (k : ℕ) → length xs ≤ k → nth k xs ≡ none
-  nth-beyond [] k h = refl
-  nth-beyond (x ∷ xs) zero h = absurd (not-suc-le-zero h)
-  nth-beyond (x ∷ xs) (suc k) h = nth-beyond xs k (le-of-suc-le-suc h)
 
 -- ---- a list that begins another
 

@@ -6,11 +6,9 @@ use mathlib.Core.Bool.{Bool, true, false}
 use mathlib.Core.List.{List, [], _∷_}
 use mathlib.Core.Option.{Option, none, some}
 use native.Mathlib.Omega.{arith}
-use lib.ListN.{length, take, drop, length-drop}
-use lib.Seq.{take-all}
+use lib.ListN.{length, take, drop}
 use Rattle.lists.specs.Bytes.{Bytes}
 use Rattle.lists.specs.Runs.{trim, endDigits}
-use Rattle.lists.proofs.Moves.{ap-at}
 use Rattle.bits.specs.Bits.{numberAt}
 use Rattle.entries.specs.Entry.{orEmpty}
 use Rattle.entries.proofs.Heads.{number-first}
@@ -51,14 +49,6 @@ nothing-put spaceless y l used e h = appended-same spaceless [] y l used (Done u
     none-asked : (t : Bool) → Appended (asked t []) l used (Done used) l
     none-asked true = appended-none l used h
     none-asked false = appended-none l used h
-
--- `&s[start..]`, of a slice of n bytes
-pub end-part : (s : List ℕ) (n start : ℕ) → length s ≡ n → take (n - start) (drop start s) ≡ drop start s
-end-part s n start h = take-all (n - start) (drop start s) (simp length-drop (omega arith))
-
--- `&s[start..start + n]`
-pub sized-part : (s : List ℕ) (start n : ℕ) → take (start + n - start) (drop start s) ≡ take n (drop start s)
-sized-part s start n = ap-at (λ i. take i (drop start s)) (start + n - start) n (omega arith)
 
 -- ---- the matched device
 

@@ -4,7 +4,8 @@ use mathlib.Core.Path.{ap, _∙_}
 use native.Mathlib.Omega.{arith}
 use borrow.Author.Needs.{needs}
 use lib.ListN.{length}
-use Rattle.substitution.proofs.Parts.{appended-same, sized-part, attribute-here, attribute-there}
+use Rattle.substitution.proofs.Parts.{appended-same, attribute-here, attribute-there}
+use Rattle.lists.proofs.Moves.{sized-part}
 use Rattle.engine.specs.Substitute.{firstOf, attrAt}
 use Rattle.device_lookup.specs.declared.Value.the-variants.{At, Missing}
 use Rattle.device_lookup.specs.Lookup.{Says, Within}
