@@ -61,7 +61,7 @@ goesOn [] (b ∷ bs) = eqb b 47
 goesOn (a ∷ xs) [] = false
 goesOn (a ∷ xs) (b ∷ bs) = eqb a b && goesOn xs bs
 
--- a parent's path is the child's, cut before one of its later slashes
+-- a parent's path is some of the child's first components, not all
 abbrev pub cutOf : List ℕ → List ℕ → Bool
 cutOf parent child = not (isEmpty parent) && goesOn parent child
 

@@ -49,7 +49,7 @@ fn ok_path(s: &[u8]) -> bool
     s[n - 1] != b'/'
 }
 
-// The parent's path is the child's, cut before one of its later slashes.
+// The parent's path is some of the child's first components, not all.
 fn is_cut(parent: &[u8], child: &[u8]) -> bool
     ensures { λ r. ⌜ r ≡ cutOf (now (parent .entry)) (now (child .entry)) ⌝ }
 {

@@ -7,7 +7,7 @@ ghost use Rattle.lists.specs.Sizes.{mostDevice};
 ghost use Rattle.device_head.specs.Read.{HeadRead, LensRead, pathLen, pathIn};
 use bits::BitCursor;
 
-// Edition 4, chain length less one 4, action 3, node 1, major 12, minor 20, property count 6, unused 6.
+// 4 bits of edition, 4 of chain length (less one), 3 of action, 1 that tells of a node, 12 of major, 20 of minor number, 6 of property count; 6 bits unused.
 pub struct Head {
     pub edition: usize,
     pub above: usize,
@@ -19,7 +19,7 @@ pub struct Head {
     pub unused: usize,
 }
 
-// Path length 9, subsystem 6, driver 6, attribute count 5, unused 6.
+// 9 bits of path length, 6 of subsystem length, 6 of driver length, 5 of attribute count; 6 bits unused.
 pub struct Lens {
     pub path: usize,
     pub subsystem: usize,

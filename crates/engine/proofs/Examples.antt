@@ -30,7 +30,7 @@ examples =
     ∷ lists "listing" usb "KERNEL==\"ttyUSB[0-9]*\", ATTRS{serial}==\"RC-0417\", SYMLINK+=\"rope/trip%n\", MODE=\"0660\", GROUP=\"dialout\"" "visited 1\ntried 2\npriority 0\nmode 0660\ngroup dialout\nlink rope/trip0\n"
     ∷ lists "listing refused" tty "\nTAG+=\"a\"\n\nGOTO=\"b\"\n" "refused 19 line 4\n"
     ∷ lists "listing escapes" tty "ENV{a}=\"\\\t\", OWNER=\"o\", RUN{builtin}+=\"x %k\", RUN+=\"\"" "visited 1\ntried 0\npriority 0\nowner o\nenv a=\\x5c\\x09\nbuiltin x ttyUSB0\n"
-    -- mistake: judging a match after an assignment of the same rule
+    -- mistake: a match that sees what its own rule assigns
     ∷ lists "match first" tty "ENV{x}=\"1\", ENV{x}==\"1\", TAG+=\"bad\"" "visited 1\ntried 0\npriority 0\n"
     ∷ lists "match first, lists" tty "TAG+=\"a\", TAG!=\"a\", SYMLINK+=\"l\", SYMLINK!=\"l\"" "visited 1\ntried 0\npriority 0\nlink l\ntag a\n"
     ∷ lists "assignments in turn" tty "ENV{x}=\"1\", SYMLINK+=\"a$env{x}\", ENV{x}=\"2\", SYMLINK+=\"a$env{x}\"" "visited 1\ntried 0\npriority 0\nlink a1\nlink a2\nenv x=2\n"
@@ -51,7 +51,7 @@ examples =
     ∷ lists "GOTO back" tty "LABEL=\"a\"\nGOTO=\"a\"" "refused 19 line 2\n"
     ∷ lists "GOTO on" tty "LABEL=\"a\"\nGOTO=\"a\"\nTAG+=\"skipped\"\nLABEL=\"a\", TAG+=\"t\"\nTAG+=\"u\"\nLABEL=\"a\"" "visited 5\ntried 0\npriority 0\ntag t\ntag u\n"
     ∷ lists "GOTO not taken" tty "KERNEL==\"x\", GOTO=\"a\"\nTAG+=\"t\"\nLABEL=\"a\"" "visited 3\ntried 0\npriority 0\ntag t\n"
-    -- mistake: a 17th link dropped without a word
+    -- mistake: a 17th link dropped, and nobody told
     ∷ lists "17 at once" tty "\nSYMLINK+=\"a b c d e f g h i j k l m n o p q\"" "refused 32 line 2\n"
     -- lists
     ∷ lists "lists" tty "SYMLINK+=\"a b\"\nSYMLINK+=\"b a c\"\nSYMLINK-=\"a x\"\nSYMLINK+=\"a\"" "visited 4\ntried 0\npriority 0\nlink b\nlink c\nlink a\n"

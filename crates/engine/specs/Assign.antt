@@ -205,7 +205,7 @@ abbrev pub leaves : Work → Checked Refusal State → Checked Refusal Work
 leaves w (refused f) = refused f
 leaves w (ok s) = ok (left w s)
 
--- an assignment to a closed key is skipped whole
+-- what is assigned to a closed key is not looked at
 unfoldable pub assigned : Key → Device → ℕ → Pair → Work → Checked Refusal Work
 assigned SYMLINK d place p w = elim (w .state .closed .links) [ true ↦ ok w | false ↦ leaves w (linked d place p w) ]
 assigned TAG d place p w = elim (w .state .closed .tags) [ true ↦ ok w | false ↦ leaves w (tagged p (w .state)) ]

@@ -17,17 +17,17 @@ number text-long = 2
 number line-bad = 10
 -- key unknown or missing
 number key-bad = 11
--- argument missing, faulty, or on a key that takes none
+-- an argument that should be there and is not, is faulty, or should not be there
 number argument-bad = 12
 -- operator missing or not that key's
 number operator-bad = 13
--- value not opened, not closed, or over 256 bytes
+-- a value without its marks, or of more than 256 bytes
 number value-bad = 14
 -- content fault
 number content-bad = 15
 -- 33rd pair, second LABEL or second GOTO
 number pair-extra = 16
--- neither comma nor line end after a pair
+-- something else than a comma behind a pair
 number comma-missing = 17
 -- 513th rule
 number rule-extra = 18
@@ -45,11 +45,11 @@ number outcome-bad = 4
 number too-new = 5
 -- document 02, Item 6: answer sheet faulty
 number sheet-bad = 6
--- document 02, Items 7, 11, 14: a set over its size or against its layout
+-- document 02, Items 7, 11, 14: bytes that are no set
 number set-bad = 7
 -- substituted text over 512 bytes
 number substitution-long = 30
--- link over 128 bytes, starting with `/`, or with an empty, `.` or `..` component
+-- a link of more than 128 bytes, or that a path under `/dev` cannot have: absolute, or an empty, `.` or `..` component
 number link-bad = 31
 -- list or properties full
 number list-full = 32

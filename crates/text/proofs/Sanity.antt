@@ -1,5 +1,5 @@
--- Sanity of runs: the visited count is at most the number of rules, a jump goes to the next later rule with its label, the answer has
--- exactly the target's length, and the run of an accepted text ends with no jump open.
+-- Sanity of runs: no more rules are visited than there are, a jump takes the first rule behind it that has its label, an answer is
+-- exactly as long as the target, and the run of an accepted text ends with no jump open.
 -- Assumes nothing.
 use Prim.Native.Nat.{ℕ, suc, _-_, _*_, _≤_, zero-le, suc-le-suc}
 use mathlib.Core.Path.{_≡_, refl, sym, _∙_, subst}

@@ -224,7 +224,7 @@ fn jumps_over() -> Workload {
     )
 }
 
-/// Comments without a word.
+/// Comments of no bytes.
 fn short_lines() -> Workload {
     workload("short_lines", text_of(16_384, |_| String::from("#")))
 }

@@ -82,7 +82,7 @@ impl ChainDevice {
         slash.map_or(&self.path[..], |slash| &self.path[slash + 1..])
     }
 
-    /// All trailing digits of the name, maybe none.
+    /// The digits that the name ends in; there may be none.
     pub fn number(&self) -> &[u8] {
         let name = self.name();
         let last_other = name.iter().rposition(|byte| !byte.is_ascii_digit());
