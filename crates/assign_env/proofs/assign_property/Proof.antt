@@ -7,35 +7,30 @@ use borrow.Author.Needs.{needs}
 use Rattle.assign_env.proofs.assign_property.Statement.{statement}
 use Rattle.assign_env.proofs.assign_property.Tie as tie
 
-change-properties-requires : tie.Need-change-properties-requires
-change-properties-requires c κs = search needs
-
-enum-known-left : tie.Need-enum-known-left
-enum-known-left c = search needs
-
-enum-told : tie.Need-enum-told
-enum-told c = search needs
-
-same-length : tie.Need-same-length
-same-length c = search needs
-
 returns : tie.Need-returns
-returns c = λ p g f n s h. env-left (escapeOf (c .before .before .before .before .before .before .before .before .before .before .args .escape)) n s p (c .before .before .before .before .before .before .before .before .before .before .args .key .now) (c .before .before .before .before .before .before .before .before .before .before .args .value .now) g f _ (c .before .before .before .before .before .change-properties .result) (c .before .before .before .before .before .change-properties .ensures n s h) (c .before .left .given .0 .0) (c .before .left .given .1)
-
-same-length-2 : tie.Need-same-length-2
-same-length-2 c = search needs
+returns c =
+    let entry = c .before .before .before .before .before .before .before .before .before .before .args in
+    let change-properties = c .before .before .before .before .before .change-properties in
+    λ p g f n s h.
+    env-left (escapeOf (entry .escape)) n s p (entry .key .now) (entry .value .now) g f _ (change-properties .result)
+    (change-properties .ensures n s h) (c .before .left .given .0 .0) (c .before .left .given .1)
 
 returns-2 : tie.Need-returns-2
-returns-2 c = λ p g f n s h. env-full (escapeOf (c .before .before .before .before .before .before .before .before .before .args .escape)) n s p (c .before .before .before .before .before .before .before .before .before .args .key .now) (c .before .before .before .before .before .before .before .before .before .args .value .now) g f _ (c .before .before .before .before .change-properties .result) (c .before .before .before .before .change-properties .ensures n s h) (c .enum-told .given .1)
+returns-2 c =
+    let entry = c .before .before .before .before .before .before .before .before .before .args in
+    let change-properties = c .before .before .before .before .change-properties in
+    λ p g f n s h.
+    env-full (escapeOf (entry .escape)) n s p (entry .key .now) (entry .value .now) g f _ (change-properties .result)
+    (change-properties .ensures n s h) (c .enum-told .given .1)
 
 pub assign-property-spec : {M : Type 1} → statement M
 assign-property-spec =
     tie.close
     (tie.spec
-    change-properties-requires
-    enum-known-left
-    enum-told
-    same-length
+    (λ c κs. search needs)
+    (λ c. search needs)
+    (λ c. search needs)
+    (λ c. search needs)
     returns
-    same-length-2
+    (λ c. search needs)
     returns-2)

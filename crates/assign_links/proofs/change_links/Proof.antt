@@ -16,52 +16,99 @@ abbrev μ-loop : tie.MeasureT-loop
 μ-loop t₀ operator text left₀ at₀ t left at = length text - at
 
 loop-holds : tie.Need-loop-holds Inv-loop μ-loop
-loop-holds c = links-begin (operatorOf (c .before .before .args .operator)) (c .before .before .args .text .now) (c .before .before .args .t .now) (c .before .before .args .layout)
+loop-holds c =
+    let entry = c .before .before .args in
+    links-begin (operatorOf (entry .operator)) (entry .text .now) (entry .t .now) (entry .layout)
 
 name-from-requires : tie.Need-name-from-requires Inv-loop μ-loop
 name-from-requires c κs = c .loop .inv .within
 
-enum-known-start : tie.Need-enum-known-start Inv-loop μ-loop
-enum-known-start c = search needs
-
 sub-change-link : tie.Need-sub-change-link Inv-loop μ-loop
-sub-change-link c = let w = name-placed (operatorOf (c .before .before .before .before .before .before .before .before .args .operator)) (c .before .before .before .before .before .before .before .before .args .text .now) (c .before .before .before .before .before .before .before .before .args .t .now) (c .before .before .before .before .before .before .before .before .args .layout) (c .before .before .before .before .before .loop .t) (c .before .before .before .before .before .loop .left) (c .before .before .before .before .before .loop .at) (c .before .before .before .before .before .loop .inv) (c .before .before .before .before .name-from .result) (c .before .before .before .before .name-from .ensures) (c .before .before .start .given .0 .0) (c .before .before .start .given .0 .1 .0) (c .before .before .start .given .1) in omega (arith, w .2)
+sub-change-link c =
+    let entry = c .before .before .before .before .before .before .before .before .args in
+    let loop = c .before .before .before .before .before .loop in
+    let name-from = c .before .before .before .before .name-from in
+    let start = c .before .before .start in
+    let w =
+    name-placed (operatorOf (entry .operator)) (entry .text .now) (entry .t .now) (entry .layout) (loop .t) (loop .left) (loop .at)
+    (loop .inv) (name-from .result) (name-from .ensures) (start .given .0 .0) (start .given .0 .1 .0) (start .given .1) in
+    omega (arith, w .2)
 
 part-change-link-start : tie.Need-part-change-link-start Inv-loop μ-loop
-part-change-link-start c = let w = name-placed (operatorOf (c .before .before .before .before .before .before .before .before .args .operator)) (c .before .before .before .before .before .before .before .before .args .text .now) (c .before .before .before .before .before .before .before .before .args .t .now) (c .before .before .before .before .before .before .before .before .args .layout) (c .before .before .before .before .before .loop .t) (c .before .before .before .before .before .loop .left) (c .before .before .before .before .before .loop .at) (c .before .before .before .before .before .loop .inv) (c .before .before .before .before .name-from .result) (c .before .before .before .before .name-from .ensures) (c .before .before .start .given .0 .0) (c .before .before .start .given .0 .1 .0) (c .before .before .start .given .1) in omega (arith, w .2)
+part-change-link-start c =
+    let entry = c .before .before .before .before .before .before .before .before .args in
+    let loop = c .before .before .before .before .before .loop in
+    let name-from = c .before .before .before .before .name-from in
+    let start = c .before .before .start in
+    let w =
+    name-placed (operatorOf (entry .operator)) (entry .text .now) (entry .t .now) (entry .layout) (loop .t) (loop .left) (loop .at)
+    (loop .inv) (name-from .result) (name-from .ensures) (start .given .0 .0) (start .given .0 .1 .0) (start .given .1) in
+    omega (arith, w .2)
 
 part-change-link-end : tie.Need-part-change-link-end Inv-loop μ-loop
-part-change-link-end c = let w = name-placed (operatorOf (c .before .before .before .before .before .before .before .before .args .operator)) (c .before .before .before .before .before .before .before .before .args .text .now) (c .before .before .before .before .before .before .before .before .args .t .now) (c .before .before .before .before .before .before .before .before .args .layout) (c .before .before .before .before .before .loop .t) (c .before .before .before .before .before .loop .left) (c .before .before .before .before .before .loop .at) (c .before .before .before .before .before .loop .inv) (c .before .before .before .before .name-from .result) (c .before .before .before .before .name-from .ensures) (c .before .before .start .given .0 .0) (c .before .before .start .given .0 .1 .0) (c .before .before .start .given .1) in w .3
+part-change-link-end c =
+    let entry = c .before .before .before .before .before .before .before .before .args in
+    let loop = c .before .before .before .before .before .loop in
+    let name-from = c .before .before .before .before .name-from in
+    let start = c .before .before .start in
+    let w =
+    name-placed (operatorOf (entry .operator)) (entry .text .now) (entry .t .now) (entry .layout) (loop .t) (loop .left) (loop .at)
+    (loop .inv) (name-from .result) (name-from .ensures) (start .given .0 .0) (start .given .0 .1 .0) (start .given .1) in
+    w .3
 
 change-link-requires : tie.Need-change-link-requires Inv-loop μ-loop
-change-link-requires c κs = let (n, s₀, h) = c .before .before .before .before .before .before .before .before .before .pre .0 in let (s, z, f) = c .before .before .before .before .before .before .loop .inv .going n s₀ h in ((n, s, z), part-clean (c .before .before .before .before .before .before .before .before .before .args .text .now) (c .before .before .before .start .given .0 .0) (c .before .before .before .start .given .0 .1 .0) (c .before .before .before .before .before .before .before .before .before .pre .1))
-
-enum-known-next : tie.Need-enum-known-next Inv-loop μ-loop
-enum-known-next c = search needs
+change-link-requires c κs =
+    let pre = c .before .before .before .before .before .before .before .before .before .pre in
+    let entry = c .before .before .before .before .before .before .before .before .before .args in
+    let loop = c .before .before .before .before .before .before .loop in
+    let start = c .before .before .before .start in
+    let (n, s₀, h) = pre .0 in
+    let (s, z, f) = loop .inv .going n s₀ h in
+    ((n, s, z), part-clean (entry .text .now) (start .given .0 .0) (start .given .0 .1 .0) (pre .1))
 
 loop-less : tie.Need-loop-less Inv-loop μ-loop
-loop-less c = let w = name-placed (operatorOf (c .before .before .before .before .before .before .before .before .before .before .before .before .before .before .before .args .operator)) (c .before .before .before .before .before .before .before .before .before .before .before .before .before .before .before .args .text .now) (c .before .before .before .before .before .before .before .before .before .before .before .before .before .before .before .args .t .now) (c .before .before .before .before .before .before .before .before .before .before .before .before .before .before .before .args .layout) (c .before .before .before .before .before .before .before .before .before .before .before .before .loop .t) (c .before .before .before .before .before .before .before .before .before .before .before .before .loop .left) (c .before .before .before .before .before .before .before .before .before .before .before .before .loop .at) (c .before .before .before .before .before .before .before .before .before .before .before .before .loop .inv) (c .before .before .before .before .before .before .before .before .before .before .before .name-from .result) (c .before .before .before .before .before .before .before .before .before .before .before .name-from .ensures) (c .before .before .before .before .before .before .before .before .before .start .given .0 .0) (c .before .before .before .before .before .before .before .before .before .start .given .0 .1 .0) (c .before .before .before .before .before .before .before .before .before .start .given .1) in omega (arith, w .1, w .2, w .3)
+loop-less c =
+    let entry = c .before .before .before .before .before .before .before .before .before .before .before .before .before .before .before .args in
+    let loop = c .before .before .before .before .before .before .before .before .before .before .before .before .loop in
+    let name-from = c .before .before .before .before .before .before .before .before .before .before .before .name-from in
+    let start = c .before .before .before .before .before .before .before .before .before .start in
+    let w =
+    name-placed (operatorOf (entry .operator)) (entry .text .now) (entry .t .now) (entry .layout) (loop .t) (loop .left) (loop .at)
+    (loop .inv) (name-from .result) (name-from .ensures) (start .given .0 .0) (start .given .0 .1 .0) (start .given .1) in
+    omega (arith, w .1, w .2, w .3)
 
 loop-again : tie.Need-loop-again Inv-loop μ-loop
-loop-again c = links-on (operatorOf (c .before .before .before .before .before .before .before .before .before .before .before .before .before .before .before .args .operator)) (c .before .before .before .before .before .before .before .before .before .before .before .before .before .before .before .args .text .now) (c .before .before .before .before .before .before .before .before .before .before .before .before .before .before .before .args .t .now) (c .before .before .before .before .before .before .before .before .before .before .before .before .before .before .before .args .layout) (c .before .before .before .before .before .before .before .before .before .before .before .before .loop .t) (c .before .before .before .before .before .before .before .before .before .before .before .before .loop .left) (c .before .before .before .before .before .before .before .before .before .before .before .before .loop .at) (c .before .before .before .before .before .before .before .before .before .before .before .before .loop .inv) (c .before .before .before .before .before .before .before .before .before .before .before .name-from .result) (c .before .before .before .before .before .before .before .before .before .before .before .name-from .ensures) (c .before .before .before .before .before .before .before .before .before .start .given .0 .0) (c .before .before .before .before .before .before .before .before .before .start .given .0 .1 .0) (c .before .before .before .before .before .before .before .before .before .start .given .1) _ (c .before .before .before .before .before .change-link .result) (search needs) (c .before .before .before .before .before .change-link .ensures) (c .before .next .given .0 .0) (c .before .next .given .1)
-
-enum-known-refusal : tie.Need-enum-known-refusal Inv-loop μ-loop
-enum-known-refusal c = search needs
-
-same-length : tie.Need-same-length Inv-loop μ-loop
-same-length c = search needs
+loop-again c =
+    let entry = c .before .before .before .before .before .before .before .before .before .before .before .before .before .before .before .args in
+    let loop = c .before .before .before .before .before .before .before .before .before .before .before .before .loop in
+    let name-from = c .before .before .before .before .before .before .before .before .before .before .before .name-from in
+    let start = c .before .before .before .before .before .before .before .before .before .start in
+    let change-link = c .before .before .before .before .before .change-link in
+    links-on (operatorOf (entry .operator)) (entry .text .now) (entry .t .now) (entry .layout) (loop .t) (loop .left) (loop .at) (loop .inv)
+    (name-from .result) (name-from .ensures) (start .given .0 .0) (start .given .0 .1 .0) (start .given .1) _ (change-link .result)
+    (search needs) (change-link .ensures) (c .before .next .given .0 .0) (c .before .next .given .1)
 
 returns : tie.Need-returns Inv-loop μ-loop
-returns c = links-refused (operatorOf (c .before .before .before .before .before .before .before .before .before .before .before .before .before .before .before .args .operator)) (c .before .before .before .before .before .before .before .before .before .before .before .before .before .before .before .args .text .now) (c .before .before .before .before .before .before .before .before .before .before .before .before .before .before .before .args .t .now) (c .before .before .before .before .before .before .before .before .before .before .before .before .before .before .before .args .layout) (c .before .before .before .before .before .before .before .before .before .before .before .before .loop .t) (c .before .before .before .before .before .before .before .before .before .before .before .before .loop .left) (c .before .before .before .before .before .before .before .before .before .before .before .before .loop .at) (c .before .before .before .before .before .before .before .before .before .before .before .before .loop .inv) (c .before .before .before .before .before .before .before .before .before .before .before .name-from .result) (c .before .before .before .before .before .before .before .before .before .before .before .name-from .ensures) (c .before .before .before .before .before .before .before .before .before .start .given .0 .0) (c .before .before .before .before .before .before .before .before .before .start .given .0 .1 .0) (c .before .before .before .before .before .before .before .before .before .start .given .1) _ (c .before .before .before .before .before .change-link .result) (search needs) (c .before .before .before .before .before .change-link .ensures) (c .before .refusal .given .0 .0) (c .before .refusal .given .1)
-
-enum-told : tie.Need-enum-told Inv-loop μ-loop
-enum-told c = search needs
+returns c =
+    let entry = c .before .before .before .before .before .before .before .before .before .before .before .before .before .before .before .args in
+    let loop = c .before .before .before .before .before .before .before .before .before .before .before .before .loop in
+    let name-from = c .before .before .before .before .before .before .before .before .before .before .before .name-from in
+    let start = c .before .before .before .before .before .before .before .before .before .start in
+    let change-link = c .before .before .before .before .before .change-link in
+    links-refused (operatorOf (entry .operator)) (entry .text .now) (entry .t .now) (entry .layout) (loop .t) (loop .left) (loop .at)
+    (loop .inv) (name-from .result) (name-from .ensures) (start .given .0 .0) (start .given .0 .1 .0) (start .given .1) _
+    (change-link .result) (search needs) (change-link .ensures) (c .before .refusal .given .0 .0) (c .before .refusal .given .1)
 
 same-length-2 : tie.Need-same-length-2 Inv-loop μ-loop
 same-length-2 c = c .before .before .before .loop .inv .room
 
 returns-2 : tie.Need-returns-2 Inv-loop μ-loop
-returns-2 c = links-end (operatorOf (c .before .before .before .before .before .before .args .operator)) (c .before .before .before .before .before .before .args .text .now) (c .before .before .before .before .before .before .args .t .now) (c .before .before .before .before .before .before .args .layout) (c .before .before .before .loop .t) (c .before .before .before .loop .left) (c .before .before .before .loop .at) (c .before .before .before .loop .inv) (c .before .before .name-from .result) (c .before .before .name-from .ensures) (c .enum-told .given .1)
+returns-2 c =
+    let entry = c .before .before .before .before .before .before .args in
+    let loop = c .before .before .before .loop in
+    let name-from = c .before .before .name-from in
+    links-end (operatorOf (entry .operator)) (entry .text .now) (entry .t .now) (entry .layout) (loop .t) (loop .left) (loop .at)
+    (loop .inv) (name-from .result) (name-from .ensures) (c .enum-told .given .1)
 
 pub change-links-spec : {M : Type 1} → statement M
 change-links-spec =
@@ -71,17 +118,17 @@ change-links-spec =
     μ-loop
     loop-holds
     name-from-requires
-    enum-known-start
+    (λ c. search needs)
     sub-change-link
     part-change-link-start
     part-change-link-end
     change-link-requires
-    enum-known-next
+    (λ c. search needs)
     loop-less
     loop-again
-    enum-known-refusal
-    same-length
+    (λ c. search needs)
+    (λ c. search needs)
     returns
-    enum-told
+    (λ c. search needs)
     same-length-2
     returns-2)

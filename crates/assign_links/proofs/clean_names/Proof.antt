@@ -7,47 +7,42 @@ use borrow.Author.Needs.{needs}
 use Rattle.assign_links.proofs.clean_names.Statement.{statement}
 use Rattle.assign_links.proofs.clean_names.Tie as tie
 
-enum-told : tie.Need-enum-told
-enum-told c = search needs
-
-enum-told-2 : tie.Need-enum-told-2
-enum-told-2 c = search needs
-
-clean-requires : tie.Need-clean-requires
-clean-requires c κs = search needs
-
-enum-told-3 : tie.Need-enum-told-3
-enum-told-3 c = search needs
-
-clean-requires-2 : tie.Need-clean-requires-2
-clean-requires-2 c κs = search needs
-
 returns : tie.Need-returns
 returns c = rw (c .enum-told .given .1) (names-as-is (c .before .before .before .args .x .now), (λ h. h), refl)
 
-same-length : tie.Need-same-length
-same-length c = search needs
-
 returns-2 : tie.Need-returns-2
-returns-2 c = rw (c .before .before .before .before .enum-told2 .given .1) (names-unset (c .before .before .before .before .before .before .before .args .x .now) _ (c .before .before .clean .ensures), names-clean (c .before .before .before .before .before .before .before .args .x .now) _ (c .before .before .clean .ensures), names-size (c .before .before .before .before .before .before .before .args .x .now) _ (c .before .before .clean .ensures))
-
-same-length-2 : tie.Need-same-length-2
-same-length-2 c = search needs
+returns-2 c =
+    let entry = c .before .before .before .before .before .before .before .args in
+    let enum-told2 = c .before .before .before .before .enum-told2 in
+    let clean = c .before .before .clean in
+    rw (enum-told2 .given .1) (
+      names-unset (entry .x .now) _ (clean .ensures),
+      names-clean (entry .x .now) _ (clean .ensures),
+      names-size (entry .x .now) _ (clean .ensures),
+    )
 
 returns-3 : tie.Need-returns-3
-returns-3 c = rw (c .before .before .before .before .enum-told3 .given .1) (names-replaced (c .before .before .before .before .before .before .before .args .x .now) _ (c .before .before .clean2 .ensures), names-clean (c .before .before .before .before .before .before .before .args .x .now) _ (c .before .before .clean2 .ensures), names-size (c .before .before .before .before .before .before .before .args .x .now) _ (c .before .before .clean2 .ensures))
+returns-3 c =
+    let entry = c .before .before .before .before .before .before .before .args in
+    let enum-told3 = c .before .before .before .before .enum-told3 in
+    let clean2 = c .before .before .clean2 in
+    rw (enum-told3 .given .1) (
+      names-replaced (entry .x .now) _ (clean2 .ensures),
+      names-clean (entry .x .now) _ (clean2 .ensures),
+      names-size (entry .x .now) _ (clean2 .ensures),
+    )
 
 pub clean-names-spec : {M : Type 1} → statement M
 clean-names-spec =
     tie.close
     (tie.spec
-    enum-told
-    enum-told-2
-    clean-requires
-    enum-told-3
-    clean-requires-2
+    (λ c. search needs)
+    (λ c. search needs)
+    (λ c κs. search needs)
+    (λ c. search needs)
+    (λ c κs. search needs)
     returns
-    same-length
+    (λ c. search needs)
     returns-2
-    same-length-2
+    (λ c. search needs)
     returns-3)

@@ -20,28 +20,54 @@ begin-requires : tie.Need-begin-requires
 begin-requires c κs = let (n, s, h, k) = c .before .before .before .pre .0 in (n, s, h)
 
 change-runs-requires : tie.Need-change-runs-requires
-change-runs-requires c κs = let (n, s, h, k) = c .before .before .before .before .before .before .before .pre .0 in ((n, begun Runs (operatorOf (c .before .before .before .before .before .before .before .args .operator)) s, c .before .before .before .begin .ensures n s h, k), c .before .before .before .before .before .before .before .pre .1, c .before .before .before .before .before .before .before .pre .2, c .before .before .before .before .before .before .before .pre .3, c .before .before .before .before .before .before .before .pre .4)
-
-enum-known-left : tie.Need-enum-known-left
-enum-known-left c = search needs
+change-runs-requires c κs =
+    let pre = c .before .before .before .before .before .before .before .pre in
+    let entry = c .before .before .before .before .before .before .before .args in
+    let begin = c .before .before .before .begin in
+    let (n, s, h, k) = pre .0 in ((n, begun Runs (operatorOf (entry .operator)) s, begin .ensures n s h, k), pre .1, pre .2, pre .3, pre .4)
 
 finish-requires : tie.Need-finish-requires
-finish-requires c κs = let (n, s, h, k) = c .before .before .before .before .before .before .before .before .before .before .before .before .before .before .pre .0 in let (x, e, z) = subst (Left n (withRuns (begun Runs (operatorOf (c .before .before .before .before .before .before .before .before .before .before .before .before .before .before .args .operator)) s)) (queuedRuns (c .before .before .before .before .before .before .before .before .before .before .before .before .before .before .args .builtin) (c .before .before .before .before .before .before .before .before .before .before .before .before .before .before .args .place) (c .before .before .before .before .before .before .before .before .before .before .before .before .before .before .args .value .now) (begun Runs (operatorOf (c .before .before .before .before .before .before .before .before .before .before .before .before .before .before .args .operator)) s .runs)) _) (c .before .before .left .given .1) (c .before .before .before .before .before .before .change-runs .ensures n (begun Runs (operatorOf (c .before .before .before .before .before .before .before .before .before .before .before .before .before .before .args .operator)) s) (c .before .before .before .before .before .before .before .before .before .before .begin .ensures n s h) k) in omega (arith, z .room)
-
-enum-told : tie.Need-enum-told
-enum-told c = search needs
-
-same-length : tie.Need-same-length
-same-length c = search needs
+finish-requires c κs =
+    let pre = c .before .before .before .before .before .before .before .before .before .before .before .before .before .before .pre in
+    let entry = c .before .before .before .before .before .before .before .before .before .before .before .before .before .before .args in
+    let begin = c .before .before .before .before .before .before .before .before .before .before .begin in
+    let change-runs = c .before .before .before .before .before .before .change-runs in
+    let left = c .before .before .left in
+    let (n, s, h, k) = pre .0 in
+    let (x, e, z) =
+    subst
+    (Left n (withRuns (begun Runs (operatorOf (entry .operator)) s))
+    (queuedRuns (entry .builtin) (entry .place) (entry .value .now) (begun Runs (operatorOf (entry .operator)) s .runs)) _)
+    (left .given .1) (change-runs .ensures n (begun Runs (operatorOf (entry .operator)) s) (begin .ensures n s h) k) in
+    omega (arith, z .room)
 
 returns : tie.Need-returns
-returns c = λ p e f g n s h k. done-says n (withRuns (begun Runs (operatorOf (c .before .before .before .before .before .before .before .before .before .before .before .before .before .before .before .before .before .args .operator)) s)) (queuedRuns (c .before .before .before .before .before .before .before .before .before .before .before .before .before .before .before .before .before .args .builtin) (c .before .before .before .before .before .before .before .before .before .before .before .before .before .before .before .before .before .args .place) (c .before .before .before .before .before .before .before .before .before .before .before .before .before .before .before .before .before .args .value .now) (begun Runs (operatorOf (c .before .before .before .before .before .before .before .before .before .before .before .before .before .before .before .before .before .args .operator)) s .runs)) _ (c .before .before .before .before .before .before .before .before .before .change-runs .result) (c .before .before .before .before .before .before .before .before .before .change-runs .ensures n (begun Runs (operatorOf (c .before .before .before .before .before .before .before .before .before .before .before .before .before .before .before .before .before .args .operator)) s) (c .before .before .before .before .before .before .before .before .before .before .before .before .before .begin .ensures n s h) k) (operatorOf (c .before .before .before .before .before .before .before .before .before .before .before .before .before .before .before .before .before .args .operator)) closable.Runs (queued (c .before .before .before .before .before .before .before .before .before .before .before .before .before .before .before .before .before .args .place) p s) (run-whole (operatorOf (c .before .before .before .before .before .before .before .before .before .before .before .before .before .before .before .before .before .args .operator)) (c .before .before .before .before .before .before .before .before .before .before .before .before .before .before .before .before .before .args .builtin) (c .before .before .before .before .before .before .before .before .before .before .before .before .before .before .before .before .before .args .place) (c .before .before .before .before .before .before .before .before .before .before .before .before .before .before .before .before .before .args .value .now) s p e f g) (c .before .before .before .before .before .left .given .0 .0) (c .before .before .before .before .before .left .given .1) _ (c .before .before .finish .ensures)
-
-same-length-2 : tie.Need-same-length-2
-same-length-2 c = search needs
+returns c =
+    let entry = c .before .before .before .before .before .before .before .before .before .before .before .before .before .before .before .before .before .args in
+    let begin = c .before .before .before .before .before .before .before .before .before .before .before .before .before .begin in
+    let change-runs = c .before .before .before .before .before .before .before .before .before .change-runs in
+    let left = c .before .before .before .before .before .left in
+    let finish = c .before .before .finish in
+    λ p e f g n s h k.
+    done-says n (withRuns (begun Runs (operatorOf (entry .operator)) s))
+    (queuedRuns (entry .builtin) (entry .place) (entry .value .now) (begun Runs (operatorOf (entry .operator)) s .runs)) _
+    (change-runs .result) (change-runs .ensures n (begun Runs (operatorOf (entry .operator)) s) (begin .ensures n s h) k)
+    (operatorOf (entry .operator)) closable.Runs (queued (entry .place) p s)
+    (run-whole (operatorOf (entry .operator)) (entry .builtin) (entry .place) (entry .value .now) s p e f g) (left .given .0 .0)
+    (left .given .1) _ (finish .ensures)
 
 returns-2 : tie.Need-returns-2
-returns-2 c = λ p e f g n s h k. full-says n (withRuns (begun Runs (operatorOf (c .before .before .before .before .before .before .before .before .before .before .before .before .args .operator)) s)) (queuedRuns (c .before .before .before .before .before .before .before .before .before .before .before .before .args .builtin) (c .before .before .before .before .before .before .before .before .before .before .before .before .args .place) (c .before .before .before .before .before .before .before .before .before .before .before .before .args .value .now) (begun Runs (operatorOf (c .before .before .before .before .before .before .before .before .before .before .before .before .args .operator)) s .runs)) _ (c .before .before .before .before .change-runs .result) (c .before .before .before .before .change-runs .ensures n (begun Runs (operatorOf (c .before .before .before .before .before .before .before .before .before .before .before .before .args .operator)) s) (c .before .before .before .before .before .before .before .before .begin .ensures n s h) k) (operatorOf (c .before .before .before .before .before .before .before .before .before .before .before .before .args .operator)) closable.Runs (queued (c .before .before .before .before .before .before .before .before .before .before .before .before .args .place) p s) (run-whole (operatorOf (c .before .before .before .before .before .before .before .before .before .before .before .before .args .operator)) (c .before .before .before .before .before .before .before .before .before .before .before .before .args .builtin) (c .before .before .before .before .before .before .before .before .before .before .before .before .args .place) (c .before .before .before .before .before .before .before .before .before .before .before .before .args .value .now) s p e f g) (c .enum-told .given .1)
+returns-2 c =
+    let entry = c .before .before .before .before .before .before .before .before .before .before .before .before .args in
+    let begin = c .before .before .before .before .before .before .before .before .begin in
+    let change-runs = c .before .before .before .before .change-runs in
+    λ p e f g n s h k.
+    full-says n (withRuns (begun Runs (operatorOf (entry .operator)) s))
+    (queuedRuns (entry .builtin) (entry .place) (entry .value .now) (begun Runs (operatorOf (entry .operator)) s .runs)) _
+    (change-runs .result) (change-runs .ensures n (begun Runs (operatorOf (entry .operator)) s) (begin .ensures n s h) k)
+    (operatorOf (entry .operator)) closable.Runs (queued (entry .place) p s)
+    (run-whole (operatorOf (entry .operator)) (entry .builtin) (entry .place) (entry .value .now) s p e f g)
+    (c .enum-told .given .1)
 
 pub assign-run-spec : {M : Type 1} → statement M
 assign-run-spec =
@@ -49,10 +75,10 @@ assign-run-spec =
     (tie.spec
     begin-requires
     change-runs-requires
-    enum-known-left
+    (λ c. search needs)
     finish-requires
-    enum-told
-    same-length
+    (λ c. search needs)
+    (λ c. search needs)
     returns
-    same-length-2
+    (λ c. search needs)
     returns-2)

@@ -16,43 +16,64 @@ use borrow.Author.Needs.{needs}
 use Rattle.assign_lists.proofs.assign_tag.Statement.{statement}
 use Rattle.assign_lists.proofs.assign_tag.Tie as tie
 
-begin-requires : tie.Need-begin-requires
-begin-requires c κs = search needs
-
 change-tags-requires : tie.Need-change-tags-requires
-change-tags-requires c κs = let (n, s, h) = c .before .before .before .before .before .before .before .pre .0 in ((n, begun Tags (operatorOf (c .before .before .before .before .before .before .before .args .operator)) s, c .before .before .before .begin .ensures n s h), c .before .before .before .before .before .before .before .pre .1, c .before .before .before .before .before .before .before .pre .2)
-
-enum-known-left : tie.Need-enum-known-left
-enum-known-left c = search needs
+change-tags-requires c κs =
+    let pre = c .before .before .before .before .before .before .before .pre in
+    let entry = c .before .before .before .before .before .before .before .args in
+    let begin = c .before .before .before .begin in
+    let (n, s, h) = pre .0 in ((n, begun Tags (operatorOf (entry .operator)) s, begin .ensures n s h), pre .1, pre .2)
 
 finish-requires : tie.Need-finish-requires
-finish-requires c κs = let (n, s, h) = c .before .before .before .before .before .before .before .before .before .before .before .before .before .before .pre .0 in let (x, e, z) = subst (Left n (withTags (begun Tags (operatorOf (c .before .before .before .before .before .before .before .before .before .before .before .before .before .before .args .operator)) s)) (changeTags (operatorOf (c .before .before .before .before .before .before .before .before .before .before .before .before .before .before .args .operator)) (c .before .before .before .before .before .before .before .before .before .before .before .before .before .before .args .value .now) (begun Tags (operatorOf (c .before .before .before .before .before .before .before .before .before .before .before .before .before .before .args .operator)) s .tags)) _) (c .before .before .left .given .1) (c .before .before .before .before .before .before .change-tags .ensures n (begun Tags (operatorOf (c .before .before .before .before .before .before .before .before .before .before .before .before .before .before .args .operator)) s) (c .before .before .before .before .before .before .before .before .before .before .begin .ensures n s h)) in omega (arith, z .room)
-
-enum-told : tie.Need-enum-told
-enum-told c = search needs
-
-same-length : tie.Need-same-length
-same-length c = search needs
+finish-requires c κs =
+    let pre = c .before .before .before .before .before .before .before .before .before .before .before .before .before .before .pre in
+    let entry = c .before .before .before .before .before .before .before .before .before .before .before .before .before .before .args in
+    let begin = c .before .before .before .before .before .before .before .before .before .before .begin in
+    let change-tags = c .before .before .before .before .before .before .change-tags in
+    let left = c .before .before .left in
+    let (n, s, h) = pre .0 in
+    let (x, e, z) =
+    subst
+    (Left n (withTags (begun Tags (operatorOf (entry .operator)) s))
+    (changeTags (operatorOf (entry .operator)) (entry .value .now) (begun Tags (operatorOf (entry .operator)) s .tags)) _)
+    (left .given .1) (change-tags .ensures n (begun Tags (operatorOf (entry .operator)) s) (begin .ensures n s h)) in
+    omega (arith, z .room)
 
 returns : tie.Need-returns
-returns c = λ p e f n s h. done-says n (withTags (begun Tags (operatorOf (c .before .before .before .before .before .before .before .before .before .before .before .before .before .before .before .before .before .args .operator)) s)) (changeTags (operatorOf (c .before .before .before .before .before .before .before .before .before .before .before .before .before .before .before .before .before .args .operator)) (c .before .before .before .before .before .before .before .before .before .before .before .before .before .before .before .before .before .args .value .now) (begun Tags (operatorOf (c .before .before .before .before .before .before .before .before .before .before .before .before .before .before .before .before .before .args .operator)) s .tags)) _ (c .before .before .before .before .before .before .before .before .before .change-tags .result) (c .before .before .before .before .before .before .before .before .before .change-tags .ensures n (begun Tags (operatorOf (c .before .before .before .before .before .before .before .before .before .before .before .before .before .before .before .before .before .args .operator)) s) (c .before .before .before .before .before .before .before .before .before .before .before .before .before .begin .ensures n s h)) (operatorOf (c .before .before .before .before .before .before .before .before .before .before .before .before .before .before .before .before .before .args .operator)) closable.Tags (tagged p s) (tag-whole (operatorOf (c .before .before .before .before .before .before .before .before .before .before .before .before .before .before .before .before .before .args .operator)) (c .before .before .before .before .before .before .before .before .before .before .before .before .before .before .before .before .before .args .value .now) s p e f) (c .before .before .before .before .before .left .given .0 .0) (c .before .before .before .before .before .left .given .1) _ (c .before .before .finish .ensures)
-
-same-length-2 : tie.Need-same-length-2
-same-length-2 c = search needs
+returns c =
+    let entry = c .before .before .before .before .before .before .before .before .before .before .before .before .before .before .before .before .before .args in
+    let begin = c .before .before .before .before .before .before .before .before .before .before .before .before .before .begin in
+    let change-tags = c .before .before .before .before .before .before .before .before .before .change-tags in
+    let left = c .before .before .before .before .before .left in
+    let finish = c .before .before .finish in
+    λ p e f n s h.
+    done-says n (withTags (begun Tags (operatorOf (entry .operator)) s))
+    (changeTags (operatorOf (entry .operator)) (entry .value .now) (begun Tags (operatorOf (entry .operator)) s .tags)) _
+    (change-tags .result) (change-tags .ensures n (begun Tags (operatorOf (entry .operator)) s) (begin .ensures n s h))
+    (operatorOf (entry .operator)) closable.Tags (tagged p s) (tag-whole (operatorOf (entry .operator)) (entry .value .now) s p e f)
+    (left .given .0 .0) (left .given .1) _ (finish .ensures)
 
 returns-2 : tie.Need-returns-2
-returns-2 c = λ p e f n s h. full-says n (withTags (begun Tags (operatorOf (c .before .before .before .before .before .before .before .before .before .before .before .before .args .operator)) s)) (changeTags (operatorOf (c .before .before .before .before .before .before .before .before .before .before .before .before .args .operator)) (c .before .before .before .before .before .before .before .before .before .before .before .before .args .value .now) (begun Tags (operatorOf (c .before .before .before .before .before .before .before .before .before .before .before .before .args .operator)) s .tags)) _ (c .before .before .before .before .change-tags .result) (c .before .before .before .before .change-tags .ensures n (begun Tags (operatorOf (c .before .before .before .before .before .before .before .before .before .before .before .before .args .operator)) s) (c .before .before .before .before .before .before .before .before .begin .ensures n s h)) (operatorOf (c .before .before .before .before .before .before .before .before .before .before .before .before .args .operator)) closable.Tags (tagged p s) (tag-whole (operatorOf (c .before .before .before .before .before .before .before .before .before .before .before .before .args .operator)) (c .before .before .before .before .before .before .before .before .before .before .before .before .args .value .now) s p e f) (c .enum-told .given .1)
+returns-2 c =
+    let entry = c .before .before .before .before .before .before .before .before .before .before .before .before .args in
+    let begin = c .before .before .before .before .before .before .before .before .begin in
+    let change-tags = c .before .before .before .before .change-tags in
+    λ p e f n s h.
+    full-says n (withTags (begun Tags (operatorOf (entry .operator)) s))
+    (changeTags (operatorOf (entry .operator)) (entry .value .now) (begun Tags (operatorOf (entry .operator)) s .tags)) _
+    (change-tags .result) (change-tags .ensures n (begun Tags (operatorOf (entry .operator)) s) (begin .ensures n s h))
+    (operatorOf (entry .operator)) closable.Tags (tagged p s) (tag-whole (operatorOf (entry .operator)) (entry .value .now) s p e f)
+    (c .enum-told .given .1)
 
 pub assign-tag-spec : {M : Type 1} → statement M
 assign-tag-spec =
     tie.close
     (tie.spec
-    begin-requires
+    (λ c κs. search needs)
     change-tags-requires
-    enum-known-left
+    (λ c. search needs)
     finish-requires
-    enum-told
-    same-length
+    (λ c. search needs)
+    (λ c. search needs)
     returns
-    same-length-2
+    (λ c. search needs)
     returns-2)

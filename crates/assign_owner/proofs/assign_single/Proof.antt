@@ -14,51 +14,73 @@ use borrow.Author.Needs.{needs}
 use Rattle.assign_owner.proofs.assign_single.Statement.{statement}
 use Rattle.assign_owner.proofs.assign_single.Tie as tie
 
-slice-aggregate-fill : tie.Need-slice-aggregate-fill
-slice-aggregate-fill c = search needs
-
 fill-requires : tie.Need-fill-requires
-fill-requires c κs = (c .before .before .before .before .before .pre .2, c .before .before .before .before .before .pre .0, c .before .before .before .before .before .pre .1, refl)
-
-enum-known-k : tie.Need-enum-known-k
-enum-known-k c = search needs
+fill-requires c κs =
+    let pre = c .before .before .before .before .before .pre in
+    (pre .2, pre .0, pre .1, refl)
 
 array-share-prefix-out : tie.Need-array-share-prefix-out
-array-share-prefix-out c = let (d, s, h) = c .before .before .before .before .before .before .before .before .before .before .before .pre .0 in omega (arith, (filled-front (filled false (sourceOf d (c .before .before .before .before .before .before .before .before .before .before .before .args .place) s) (c .before .before .before .before .before .before .before .before .before .before .before .args .value .now)) _ (c .before .before .before .before .before .fill .result) _ (c .before .before .before .before .before .fill .ensures d s h) (c .before .before .k .given .0 .0) (c .before .before .k .given .1)) .room)
+array-share-prefix-out c =
+    let pre = c .before .before .before .before .before .before .before .before .before .before .before .pre in
+    let entry = c .before .before .before .before .before .before .before .before .before .before .before .args in
+    let fill = c .before .before .before .before .before .fill in
+    let k = c .before .before .k in
+    let (d, s, h) = pre .0 in
+    omega (
+      arith,
+      (filled-front (filled false (sourceOf d (entry .place) s) (entry .value .now)) _ (fill .result) _ (fill .ensures d s h)
+          (k .given .0 .0) (k .given .1)) .room,
+    )
 
 slice-aggregate-set-text : tie.Need-slice-aggregate-set-text
-slice-aggregate-set-text c = let (d, s, h) = c .before .before .before .before .before .before .before .before .before .before .before .before .pre .0 in front-size (filled false (sourceOf d (c .before .before .before .before .before .before .before .before .before .before .before .before .args .place) s) (c .before .before .before .before .before .before .before .before .before .before .before .before .args .value .now)) _ (c .before .before .before .k .given .0 .0) _ (filled-front (filled false (sourceOf d (c .before .before .before .before .before .before .before .before .before .before .before .before .args .place) s) (c .before .before .before .before .before .before .before .before .before .before .before .before .args .value .now)) _ (c .before .before .before .before .before .before .fill .result) _ (c .before .before .before .before .before .before .fill .ensures d s h) (c .before .before .before .k .given .0 .0) (c .before .before .before .k .given .1))
+slice-aggregate-set-text c =
+    let pre = c .before .before .before .before .before .before .before .before .before .before .before .before .pre in
+    let entry = c .before .before .before .before .before .before .before .before .before .before .before .before .args in
+    let fill = c .before .before .before .before .before .before .fill in
+    let k = c .before .before .before .k in
+    let (d, s, h) = pre .0 in
+    front-size (filled false (sourceOf d (entry .place) s) (entry .value .now)) _ (k .given .0 .0) _
+    (filled-front (filled false (sourceOf d (entry .place) s) (entry .value .now)) _ (fill .result) _ (fill .ensures d s h)
+    (k .given .0 .0) (k .given .1))
 
 set-text-requires : tie.Need-set-text-requires
-set-text-requires c κs = let (d, s, h) = c .before .before .before .before .before .before .before .before .before .before .before .before .pre .0 in (length (chain d), s, h .held)
-
-enum-told : tie.Need-enum-told
-enum-told c = search needs
-
-same-length : tie.Need-same-length
-same-length c = search needs
+set-text-requires c κs =
+    let pre = c .before .before .before .before .before .before .before .before .before .before .before .before .pre in
+    let (d, s, h) = pre .0 in (length (chain d), s, h .held)
 
 returns : tie.Need-returns
-returns c = λ p e f d s h. single-says d (c .before .before .before .before .before .before .before .before .before .before .before .before .before .before .before .args .place) s p (operatorOf (c .before .before .before .before .before .before .before .before .before .before .before .before .before .before .before .args .operator)) (c .before .before .before .before .before .before .before .before .before .before .before .before .before .before .before .args .value .now) e f (c .before .before .before .before .before .before .before .before .before .before .before .before .before .before .before .args .key) _ ((filled-front (filled false (sourceOf d (c .before .before .before .before .before .before .before .before .before .before .before .before .before .before .before .args .place) s) (c .before .before .before .before .before .before .before .before .before .before .before .before .before .before .before .args .value .now)) _ (c .before .before .before .before .before .before .before .before .before .fill .result) _ (c .before .before .before .before .before .before .before .before .before .fill .ensures d s h) (c .before .before .before .before .before .before .k .given .0 .0) (c .before .before .before .before .before .before .k .given .1)) .is) (length (chain d)) _ (c .before .before .set-text .result) (c .before .before .set-text .ensures (length (chain d)) s (h .held))
-
-same-length-2 : tie.Need-same-length-2
-same-length-2 c = search needs
+returns c =
+    let entry = c .before .before .before .before .before .before .before .before .before .before .before .before .before .before .before .args in
+    let fill = c .before .before .before .before .before .before .before .before .before .fill in
+    let k = c .before .before .before .before .before .before .k in
+    let set-text = c .before .before .set-text in
+    λ p e f d s h.
+    single-says d (entry .place) s p (operatorOf (entry .operator)) (entry .value .now) e f (entry .key) _
+    ((filled-front (filled false (sourceOf d (entry .place) s) (entry .value .now)) _ (fill .result) _ (fill .ensures d s h)
+    (k .given .0 .0) (k .given .1)) .is)
+    (length (chain d)) _ (set-text .result) (set-text .ensures (length (chain d)) s (h .held))
 
 returns-2 : tie.Need-returns-2
-returns-2 c = λ p e f d s h. single-long d (c .before .before .before .before .before .before .before .before .before .args .place) s p (operatorOf (c .before .before .before .before .before .before .before .before .before .args .operator)) (c .before .before .before .before .before .before .before .before .before .args .value .now) e f (c .before .before .before .before .before .before .before .before .before .args .key) (filled-long (filled false (sourceOf d (c .before .before .before .before .before .before .before .before .before .args .place) s) (c .before .before .before .before .before .before .before .before .before .args .value .now)) _ (c .before .before .before .fill .result) _ (c .before .before .before .fill .ensures d s h) (c .enum-told .given .1))
+returns-2 c =
+    let entry = c .before .before .before .before .before .before .before .before .before .args in
+    let fill = c .before .before .before .fill in
+    λ p e f d s h.
+    single-long d (entry .place) s p (operatorOf (entry .operator)) (entry .value .now) e f (entry .key)
+    (filled-long (filled false (sourceOf d (entry .place) s) (entry .value .now)) _ (fill .result) _ (fill .ensures d s h)
+    (c .enum-told .given .1))
 
 pub assign-single-spec : {M : Type 1} → statement M
 assign-single-spec =
     tie.close
     (tie.spec
-    slice-aggregate-fill
+    (λ c. search needs)
     fill-requires
-    enum-known-k
+    (λ c. search needs)
     array-share-prefix-out
     slice-aggregate-set-text
     set-text-requires
-    enum-told
-    same-length
+    (λ c. search needs)
+    (λ c. search needs)
     returns
-    same-length-2
+    (λ c. search needs)
     returns-2)

@@ -15,9 +15,11 @@ use Rattle.assign_owner.proofs.set_mode.Tie as tie
 
 returns : tie.Need-returns
 returns c =
-    let entry = c .before .before .before .before .before .before .before .before .args in
+    let entry-call = c .before .before .before .before .before .before .before .before .args in
+    let mode-of-call = c .before .before .before .before .before .mode-of in
+    let entry = entry-call in
     let mode = c .before .before .before .mode .given in
-    let mode-of = c .before .before .before .before .before .mode-of in
+    let mode-of = mode-of-call in
     let shared = sym (c .before .others-write .ensures) ∙ c .if1 .taken in
     mode-refused (operatorOf (entry .operator)) (entry .x .now) (entry .t .now) (entry .layout) ModeShared
     (mode-shared (entry .x .now) (mode-of .result) (mode-of .ensures .0) (mode .0 .0) (mode .1) shared)
@@ -28,32 +30,39 @@ not-shared w = sym (w .before .others-write .ensures) ∙ w .if1 .left
 
 set-mode-requires : tie.Need-set-mode-requires
 set-mode-requires c κs =
-    let (n, s, h) = c .before .before .before .before .before .before .before .before .before .pre in
-    let mode = c .before .before .before .before .mode .given in
-    let mode-of = c .before .before .before .before .before .before .mode-of in
+    let pre = c .before .before .before .before .before .before .before .before .before .pre in
+    let mode-of-call = c .before .before .before .before .before .before .mode-of in
+    let mode-call = c .before .before .before .before .mode in
+    let (n, s, h) = pre in
+    let mode = mode-call .given in
+    let mode-of = mode-of-call in
     let small : Small (Mode (mode .0 .0)) = subst Small (mode .1) (mode-of .ensures .1) in
     (omega (arith, h .room), record { small = small; kept = ap not (not-shared (c .before)) })
 
 finish-requires : tie.Need-finish-requires
 finish-requires c κs =
-    let start = c .before .before .before .before .before .before .before .before .before .before .before .before .before in
+    let before = c .before .before .before .before .before .before .before .before .before .before .before .before .before in
+    let start = before in
     let (n, s, h) = start .pre in
     omega (arith, c .before .before .before .set-mode .ensures n (start .args .layout) s h .room)
 
 returns-2 : tie.Need-returns-2
 returns-2 c =
-    let passed = c .before .before .before .before .before .before .before .before in
+    let before = c .before .before .before .before .before .before .before .before in
+    let set-mode-call = c .before .before .before .before .before .before .set-mode in
+    let passed = before in
     let entry = passed .before .before .before .before .before .before .before .before .args in
     let mode = passed .before .before .before .mode .given in
     let mode-of = passed .before .before .before .before .before .mode-of in
-    let set-mode = c .before .before .before .before .before .before .set-mode in
+    let set-mode = set-mode-call in
     mode-done (operatorOf (entry .operator)) (entry .x .now) (entry .t .now) (entry .layout) (mode .0 .0)
     (mode-sound (entry .x .now) (mode-of .result) (mode-of .ensures .0) (mode .0 .0) (mode .1) (not-shared passed))
     _ (set-mode .ensures) _ (c .before .before .finish .ensures)
 
 returns-3 : tie.Need-returns-3
 returns-3 c =
-    let entry = c .before .before .before .before .before .args in
+    let entry-call = c .before .before .before .before .before .args in
+    let entry = entry-call in
     let mode-of = c .before .before .mode-of in
     mode-refused (operatorOf (entry .operator)) (entry .x .now) (entry .t .now) (entry .layout) ModeBad
     (mode-faulty (entry .x .now) (mode-of .result) (mode-of .ensures .0) (c .enum-told .given .1))

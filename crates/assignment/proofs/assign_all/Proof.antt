@@ -20,49 +20,74 @@ abbrev μ-loop : tie.MeasureT-loop
 
 -- src/lib.rt:84:5
 loop-holds : tie.Need-loop-holds Inv-loop μ-loop
-loop-holds c = let a = c .before .before .before .before .args in going-start (a .values .now) (a .rows .now) (a .from) (a .to) (a .t .now) (a .dev .now) (a .chain) (a .place) (a .layout) (c .before .before .before .before .pre .0)
+loop-holds c =
+    let entry = c .before .before .before .before .args in
+    let pre = c .before .before .before .before .pre in
+    let a = entry in
+    going-start (a .values .now) (a .rows .now) (a .from) (a .to) (a .t .now) (a .dev .now) (a .chain) (a .place) (a .layout) (pre .0)
 
 -- src/lib.rt:85:13
 pair-at-requires : tie.Need-pair-at-requires Inv-loop μ-loop
-pair-at-requires c κs = omega (arith, c .before .before .before .before .before .before .pre .0 .rows .room, c .loop-test .taken)
+pair-at-requires c κs =
+    let pre = c .before .before .before .before .before .before .pre in
+    omega (arith, pre .0 .rows .room, c .loop-test .taken)
 
 -- src/lib.rt:86:15
 assign-pair-requires : tie.Need-assign-pair-requires Inv-loop μ-loop
-assign-pair-requires c κs = let a = c .before .before .before .before .before .before .before .before .args in let l = c .before .before .before .loop in let q = c .before .pair-at in (
-  readable (a .values .now) (a .rows .now) (a .from) (a .to) (a .t .now) (a .dev .now) (a .chain) (a .place) (a .layout) (l .t) (l .work) (l .i) (l .inv) (q .result) (q .ensures) (c .before .before .loop-test .taken) (c .before .before .before .before .before .before .before .before .pre .0 .rows),
-  still-ready (a .values .now) (a .rows .now) (a .from) (a .to) (a .t .now) (a .dev .now) (a .chain) (a .place) (a .layout) (l .t) (l .work) (l .i) (l .inv) (c .before .before .before .before .before .before .before .before .pre .1),
-  c .before .before .before .before .before .before .before .before .pre .2,
-)
+assign-pair-requires c κs =
+    let entry = c .before .before .before .before .before .before .before .before .args in
+    let pre = c .before .before .before .before .before .before .before .before .pre in
+    let loop = c .before .before .before .loop in
+    let loop-test = c .before .before .loop-test in
+    let a = entry in let l = loop in let q = c .before .pair-at in (
+      readable (a .values .now) (a .rows .now) (a .from) (a .to) (a .t .now) (a .dev .now) (a .chain) (a .place) (a .layout) (l .t)
+          (l .work) (l .i) (l .inv) (q .result) (q .ensures) (loop-test .taken) (pre .0 .rows),
+      still-ready (a .values .now) (a .rows .now) (a .from) (a .to) (a .t .now) (a .dev .now) (a .chain) (a .place) (a .layout) (l .t)
+          (l .work) (l .i) (l .inv) (pre .1),
+      pre .2,
+    )
 
 -- src/lib.rt:87:28
-enum-known-next : tie.Need-enum-known-next Inv-loop μ-loop
-enum-known-next c = search needs
-
 -- src/lib.rt:89:17
 add-i : tie.Need-add-i Inv-loop μ-loop
-add-i c = let f = c .before .before .before .before .before .before .before .before .before .before .before .before .before .before .fits in omega (arith, c .before .before .before .before .before .before .before .before .loop-test .taken)
+add-i c =
+    let fits = c .before .before .before .before .before .before .before .before .before .before .before .before .before .before .fits in
+    let loop-test = c .before .before .before .before .before .before .before .before .loop-test in
+    let f = fits in omega (arith, loop-test .taken)
 
 -- src/lib.rt:84:5
 loop-less : tie.Need-loop-less Inv-loop μ-loop
-loop-less c = omega (arith, c .before .before .before .before .before .before .before .before .loop-test .taken)
+loop-less c =
+    let loop-test = c .before .before .before .before .before .before .before .before .loop-test in
+    omega (arith, loop-test .taken)
 
 -- src/lib.rt:84:5
 loop-again : tie.Need-loop-again Inv-loop μ-loop
-loop-again c = let a = c .before .before .before .before .before .before .before .before .before .before .before .before .before .before .args in let l = c .before .before .before .before .before .before .before .before .before .loop in let q = c .before .before .before .before .before .before .before .pair-at in let x = c .before .before .before .before .before .assign-pair in
-    going-on (a .values .now) (a .rows .now) (a .from) (a .to) (a .t .now) (a .dev .now) (a .chain) (a .place) (a .layout) (l .t) (l .work) (l .i) (l .inv) (q .result) (q .ensures) (c .before .before .before .before .before .before .before .before .loop-test .taken) _ (x .result) (x .ensures) _ (c .before .next .given .1) (search needs)
+loop-again c =
+    let entry = c .before .before .before .before .before .before .before .before .before .before .before .before .before .before .args in
+    let loop = c .before .before .before .before .before .before .before .before .before .loop in
+    let loop-test = c .before .before .before .before .before .before .before .before .loop-test in
+    let pair-at = c .before .before .before .before .before .before .before .pair-at in
+    let assign-pair = c .before .before .before .before .before .assign-pair in
+    let a = entry in let l = loop in let q = pair-at in let x = assign-pair in
+    going-on (a .values .now) (a .rows .now) (a .from) (a .to) (a .t .now) (a .dev .now) (a .chain) (a .place) (a .layout) (l .t)
+    (l .work) (l .i) (l .inv) (q .result) (q .ensures) (loop-test .taken) _ (x .result) (x .ensures) _ (c .before .next .given .1)
+    (search needs)
 
 -- src/lib.rt:91:31
-enum-known-refusal : tie.Need-enum-known-refusal Inv-loop μ-loop
-enum-known-refusal c = search needs
-
 -- src/lib.rt:91:43
-same-length : tie.Need-same-length Inv-loop μ-loop
-same-length c = search needs
-
 -- src/lib.rt:91:43
 returns : tie.Need-returns Inv-loop μ-loop
-returns c = let a = c .before .before .before .before .before .before .before .before .before .before .before .before .before .before .args in let l = c .before .before .before .before .before .before .before .before .before .loop in let q = c .before .before .before .before .before .before .before .pair-at in let x = c .before .before .before .before .before .assign-pair in
-    going-refused (a .values .now) (a .rows .now) (a .from) (a .to) (a .t .now) (a .dev .now) (a .chain) (a .place) (a .layout) (l .t) (l .work) (l .i) (l .inv) (q .result) (q .ensures) (c .before .before .before .before .before .before .before .before .loop-test .taken) _ (x .result) (x .ensures) _ (c .before .refusal .given .1)
+returns c =
+    let entry = c .before .before .before .before .before .before .before .before .before .before .before .before .before .before .args in
+    let loop = c .before .before .before .before .before .before .before .before .before .loop in
+    let loop-test = c .before .before .before .before .before .before .before .before .loop-test in
+    let pair-at = c .before .before .before .before .before .before .before .pair-at in
+    let assign-pair = c .before .before .before .before .before .assign-pair in
+    let a = entry in let l = loop in let q = pair-at in let x = assign-pair in
+    going-refused (a .values .now) (a .rows .now) (a .from) (a .to) (a .t .now) (a .dev .now) (a .chain) (a .place) (a .layout) (l .t)
+    (l .work) (l .i) (l .inv) (q .result) (q .ensures) (loop-test .taken) _ (x .result) (x .ensures) _
+    (c .before .refusal .given .1)
 
 -- src/lib.rt:65:1
 same-length-2 : tie.Need-same-length-2 Inv-loop μ-loop
@@ -70,8 +95,12 @@ same-length-2 c = c .before .before .loop .inv .room
 
 -- src/lib.rt:65:1
 returns-2 : tie.Need-returns-2 Inv-loop μ-loop
-returns-2 c = let a = c .before .before .before .before .before .before .before .args in let l = c .before .before .loop in
-    going-end (a .values .now) (a .rows .now) (a .from) (a .to) (a .t .now) (a .dev .now) (a .chain) (a .place) (a .layout) (l .t) (l .work) (l .i) (l .inv) (c .before .loop-test .left)
+returns-2 c =
+    let entry = c .before .before .before .before .before .before .before .args in
+    let loop = c .before .before .loop in
+    let a = entry in let l = loop in
+    going-end (a .values .now) (a .rows .now) (a .from) (a .to) (a .t .now) (a .dev .now) (a .chain) (a .place) (a .layout) (l .t)
+    (l .work) (l .i) (l .inv) (c .before .loop-test .left)
 
 pub assign-all-spec : {M : Type 1} → statement M
 assign-all-spec =
@@ -82,12 +111,12 @@ assign-all-spec =
     loop-holds
     pair-at-requires
     assign-pair-requires
-    enum-known-next
+    (λ c. search needs)
     add-i
     loop-less
     loop-again
-    enum-known-refusal
-    same-length
+    (λ c. search needs)
+    (λ c. search needs)
     returns
     same-length-2
     returns-2)

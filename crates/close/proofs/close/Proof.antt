@@ -16,117 +16,123 @@ use Rattle.lists.specs.Sizes.{fullestRunList}
 use Rattle.close.proofs.close.Statement.{statement}
 use Rattle.close.proofs.close.Tie as tie
 
-clear-requires : tie.Need-clear-requires
-clear-requires c κs = search needs
-
-refused-requires : tie.Need-refused-requires
-refused-requires c κs = search needs
-
-same-length : tie.Need-same-length
-same-length c = search needs
-
 returns : tie.Need-returns
 returns c =
-    let args = c .before .before .before .before .before .before .before .before .before .args in
-    let clear = c .before .before .before .before .clear in
+    let entry = c .before .before .before .before .before .before .before .before .before .args in
+    let clear-call = c .before .before .before .before .clear in
+    let args = entry in
+    let clear = clear-call in
     let the-refusal = c .refused in
     let e : length (clear .last .0) ≡ length (args .target .now) = omega arith in
-    ap (answered (the-refusal .result)) (clear .ensures) ∙ the-refusal .ensures (length (args .target .now)) ∙ sym (close-short (args .device .now) (args .outcome .now) (length (args .target .now)) (omega (arith, c .before .if1 .taken)))
-
-check-requires : tie.Need-check-requires
-check-requires c κs = search needs
-
-refused-requires-2 : tie.Need-refused-requires-2
-refused-requires-2 c κs = search needs
-
-same-length-2 : tie.Need-same-length-2
-same-length-2 c = search needs
+    ap (answered (the-refusal .result)) (clear .ensures) ∙ the-refusal .ensures (length (args .target .now)) ∙ sym
+    (close-short (args .device .now) (args .outcome .now) (length (args .target .now)) (omega (arith, c .before .if1 .taken)))
 
 returns-2 : tie.Need-returns-2
 returns-2 c =
-    let args = c .before .before .before .before .before .before .before .before .before .before .before .args in
-    let clear = c .before .before .before .before .before .before .clear in
+    let entry = c .before .before .before .before .before .before .before .before .before .before .before .args in
+    let clear-call = c .before .before .before .before .before .before .clear in
+    let if1 = c .before .before .before .if1 in
+    let check = c .before .before .check in
+    let args = entry in
+    let clear = clear-call in
     let refused2 = c .refused2 in
     let e : length (clear .last .0) ≡ length (args .target .now) = omega arith in
-    let h : fullestRunList ≤ length (args .target .now) = omega (arith, c .before .before .before .if1 .left) in
-    ap (answered (refused2 .result)) (clear .ensures) ∙ refused2 .ensures (length (args .target .now)) ∙ sym (close-device (args .device .now) (args .outcome .now) (length (args .target .now)) h (sym (c .before .before .check .ensures) ∙ not-true _ (c .before .if2 .taken)))
+    let h : fullestRunList ≤ length (args .target .now) = omega (arith, if1 .left) in
+    ap (answered (refused2 .result)) (clear .ensures) ∙ refused2 .ensures (length (args .target .now)) ∙ sym
+    (close-device (args .device .now) (args .outcome .now) (length (args .target .now)) h
+    (sym (check .ensures) ∙ not-true _ (c .before .if2 .taken)))
 
 chain-of-requires : tie.Need-chain-of-requires
 chain-of-requires c κs =
-    let d = is-some (decode (c .before .before .before .before .before .before .before .before .before .before .args .device .now)) (sym (c .before .check .ensures) ∙ not-false _ (c .if2 .left)) in
+    let entry = c .before .before .before .before .before .before .before .before .before .before .args in
+    let d = is-some (decode (entry .device .now)) (sym (c .before .check .ensures) ∙ not-false _ (c .if2 .left)) in
     d
-
-check-requires-2 : tie.Need-check-requires-2
-check-requires-2 c κs = search needs
-
-enum-known-layout : tie.Need-enum-known-layout
-enum-known-layout c = search needs
 
 list-requires : tie.Need-list-requires
 list-requires c κs =
-    let args = c .before .before .before .before .before .before .before .before .before .before .before .before .before .before .before .before .args in
-    let clear = c .before .before .before .before .before .before .before .before .before .before .before .clear in
-    let chain-of = c .before .before .before .before .before .chain-of in
-    let layout = c .before .before .layout in
+    let entry = c .before .before .before .before .before .before .before .before .before .before .before .before .before .before .before .before .args in
+    let clear-call = c .before .before .before .before .before .before .before .before .before .before .before .clear in
+    let if1 = c .before .before .before .before .before .before .before .before .if1 in
+    let check = c .before .before .before .before .before .before .before .check in
+    let if2 = c .before .before .before .before .before .before .if2 in
+    let chain-of-call = c .before .before .before .before .before .chain-of in
+    let check2 = c .before .before .before .before .check2 in
+    let layout-call = c .before .before .layout in
+    let args = entry in
+    let clear = clear-call in
+    let chain-of = chain-of-call in
+    let layout = layout-call in
     let e : length (clear .last .0) ≡ length (args .target .now) = omega arith in
-    let h : fullestRunList ≤ length (args .target .now) = omega (arith, c .before .before .before .before .before .before .before .before .if1 .left) in
-    let d = is-some (decode (args .device .now)) (sym (c .before .before .before .before .before .before .before .check .ensures) ∙ not-false _ (c .before .before .before .before .before .before .if2 .left)) in
-    let w = close-both (args .device .now) (args .outcome .now) (length (args .target .now)) h (d .0) (d .1) (chain-of .result) (chain-of .ensures (d .0) (d .1)) (layout .given .0 .0) (sym (layout .given .1) ∙ c .before .before .before .before .check2 .ensures) in
+    let h : fullestRunList ≤ length (args .target .now) = omega (arith, if1 .left) in
+    let d = is-some (decode (args .device .now)) (sym (check .ensures) ∙ not-false _ (if2 .left)) in
+    let w =
+    close-both (args .device .now) (args .outcome .now) (length (args .target .now)) h (d .0) (d .1) (chain-of .result)
+    (chain-of .ensures (d .0) (d .1)) (layout .given .0 .0) (sym (layout .given .1) ∙ check2 .ensures) in
     (omega (arith, e, h), clear .ensures ∙ ap (λ (n : ℕ). replicate n 0) (sym e), (d .0, w .0, w .1))
-
-enum-told : tie.Need-enum-told
-enum-told c = search needs
-
-refused-requires-3 : tie.Need-refused-requires-3
-refused-requires-3 c κs = search needs
-
-same-length-3 : tie.Need-same-length-3
-same-length-3 c = search needs
 
 returns-3 : tie.Need-returns-3
 returns-3 c =
-    let args = c .before .before .before .before .before .before .before .before .before .before .before .before .before .before .before .before .before .before .before .args in
-    let chain-of = c .before .before .before .before .before .before .before .before .chain-of in
-    let layout = c .before .before .before .before .before .layout in
-    let e : length (c .before .before .before .before .before .before .before .before .before .before .before .before .before .before .clear .last .0) ≡ length (args .target .now) = omega arith in
-    let h : fullestRunList ≤ length (args .target .now) = omega (arith, c .before .before .before .before .before .before .before .before .before .before .before .if1 .left) in
-    let d = is-some (decode (args .device .now)) (sym (c .before .before .before .before .before .before .before .before .before .before .check .ensures) ∙ not-false _ (c .before .before .before .before .before .before .before .before .before .if2 .left)) in
-    let w = close-both (args .device .now) (args .outcome .now) (length (args .target .now)) h (d .0) (d .1) (chain-of .result) (chain-of .ensures (d .0) (d .1)) (layout .given .0 .0) (sym (layout .given .1) ∙ c .before .before .before .before .before .before .before .check2 .ensures) in
-    c .before .before .list .ensures (d .0) (w .0) (w .1) ∙ ap (λ (n : ℕ). given n (listed (commands (d .0) (w .0 .properties) (w .0 .runs)))) e ∙ sym (close-listed (args .device .now) (args .outcome .now) (length (args .target .now)) h (chain-of .result) (layout .given .0 .0) (d .0) (w .0) (w .1))
-
-same-length-4 : tie.Need-same-length-4
-same-length-4 c = search needs
+    let entry = c .before .before .before .before .before .before .before .before .before .before .before .before .before .before .before .before .before .before .before .args in
+    let clear = c .before .before .before .before .before .before .before .before .before .before .before .before .before .before .clear in
+    let if1 = c .before .before .before .before .before .before .before .before .before .before .before .if1 in
+    let check = c .before .before .before .before .before .before .before .before .before .before .check in
+    let if2 = c .before .before .before .before .before .before .before .before .before .if2 in
+    let chain-of-call = c .before .before .before .before .before .before .before .before .chain-of in
+    let check2 = c .before .before .before .before .before .before .before .check2 in
+    let layout-call = c .before .before .before .before .before .layout in
+    let list = c .before .before .list in
+    let args = entry in
+    let chain-of = chain-of-call in
+    let layout = layout-call in
+    let e : length (clear .last .0) ≡ length (args .target .now) = omega arith in
+    let h : fullestRunList ≤ length (args .target .now) = omega (arith, if1 .left) in
+    let d = is-some (decode (args .device .now)) (sym (check .ensures) ∙ not-false _ (if2 .left)) in
+    let w =
+    close-both (args .device .now) (args .outcome .now) (length (args .target .now)) h (d .0) (d .1) (chain-of .result)
+    (chain-of .ensures (d .0) (d .1)) (layout .given .0 .0) (sym (layout .given .1) ∙ check2 .ensures) in
+    list .ensures (d .0) (w .0) (w .1) ∙ ap (λ (n : ℕ). given n (listed (commands (d .0) (w .0 .properties) (w .0 .runs)))) e ∙ sym
+    (close-listed (args .device .now) (args .outcome .now) (length (args .target .now)) h (chain-of .result) (layout .given .0 .0)
+    (d .0) (w .0) (w .1))
 
 returns-4 : tie.Need-returns-4
 returns-4 c =
-    let args = c .before .before .before .before .before .before .before .before .before .before .before .before .before .before .before .args in
-    let clear = c .before .before .before .before .before .before .before .before .before .before .clear in
-    let chain-of = c .before .before .before .before .chain-of in
+    let entry = c .before .before .before .before .before .before .before .before .before .before .before .before .before .before .before .args in
+    let clear-call = c .before .before .before .before .before .before .before .before .before .before .clear in
+    let if1 = c .before .before .before .before .before .before .before .if1 in
+    let check = c .before .before .before .before .before .before .check in
+    let if2 = c .before .before .before .before .before .if2 in
+    let chain-of-call = c .before .before .before .before .chain-of in
+    let check2 = c .before .before .before .check2 in
+    let args = entry in
+    let clear = clear-call in
+    let chain-of = chain-of-call in
     let refused3 = c .refused3 in
     let e : length (clear .last .0) ≡ length (args .target .now) = omega arith in
-    let h : fullestRunList ≤ length (args .target .now) = omega (arith, c .before .before .before .before .before .before .before .if1 .left) in
-    let d = is-some (decode (args .device .now)) (sym (c .before .before .before .before .before .before .check .ensures) ∙ not-false _ (c .before .before .before .before .before .if2 .left)) in
-    ap (answered (refused3 .result)) (clear .ensures) ∙ refused3 .ensures (length (args .target .now)) ∙ sym (close-outcome (args .device .now) (args .outcome .now) (length (args .target .now)) h (d .0) (d .1) (chain-of .result) (chain-of .ensures (d .0) (d .1)) (sym (c .before .enum-told .given .1) ∙ c .before .before .before .check2 .ensures))
+    let h : fullestRunList ≤ length (args .target .now) = omega (arith, if1 .left) in
+    let d = is-some (decode (args .device .now)) (sym (check .ensures) ∙ not-false _ (if2 .left)) in
+    ap (answered (refused3 .result)) (clear .ensures) ∙ refused3 .ensures (length (args .target .now)) ∙ sym
+    (close-outcome (args .device .now) (args .outcome .now) (length (args .target .now)) h (d .0) (d .1) (chain-of .result)
+    (chain-of .ensures (d .0) (d .1)) (sym (c .before .enum-told .given .1) ∙ check2 .ensures))
 
 pub close-spec : {M : Type 1} → statement M
 close-spec =
     tie.close
     (tie.spec
-    clear-requires
-    refused-requires
-    same-length
+    (λ c κs. search needs)
+    (λ c κs. search needs)
+    (λ c. search needs)
     returns
-    check-requires
-    refused-requires-2
-    same-length-2
+    (λ c κs. search needs)
+    (λ c κs. search needs)
+    (λ c. search needs)
     returns-2
     chain-of-requires
-    check-requires-2
-    enum-known-layout
+    (λ c κs. search needs)
+    (λ c. search needs)
     list-requires
-    enum-told
-    refused-requires-3
-    same-length-3
+    (λ c. search needs)
+    (λ c κs. search needs)
+    (λ c. search needs)
     returns-3
-    same-length-4
+    (λ c. search needs)
     returns-4)

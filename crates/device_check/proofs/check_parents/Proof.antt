@@ -23,58 +23,59 @@ abbrev μ-loop : tie.MeasureT-loop
 loop-holds : tie.Need-loop-holds Inv-loop μ-loop
 loop-holds c = (omega arith, omega arith, refl)
 
-check-member-requires : tie.Need-check-member-requires Inv-loop μ-loop
-check-member-requires c κs = omega arith
-
-enum-known-end : tie.Need-enum-known-end Inv-loop μ-loop
-enum-known-end c = search needs
-
-enum-told : tie.Need-enum-told Inv-loop μ-loop
-enum-told c = search needs
-
 returns : tie.Need-returns Inv-loop μ-loop
 returns c =
-    let w = c .before .before .before .before in
+    let before = c .before .before .before .before in
+    let check-member = c .before .before .check-member in
+    let w = before in
     let rec = w .before .before .args .rec .now in
-    sym (parents-bad rec (pathIn rec (w .loop .c)) (w .loop .p) (w .loop .left) (omega arith) (sym (c .before .before .check-member .ensures) ∙ c .enum-told .given .1)) ∙ w .loop .inv .2
+    sym
+    (parents-bad rec (pathIn rec (w .loop .c)) (w .loop .p) (w .loop .left) (omega arith)
+    (sym (check-member .ensures) ∙ c .enum-told .given .1))
+    ∙ w .loop .inv .2
 
 -- the device at p
 next : (t : tie.After-known-told Inv-loop μ-loop)
     → let w = t .before .before .before .before .before in
     Next (w .before .before .args .rec .now) (w .loop .p) (t .before .end .given .0 .0)
 next t =
-    let w = t .before .before .before .before .before in
-    next-at (w .before .before .args .rec .now) (λ i. w .before .shared-slice-known .given i .fits) (w .loop .p) (t .before .end .given .0 .0) (omega arith)
-    (sym (t .before .before .before .check-member .ensures) ∙ t .before .end .given .1)
+    let before = t .before .before .before .before .before in
+    let check-member = t .before .before .before .check-member in
+    let w = before in
+    next-at (w .before .before .args .rec .now) (λ i. w .before .shared-slice-known .given i .fits) (w .loop .p)
+    (t .before .end .given .0 .0) (omega arith)
+    (sym (check-member .ensures) ∙ t .before .end .given .1)
 
 path-at-requires : tie.Need-path-at-requires Inv-loop μ-loop
 path-at-requires c κs = (next-path _ _ _ (next c), omega arith)
 
 path-at-requires-2 : tie.Need-path-at-requires-2 Inv-loop μ-loop
-path-at-requires-2 c κs = (c .before .before .before .before .before .before .loop .inv .1, omega arith)
+path-at-requires-2 c κs =
+    let loop = c .before .before .before .before .before .before .loop in
+    (loop .inv .1, omega arith)
 
 is-cut-requires : tie.Need-is-cut-requires Inv-loop μ-loop
 is-cut-requires c κs = tt
 
 returns-2 : tie.Need-returns-2 Inv-loop μ-loop
 returns-2 c =
-    let t = c .before .before .before .before in
+    let before = c .before .before .before .before in
+    let path-at = c .before .before .before .path-at in
+    let path-at2 = c .before .before .path-at2 in
+    let t = before in
     let w = t .before .before .before .before .before in
     let rec = w .before .before .args .rec .now in
     sym
     (parents-apart rec (pathIn rec (w .loop .c)) (w .loop .p) (w .loop .left) (omega arith) (t .before .end .given .0 .0) (next t)
-    (sym (ap₂ cutOf (c .before .before .before .path-at .ensures) (c .before .before .path-at2 .ensures)) ∙ sym (c .before .is-cut .ensures) ∙ not-true _ (c .if1 .taken)))
+    (sym (ap₂ cutOf (path-at .ensures) (path-at2 .ensures)) ∙ sym (c .before .is-cut .ensures) ∙ not-true _ (c .if1 .taken)))
     ∙ w .loop .inv .2
-
-sub-left : tie.Need-sub-left Inv-loop μ-loop
-sub-left c = omega arith
-
-loop-less : tie.Need-loop-less Inv-loop μ-loop
-loop-less c = omega arith
 
 loop-again : tie.Need-loop-again Inv-loop μ-loop
 loop-again c =
-    let t = c .before .before .before .before in
+    let before = c .before .before .before .before in
+    let path-at = c .before .before .before .path-at in
+    let path-at2 = c .before .before .path-at2 in
+    let t = before in
     let w = t .before .before .before .before .before in
     let rec = w .before .before .args .rec .now in
     let n = next t in (
@@ -82,7 +83,7 @@ loop-again c =
       next-path rec (w .loop .p) (t .before .end .given .0 .0) n,
       sym
           (parents-turn rec (pathIn rec (w .loop .c)) (w .loop .p) (w .loop .left) (omega arith) (t .before .end .given .0 .0) n
-          (sym (ap₂ cutOf (c .before .before .before .path-at .ensures) (c .before .before .path-at2 .ensures)) ∙ sym (c .before .is-cut .ensures) ∙ not-false _ (c .if1 .left)))
+          (sym (ap₂ cutOf (path-at .ensures) (path-at2 .ensures)) ∙ sym (c .before .is-cut .ensures) ∙ not-false _ (c .if1 .left)))
           ∙ w .loop .inv .2,
     )
 
@@ -99,15 +100,15 @@ check-parents-spec =
     Inv-loop
     μ-loop
     loop-holds
-    check-member-requires
-    enum-known-end
-    enum-told
+    (λ c κs. omega arith)
+    (λ c. search needs)
+    (λ c. search needs)
     returns
     path-at-requires
     path-at-requires-2
     is-cut-requires
     returns-2
-    sub-left
-    loop-less
+    (λ c. omega arith)
+    (λ c. omega arith)
     loop-again
     returns-3)

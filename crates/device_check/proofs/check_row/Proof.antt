@@ -8,34 +8,46 @@ use Rattle.device_check.proofs.Ends.{row-bad, row-stands, row-apart}
 use Rattle.device_check.proofs.check_row.Statement.{statement}
 use Rattle.device_check.proofs.check_row.Tie as tie
 
-check-properties-requires : tie.Need-check-properties-requires
-check-properties-requires c κs = search needs
-
-enum-known-end : tie.Need-enum-known-end
-enum-known-end c = search needs
-
-enum-told : tie.Need-enum-told
-enum-told c = search needs
-
 returns : tie.Need-returns
-returns c = sym (row-bad (c .before .before .before .before .args .rec .now) (c .before .before .before .before .args .at) (c .before .before .before .before .args .n) (sym (c .before .before .check-properties .ensures) ∙ c .enum-told .given .1))
+returns c =
+    let entry = c .before .before .before .before .args in
+    let check-properties = c .before .before .check-properties in
+    sym (row-bad (entry .rec .now) (entry .at) (entry .n) (sym (check-properties .ensures) ∙ c .enum-told .given .1))
 
 distinct-requires : tie.Need-distinct-requires
-distinct-requires c κs = (omega arith, row-stands (c .before .before .before .before .before .args .rec .now) (c .before .before .before .before .before .args .at) (c .before .before .before .before .before .args .n) (c .before .end .given .0 .0) (sym (c .before .before .before .check-properties .ensures) ∙ c .before .end .given .1))
+distinct-requires c κs =
+    let entry = c .before .before .before .before .before .args in
+    let check-properties = c .before .before .before .check-properties in (
+      omega arith,
+      row-stands (entry .rec .now) (entry .at) (entry .n) (c .before .end .given .0 .0)
+          (sym (check-properties .ensures) ∙ c .before .end .given .1),
+    )
 
 returns-2 : tie.Need-returns-2
-returns-2 c = sym (row-apart (c .before .before .before .before .before .before .before .args .rec .now) (c .before .before .before .before .before .before .before .args .at) (c .before .before .before .before .before .before .before .args .n) (c .before .before .before .end .given .0 .0) true (sym (c .before .before .before .before .before .check-properties .ensures) ∙ c .before .before .before .end .given .1) (sym (c .before .distinct .ensures) ∙ c .if1 .taken))
+returns-2 c =
+    let entry = c .before .before .before .before .before .before .before .args in
+    let check-properties = c .before .before .before .before .before .check-properties in
+    let end = c .before .before .before .end in
+    sym
+    (row-apart (entry .rec .now) (entry .at) (entry .n) (end .given .0 .0) true (sym (check-properties .ensures) ∙ end .given .1)
+    (sym (c .before .distinct .ensures) ∙ c .if1 .taken))
 
 returns-3 : tie.Need-returns-3
-returns-3 c = sym (row-apart (c .before .before .before .before .before .before .before .args .rec .now) (c .before .before .before .before .before .before .before .args .at) (c .before .before .before .before .before .before .before .args .n) (c .before .before .before .end .given .0 .0) false (sym (c .before .before .before .before .before .check-properties .ensures) ∙ c .before .before .before .end .given .1) (sym (c .before .distinct .ensures) ∙ c .if1 .left))
+returns-3 c =
+    let entry = c .before .before .before .before .before .before .before .args in
+    let check-properties = c .before .before .before .before .before .check-properties in
+    let end = c .before .before .before .end in
+    sym
+    (row-apart (entry .rec .now) (entry .at) (entry .n) (end .given .0 .0) false (sym (check-properties .ensures) ∙ end .given .1)
+    (sym (c .before .distinct .ensures) ∙ c .if1 .left))
 
 pub check-row-spec : {M : Type 1} → statement M
 check-row-spec =
     tie.close
     (tie.spec
-    check-properties-requires
-    enum-known-end
-    enum-told
+    (λ c κs. search needs)
+    (λ c. search needs)
+    (λ c. search needs)
     returns
     distinct-requires
     returns-2

@@ -10,25 +10,30 @@ use Rattle.device_check.proofs.is_cut.Statement.{statement}
 use Rattle.device_check.proofs.is_cut.Tie as tie
 
 returns : tie.Need-returns
-returns c = sym (cut-none (c .before .before .before .args .parent .now) (c .before .before .before .args .child .now) (c .if1 .taken))
+returns c =
+    let entry = c .before .before .before .args in
+    sym (cut-none (entry .parent .now) (entry .child .now) (c .if1 .taken))
 
 returns-2 : tie.Need-returns-2
-returns-2 c = sym (cut-short (c .before .before .before .before .args .parent .now) (c .before .before .before .before .args .child .now) (omega arith) (c .if2 .taken))
-
-shared-slice-read-if3 : tie.Need-shared-slice-read-if3
-shared-slice-read-if3 c = search needs
+returns-2 c =
+    let entry = c .before .before .before .before .args in
+    sym (cut-short (entry .parent .now) (entry .child .now) (omega arith) (c .if2 .taken))
 
 returns-3 : tie.Need-returns-3
-returns-3 c = sym (cut-other (c .before .before .before .before .before .before .args .parent .now) (c .before .before .before .before .before .before .args .child .now) (omega arith) (omega arith) (c .if3 .taken))
+returns-3 c =
+    let entry = c .before .before .before .before .before .before .args in
+    sym (cut-other (entry .parent .now) (entry .child .now) (omega arith) (omega arith) (c .if3 .taken))
 
 slice-aggregate-same : tie.Need-slice-aggregate-same
-slice-aggregate-same c = sym (length-take-le (length (c .before .before .before .before .before .before .before .args .parent .now)) (c .before .before .before .before .before .before .before .args .child .now) (omega arith))
-
-same-requires : tie.Need-same-requires
-same-requires c κs = search needs
+slice-aggregate-same c =
+    let entry = c .before .before .before .before .before .before .before .args in
+    sym (length-take-le (length (entry .parent .now)) (entry .child .now) (omega arith))
 
 returns-4 : tie.Need-returns-4
-returns-4 c = c .same .ensures ∙ sym (cut-same (c .before .before .before .before .before .before .before .before .args .parent .now) (c .before .before .before .before .before .before .before .before .args .child .now) (omega arith) (omega arith) (c .before .before .if3 .left))
+returns-4 c =
+    let entry = c .before .before .before .before .before .before .before .before .args in
+    let if3 = c .before .before .if3 in
+    c .same .ensures ∙ sym (cut-same (entry .parent .now) (entry .child .now) (omega arith) (omega arith) (if3 .left))
 
 pub is-cut-spec : {M : Type 1} → statement M
 is-cut-spec =
@@ -36,8 +41,8 @@ is-cut-spec =
     (tie.spec
     returns
     returns-2
-    shared-slice-read-if3
+    (λ c. search needs)
     returns-3
     slice-aggregate-same
-    same-requires
+    (λ c κs. search needs)
     returns-4)

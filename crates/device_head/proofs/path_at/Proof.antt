@@ -13,26 +13,10 @@ use Rattle.device_head.proofs.path_at.Tie as tie
 
 length-path : (w : tie.After-take) → w .take .result .value ≡ pathLen (w .before .before .args .rec .now) (w .before .before .args .at)
 length-path w =
-    let a = w .before .before .args in
-    lens-field (a .rec .now) (a .at) (8 * a .at) 0 9 (w .take .result .value) (omega arith) (omega arith) (omega arith) (w .take .ensures .value)
-
-mul-result : tie.Need-mul-result
-mul-result c = search needs
-
-take-requires : tie.Need-take-requires
-take-requires c κs = search needs
-
-add-start : tie.Need-add-start
-add-start c = search needs
-
-add-end : tie.Need-add-end
-add-end c = search needs
-
-sub-result : tie.Need-sub-result
-sub-result c = search needs
-
-part-result-start : tie.Need-part-result-start
-part-result-start c = search needs
+    let entry = w .before .before .args in
+    let a = entry in
+    lens-field (a .rec .now) (a .at) (8 * a .at) 0 9 (w .take .result .value) (omega arith) (omega arith) (omega arith)
+    (w .take .ensures .value)
 
 part-result-end : tie.Need-part-result-end
 part-result-end c = let w = c .before in omega (arith, length-path w)
@@ -49,11 +33,11 @@ pub path-at-spec : {M : Type 1} → statement M
 path-at-spec =
     tie.close
     (tie.spec
-    mul-result
-    take-requires
-    add-start
-    add-end
-    sub-result
-    part-result-start
+    (λ c. search needs)
+    (λ c κs. search needs)
+    (λ c. search needs)
+    (λ c. search needs)
+    (λ c. search needs)
+    (λ c. search needs)
     part-result-end
     returns)

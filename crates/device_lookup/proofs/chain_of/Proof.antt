@@ -40,7 +40,8 @@ loop-holds c = λ d e.
 -- one more device, and no more than 16
 few : (w : tie.In-loop Inv-loop μ-loop) → w .before .loop .i < 16
 few w =
-    let s = w .before .before .before .before .before .before in
+    let before = w .before .before .before .before .before .before in
+    let s = before in
     omega (arith, chain-few (s .args .rec .now) (s .pre .0) (s .pre .1), w .before .loop .inv (s .pre .0) (s .pre .1) .0)
 
 mul-at : tie.Need-mul-at Inv-loop μ-loop
@@ -51,33 +52,41 @@ array-write-at c = few c
 
 member-end-requires : tie.Need-member-end-requires Inv-loop μ-loop
 member-end-requires c κs =
+    let before = c .before .before .before .before .before in
     let l = c .before .loop in
-    let k = c .before .before .before .before .before in
+    let k = before in
     let s = k .before in
     let rec = s .args .rec .now in
     let d = s .pre .0 in
     let (n, _, w) = l .inv d (s .pre .1) in
     let h = here d (l .i) (omega (arith, n)) in
-    record { member = h .member; lies = walk-lies d rec (l .at) (l .p) (l .i) w h; short = record-short rec d (λ i. k .shared-slice-known .given i .fits) (s .pre .1) }
+    record
+    { member = h .member; lies = walk-lies d rec (l .at) (l .p) (l .i) w h; short = record-short rec d (λ i. k .shared-slice-known .given i .fits) (s .pre .1) }
 
 add-i : tie.Need-add-i Inv-loop μ-loop
 add-i c = omega (arith, few (c .before))
 
-loop-less : tie.Need-loop-less Inv-loop μ-loop
-loop-less c = omega arith
-
 loop-again : tie.Need-loop-again Inv-loop μ-loop
-loop-again c = λ d e.
-    let l = c .before .before .loop in
-    let rec = c .before .before .before .before .before .before .before .args .rec .now in
+loop-again c =
+    let entry = c .before .before .before .before .before .before .before .args in
+    let loop = c .before .before .loop in
+    λ d e.
+    let l = loop in
+    let rec = entry .rec .now in
     let (n, k, w) = l .inv d e in
-    let h = here d (l .i) (omega (arith, n)) in
-    (n, omega arith, walk-next d rec (l .at) (l .p) (l .i) w h (few (c .before)) (c .member-end .result) (c .member-end .ensures (h .member) (walk-lies d rec (l .at) (l .p) (l .i) w h)))
+    let h = here d (l .i) (omega (arith, n)) in (
+      n,
+      omega arith,
+      walk-next d rec (l .at) (l .p) (l .i) w h (few (c .before)) (c .member-end .result)
+          (c .member-end .ensures (h .member) (walk-lies d rec (l .at) (l .p) (l .i) w h)),
+    )
 
 returns : tie.Need-returns Inv-loop μ-loop
-returns c = λ d e.
+returns c =
+    let entry = c .before .before .before .before .before .before .args in
+    λ d e.
     let l = c .before .loop in
-    let rec = c .before .before .before .before .before .before .args .rec .now in
+    let rec = entry .rec .now in
     let (n, k, w) = l .inv d e in
     walk-end d rec (l .at) (l .p) _ (l .i) w n (omega (arith, k))
 
@@ -95,6 +104,6 @@ chain-of-spec =
     array-write-at
     member-end-requires
     add-i
-    loop-less
+    (λ c. omega arith)
     loop-again
     returns)

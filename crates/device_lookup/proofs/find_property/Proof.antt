@@ -6,9 +6,6 @@ use Rattle.device_lookup.proofs.Devices.{record-head, properties-stand,
 use Rattle.device_lookup.proofs.find_property.Statement.{statement}
 use Rattle.device_lookup.proofs.find_property.Tie as tie
 
-property-count-requires : tie.Need-property-count-requires
-property-count-requires c κs = search needs
-
 find-value-requires : tie.Need-find-value-requires
 find-value-requires c κs =
     let k = c .before .before in
@@ -31,4 +28,4 @@ returns c =
     ((λ d e. property-says l d b e (n .result) (n .ensures d e) (a .key .now) (f .result) (f .ensures .0)), f .ensures .1)
 
 pub find-property-spec : {M : Type 1} → statement M
-find-property-spec = tie.close (tie.spec property-count-requires find-value-requires returns)
+find-property-spec = tie.close (tie.spec (λ c κs. search needs) find-value-requires returns)

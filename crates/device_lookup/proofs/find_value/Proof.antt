@@ -8,20 +8,16 @@ use Rattle.device_lookup.specs.Lookup.{valueOf}
 use Rattle.device_lookup.proofs.find_value.Statement.{statement}
 use Rattle.device_lookup.proofs.find_value.Tie as tie
 
-find-requires : tie.Need-find-requires
-find-requires c κs = search needs
-
-enum-known-value : tie.Need-enum-known-value
-enum-known-value c = search needs
-
-enum-told : tie.Need-enum-told
-enum-told c = search needs
-
 returns : tie.Need-returns
-returns c = (ap valueOf (sym (c .before .value .given .1) ∙ c .before .before .before .find .ensures .0), subst (λ x. rows.Within x (length (c .before .before .before .before .before .before .args .rec .now))) (c .before .value .given .1) (c .before .before .before .find .ensures .1) .1)
+returns c =
+    let entry = c .before .before .before .before .before .before .args in
+    let find = c .before .before .before .find in (
+      ap valueOf (sym (c .before .value .given .1) ∙ find .ensures .0),
+      subst (λ x. rows.Within x (length (entry .rec .now))) (c .before .value .given .1) (find .ensures .1) .1,
+    )
 
 returns-2 : tie.Need-returns-2
 returns-2 c = (ap valueOf (sym (c .enum-told .given .1) ∙ c .before .before .find .ensures .0), tt)
 
 pub find-value-spec : {M : Type 1} → statement M
-find-value-spec = tie.close (tie.spec find-requires enum-known-value enum-told returns returns-2)
+find-value-spec = tie.close (tie.spec (λ c κs. search needs) (λ c. search needs) (λ c. search needs) returns returns-2)

@@ -6,9 +6,6 @@ use Rattle.device_lookup.proofs.Members.{attributes-stand, attributes-e
 use Rattle.device_lookup.proofs.member_end.Statement.{statement}
 use Rattle.device_lookup.proofs.member_end.Tie as tie
 
-parts-at-requires : tie.Need-parts-at-requires
-parts-at-requires c κs = search needs
-
 row-end-requires : tie.Need-row-end-requires
 row-end-requires c κs =
     let s = c .before .before in
@@ -22,4 +19,4 @@ returns c =
     λ m h. c .row-end .ensures .0 ∙ attributes-end (a .rec .now) (a .at) m h (p .result) (p .ensures .0 m h)
 
 pub member-end-spec : {M : Type 1} → statement M
-member-end-spec = tie.close (tie.spec parts-at-requires row-end-requires returns)
+member-end-spec = tie.close (tie.spec (λ c κs. search needs) row-end-requires returns)

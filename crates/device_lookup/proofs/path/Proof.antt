@@ -10,7 +10,9 @@ path-at-requires : tie.Need-path-at-requires
 path-at-requires c κs = (standing-path (c .before .args .rec .now) (c .before .args .at) (c .before .pre), c .before .pre .short)
 
 returns : tie.Need-returns
-returns c = λ m h. c .path-at .ensures ∙ lies-path (c .before .before .args .rec .now) (c .before .before .args .at) m h
+returns c =
+    let entry = c .before .before .args in
+    λ m h. c .path-at .ensures ∙ lies-path (entry .rec .now) (entry .at) m h
 
 pub path-spec : {M : Type 1} → statement M
 path-spec = tie.close (tie.spec path-at-requires returns)

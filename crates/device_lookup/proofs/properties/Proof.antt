@@ -6,18 +6,6 @@ use Rattle.device_lookup.proofs.Devices.{properties-part}
 use Rattle.device_lookup.proofs.properties.Statement.{statement}
 use Rattle.device_lookup.proofs.properties.Tie as tie
 
-properties-end-requires : tie.Need-properties-end-requires
-properties-end-requires c κs = search needs
-
-sub-result : tie.Need-sub-result
-sub-result c = search needs
-
-part-result-start : tie.Need-part-result-start
-part-result-start c = search needs
-
-part-result-end : tie.Need-part-result-end
-part-result-end c = search needs
-
 returns : tie.Need-returns
 returns c =
     let p = c .before .properties-end in
@@ -29,4 +17,4 @@ returns c =
 pub properties-spec : {M : Type 1} → statement M
 properties-spec =
     tie.close
-    (tie.spec properties-end-requires sub-result part-result-start part-result-end returns)
+    (tie.spec (λ c κs. search needs) (λ c. search needs) (λ c. search needs) (λ c. search needs) returns)

@@ -13,9 +13,6 @@ use Rattle.device_lookup.proofs.Devices.{record-head, properties-stand,
 use Rattle.device_lookup.proofs.properties_end.Statement.{statement}
 use Rattle.device_lookup.proofs.properties_end.Tie as tie
 
-property-count-requires : tie.Need-property-count-requires
-property-count-requires c κs = search needs
-
 row-end-requires : tie.Need-row-end-requires
 row-end-requires c κs =
     let k = c .before in
@@ -38,4 +35,4 @@ returns c =
     (is, omega (arith, is (s .pre .0) (s .pre .1)), c .row-end .ensures .1)
 
 pub properties-end-spec : {M : Type 1} → statement M
-properties-end-spec = tie.close (tie.spec property-count-requires row-end-requires returns)
+properties-end-spec = tie.close (tie.spec (λ c κs. search needs) row-end-requires returns)

@@ -7,17 +7,12 @@ use Rattle.device_lookup.proofs.Members.{said-part}
 use Rattle.device_lookup.proofs.property.Statement.{statement}
 use Rattle.device_lookup.proofs.property.Tie as tie
 
-find-property-requires : tie.Need-find-property-requires
-find-property-requires c κs = search needs
-
-part-of-requires : tie.Need-part-of-requires
-part-of-requires c κs = search needs
-
 returns : tie.Need-returns
 returns c =
+    let entry = c .before .before .before .before .args in
     let f = c .before .find-property in
-    let a = c .before .before .before .before .args in
+    let a = entry in
     λ d e. c .part-of .ensures ∙ said-part (a .rec .now) (f .result) (lookup (a .key .now) (d .properties)) (f .ensures .0 d e)
 
 pub property-spec : {M : Type 1} → statement M
-property-spec = tie.close (tie.spec find-property-requires part-of-requires returns)
+property-spec = tie.close (tie.spec (λ c κs. search needs) (λ c κs. search needs) returns)

@@ -10,7 +10,9 @@ take-requires : tie.Need-take-requires
 take-requires c κs = omega (arith, record-head (c .before .args .rec .now) (c .before .pre .0) (λ i. c .shared-slice-known .given i .fits) (c .before .pre .1))
 
 returns : tie.Need-returns
-returns c = λ d e. c .take .ensures .value ∙ count-is (c .before .before .args .rec .now) d (λ i. c .before .shared-slice-known .given i .fits) e
+returns c =
+    let entry = c .before .before .args in
+    λ d e. c .take .ensures .value ∙ count-is (entry .rec .now) d (λ i. c .before .shared-slice-known .given i .fits) e
 
 pub property-count-spec : {M : Type 1} → statement M
 property-count-spec = tie.close (tie.spec take-requires returns)

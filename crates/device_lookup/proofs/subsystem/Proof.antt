@@ -5,18 +5,6 @@ use Rattle.device_lookup.proofs.Members.{subsystem-part}
 use Rattle.device_lookup.proofs.subsystem.Statement.{statement}
 use Rattle.device_lookup.proofs.subsystem.Tie as tie
 
-parts-at-requires : tie.Need-parts-at-requires
-parts-at-requires c κs = search needs
-
-sub-result : tie.Need-sub-result
-sub-result c = search needs
-
-part-result-start : tie.Need-part-result-start
-part-result-start c = search needs
-
-part-result-end : tie.Need-part-result-end
-part-result-end c = search needs
-
 returns : tie.Need-returns
 returns c =
     let p = c .before .parts-at in
@@ -25,4 +13,4 @@ returns c =
 
 pub subsystem-spec : {M : Type 1} → statement M
 subsystem-spec =
-    tie.close (tie.spec parts-at-requires sub-result part-result-start part-result-end returns)
+    tie.close (tie.spec (λ c κs. search needs) (λ c. search needs) (λ c. search needs) (λ c. search needs) returns)

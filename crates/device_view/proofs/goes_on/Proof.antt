@@ -6,9 +6,6 @@ use Rattle.device_view.proofs.Chain.{place-lies, parent-test}
 use Rattle.device_view.proofs.goes_on.Statement.{statement}
 use Rattle.device_view.proofs.goes_on.Tie as tie
 
-member-end-requires : tie.Need-member-end-requires
-member-end-requires c κs = search needs
-
 returns : tie.Need-returns
 returns c = λ d e n m p.
     let a = c .before .before .args in
@@ -17,4 +14,4 @@ returns c = λ d e n m p.
     parent-test rec d b e n (a .at) (c .member-end .result) m p (c .member-end .ensures m (place-lies rec d b e n (a .at) m p))
 
 pub goes-on-spec : {M : Type 1} → statement M
-goes-on-spec = tie.close (tie.spec member-end-requires returns)
+goes-on-spec = tie.close (tie.spec (λ c κs. search needs) returns)

@@ -6,9 +6,6 @@ use Rattle.device_view.proofs.Chain.{place-lies, parent-stands}
 use Rattle.device_view.proofs.next_start.Statement.{statement}
 use Rattle.device_view.proofs.next_start.Tie as tie
 
-member-end-requires : tie.Need-member-end-requires
-member-end-requires c κs = search needs
-
 returns : tie.Need-returns
 returns c =
     let a = c .before .before .args in
@@ -18,4 +15,4 @@ returns c =
     (f .ensures, λ d e n m x p g. parent-stands rec d b e n (a .at) (f .result) m x p (f .ensures m (place-lies rec d b e n (a .at) m p)) g)
 
 pub next-start-spec : {M : Type 1} → statement M
-next-start-spec = tie.close (tie.spec member-end-requires returns)
+next-start-spec = tie.close (tie.spec (λ c κs. search needs) returns)

@@ -7,9 +7,6 @@ use Rattle.lists.proofs.Rest.{getD-any}
 use Rattle.glob.proofs.byte_or_bar.Statement.{statement}
 use Rattle.glob.proofs.byte_or_bar.Tie as tie
 
-shared-slice-read-result : tie.Need-shared-slice-read-result
-shared-slice-read-result c = search needs
-
 returns : tie.Need-returns
 returns c =
     let args = c .before .before .args in
@@ -19,4 +16,4 @@ returns-2 : tie.Need-returns-2
 returns-2 c = sym (List·getD-eq-default (c .before .args .pattern .now) 124 (c .if1 .left))
 
 pub byte-or-bar-spec : {M : Type 1} → statement M
-byte-or-bar-spec = tie.close (tie.spec shared-slice-read-result returns returns-2)
+byte-or-bar-spec = tie.close (tie.spec (λ c. search needs) returns returns-2)

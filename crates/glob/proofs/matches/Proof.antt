@@ -25,30 +25,43 @@ alternative-matches-requires c κs = c .loop .inv .0
 
 returns : tie.Need-returns Inv-loop μ-loop
 returns c =
-    let args = c .before .before .before .before .before .args in
-    let loop = c .before .before .loop in
-    sym (any-here (args .pattern .now) (loop .at) (args .value .now) (sym (c .before .alternative-matches .ensures) ∙ c .if1 .taken)) ∙ loop .inv .1
-
-byte-end-requires : tie.Need-byte-end-requires Inv-loop μ-loop
-byte-end-requires c κs = search needs
+    let entry = c .before .before .before .before .before .args in
+    let loop-call = c .before .before .loop in
+    let args = entry in
+    let loop = loop-call in
+    sym (any-here (args .pattern .now) (loop .at) (args .value .now) (sym (c .before .alternative-matches .ensures) ∙ c .if1 .taken)) ∙
+    loop .inv .1
 
 returns-2 : tie.Need-returns-2 Inv-loop μ-loop
 returns-2 c =
-    let args = c .before .before .before .before .before .before .before .args in
-    let loop = c .before .before .before .before .loop in
-    sym (any-none (args .pattern .now) (loop .at) (args .value .now) (c .before .byte-end .result) (c .before .byte-end .ensures) (sym (c .before .before .before .alternative-matches .ensures) ∙ c .before .before .if1 .left) (c .if2 .taken)) ∙ loop .inv .1
-
-add-at : tie.Need-add-at Inv-loop μ-loop
-add-at c = omega arith
+    let entry = c .before .before .before .before .before .before .before .args in
+    let loop-call = c .before .before .before .before .loop in
+    let alternative-matches = c .before .before .before .alternative-matches in
+    let if1 = c .before .before .if1 in
+    let args = entry in
+    let loop = loop-call in
+    sym
+    (any-none (args .pattern .now) (loop .at) (args .value .now) (c .before .byte-end .result) (c .before .byte-end .ensures)
+    (sym (alternative-matches .ensures) ∙ if1 .left) (c .if2 .taken))
+    ∙ loop .inv .1
 
 loop-less : tie.Need-loop-less Inv-loop μ-loop
 loop-less c = omega (arith, c .before .byte-end .ensures .from)
 
 loop-again : tie.Need-loop-again Inv-loop μ-loop
 loop-again c =
-    let args = c .before .before .before .before .before .before .before .args in
-    let loop = c .before .before .before .before .loop in
-    (omega arith, sym (any-behind (args .pattern .now) (loop .at) (args .value .now) (c .before .byte-end .result) (c .before .byte-end .ensures) (sym (c .before .before .before .alternative-matches .ensures) ∙ c .before .before .if1 .left) (c .if2 .left)) ∙ loop .inv .1)
+    let entry = c .before .before .before .before .before .before .before .args in
+    let loop-call = c .before .before .before .before .loop in
+    let alternative-matches = c .before .before .before .alternative-matches in
+    let if1 = c .before .before .if1 in
+    let args = entry in
+    let loop = loop-call in (
+      omega arith,
+      sym
+          (any-behind (args .pattern .now) (loop .at) (args .value .now) (c .before .byte-end .result) (c .before .byte-end .ensures)
+          (sym (alternative-matches .ensures) ∙ if1 .left) (c .if2 .left))
+          ∙ loop .inv .1,
+    )
 
 pub matches-spec : {M : Type 1} → statement M
 matches-spec =
@@ -59,8 +72,8 @@ matches-spec =
     loop-holds
     alternative-matches-requires
     returns
-    byte-end-requires
+    (λ c κs. search needs)
     returns-2
-    add-at
+    (λ c. omega arith)
     loop-less
     loop-again)

@@ -25,82 +25,98 @@ loop-holds c =
 step-at-requires : tie.Need-step-at-requires Inv-loop μ-loop
 step-at-requires c κs = c .loop .inv .0
 
-enum-told : tie.Need-enum-told Inv-loop μ-loop
-enum-told c = search needs
-
 returns : tie.Need-returns Inv-loop μ-loop
 returns c =
-    let args = c .before .before .before .before .before .before .args in
-    let loop = c .before .before .before .loop in
-    let w : StepIs Done (args .pattern .now) (loop .p) (args .value .now) (loop .t) = rw (c .enum-told .given .1) at (c .before .before .step-at .ensures) in
+    let entry = c .before .before .before .before .before .before .args in
+    let loop-call = c .before .before .before .loop in
+    let step-at = c .before .before .step-at in
+    let args = entry in
+    let loop = loop-call in
+    let w : StepIs Done (args .pattern .now) (loop .p) (args .value .now) (loop .t) = rw (c .enum-told .given .1) at (step-at .ensures) in
     sym w ∙ loop .inv .2
-
-enum-told-2 : tie.Need-enum-told-2 Inv-loop μ-loop
-enum-told-2 c = search needs
 
 add-after-star : tie.Need-add-after-star Inv-loop μ-loop
 add-after-star c =
-    let args = c .before .before .before .before .before .before .args in
-    let loop = c .before .before .before .loop in
-    let w : StepIs Star (args .pattern .now) (loop .p) (args .value .now) (loop .t) = rw (c .enum-told2 .given .1) at (c .before .before .step-at .ensures) in
+    let entry = c .before .before .before .before .before .before .args in
+    let loop-call = c .before .before .before .loop in
+    let step-at = c .before .before .step-at in
+    let args = entry in
+    let loop = loop-call in
+    let w : StepIs Star (args .pattern .now) (loop .p) (args .value .now) (loop .t) = rw (c .enum-told2 .given .1) at (step-at .ensures) in
     omega (arith, w .0)
 
 after-star-requires : tie.Need-after-star-requires Inv-loop μ-loop
 after-star-requires c κs =
-    let args = c .before .before .before .before .before .before .args in
-    let loop = c .before .before .before .loop in
-    let w : StepIs Star (args .pattern .now) (loop .p) (args .value .now) (loop .t) = rw (c .enum-told2 .given .1) at (c .before .before .step-at .ensures) in
+    let entry = c .before .before .before .before .before .before .args in
+    let loop-call = c .before .before .before .loop in
+    let step-at = c .before .before .step-at in
+    let args = entry in
+    let loop = loop-call in
+    let w : StepIs Star (args .pattern .now) (loop .p) (args .value .now) (loop .t) = rw (c .enum-told2 .given .1) at (step-at .ensures) in
     (omega (arith, w .0), loop .inv .1)
 
 returns-2 : tie.Need-returns-2 Inv-loop μ-loop
 returns-2 c =
-    let args = c .before .before .before .before .before .before .before .args in
-    let loop = c .before .before .before .before .loop in
-    let w : StepIs Star (args .pattern .now) (loop .p) (args .value .now) (loop .t) = rw (c .before .enum-told2 .given .1) at (c .before .before .before .step-at .ensures) in
+    let entry = c .before .before .before .before .before .before .before .args in
+    let loop-call = c .before .before .before .before .loop in
+    let step-at = c .before .before .before .step-at in
+    let args = entry in
+    let loop = loop-call in
+    let w : StepIs Star (args .pattern .now) (loop .p) (args .value .now) (loop .t) =
+    rw (c .before .enum-told2 .given .1) at (step-at .ensures) in
     c .after-star .ensures ∙ sym (w .1 (drop (loop .t) (args .value .now))) ∙ loop .inv .2
-
-enum-known-next : tie.Need-enum-known-next Inv-loop μ-loop
-enum-known-next c = search needs
 
 add-t : tie.Need-add-t Inv-loop μ-loop
 add-t c =
-    let args = c .before .before .before .before .before .before .before .args in
-    let loop = c .before .before .before .before .loop in
-    let w : Eaten (args .pattern .now) (loop .p) (args .value .now) (loop .t) (c .before .next .given .0 .0) = rw (c .before .next .given .1) at (c .before .before .before .step-at .ensures) in
+    let entry = c .before .before .before .before .before .before .before .args in
+    let loop-call = c .before .before .before .before .loop in
+    let step-at = c .before .before .before .step-at in
+    let args = entry in
+    let loop = loop-call in
+    let w : Eaten (args .pattern .now) (loop .p) (args .value .now) (loop .t) (c .before .next .given .0 .0) =
+    rw (c .before .next .given .1) at (step-at .ensures) in
     omega (arith, w .byte)
 
 loop-less : tie.Need-loop-less Inv-loop μ-loop
 loop-less c =
-    let args = c .before .before .before .before .before .before .before .args in
-    let loop = c .before .before .before .before .loop in
-    let w : Eaten (args .pattern .now) (loop .p) (args .value .now) (loop .t) (c .before .next .given .0 .0) = rw (c .before .next .given .1) at (c .before .before .before .step-at .ensures) in
+    let entry = c .before .before .before .before .before .before .before .args in
+    let loop-call = c .before .before .before .before .loop in
+    let step-at = c .before .before .before .step-at in
+    let args = entry in
+    let loop = loop-call in
+    let w : Eaten (args .pattern .now) (loop .p) (args .value .now) (loop .t) (c .before .next .given .0 .0) =
+    rw (c .before .next .given .1) at (step-at .ensures) in
     omega (arith, w .forward, w .inside)
 
 loop-again : tie.Need-loop-again Inv-loop μ-loop
 loop-again c =
-    let args = c .before .before .before .before .before .before .before .args in
-    let loop = c .before .before .before .before .loop in
-    let w : Eaten (args .pattern .now) (loop .p) (args .value .now) (loop .t) (c .before .next .given .0 .0) = rw (c .before .next .given .1) at (c .before .before .before .step-at .ensures) in
+    let entry = c .before .before .before .before .before .before .before .args in
+    let loop-call = c .before .before .before .before .loop in
+    let step-at = c .before .before .before .step-at in
+    let args = entry in
+    let loop = loop-call in
+    let w : Eaten (args .pattern .now) (loop .p) (args .value .now) (loop .t) (c .before .next .given .0 .0) =
+    rw (c .before .next .given .1) at (step-at .ensures) in
     (w .inside, omega (arith, w .byte), sym (w .here) ∙ loop .inv .2)
-
-enum-told-3 : tie.Need-enum-told-3 Inv-loop μ-loop
-enum-told-3 c = search needs
 
 returns-3 : tie.Need-returns-3 Inv-loop μ-loop
 returns-3 c =
-    let args = c .before .before .before .before .before .before .args in
-    let loop = c .before .before .before .loop in
-    let w : StepIs Miss (args .pattern .now) (loop .p) (args .value .now) (loop .t) = rw (c .enum-told3 .given .1) at (c .before .before .step-at .ensures) in
+    let entry = c .before .before .before .before .before .before .args in
+    let loop-call = c .before .before .before .loop in
+    let step-at = c .before .before .step-at in
+    let args = entry in
+    let loop = loop-call in
+    let w : StepIs Miss (args .pattern .now) (loop .p) (args .value .now) (loop .t) = rw (c .enum-told3 .given .1) at (step-at .ensures) in
     sym (w .1) ∙ loop .inv .2
-
-enum-told-4 : tie.Need-enum-told-4 Inv-loop μ-loop
-enum-told-4 c = search needs
 
 returns-4 : tie.Need-returns-4 Inv-loop μ-loop
 returns-4 c =
-    let args = c .before .before .before .before .before .before .args in
-    let loop = c .before .before .before .loop in
-    let w : StepIs Stop (args .pattern .now) (loop .p) (args .value .now) (loop .t) = rw (c .enum-told4 .given .1) at (c .before .before .step-at .ensures) in
+    let entry = c .before .before .before .before .before .before .args in
+    let loop-call = c .before .before .before .loop in
+    let step-at = c .before .before .step-at in
+    let args = entry in
+    let loop = loop-call in
+    let w : StepIs Stop (args .pattern .now) (loop .p) (args .value .now) (loop .t) = rw (c .enum-told4 .given .1) at (step-at .ensures) in
     sym (w (drop (loop .t) (args .value .now)) (omega (arith, length-drop (loop .t) (args .value .now)))) ∙ loop .inv .2
 
 pub matches-from-spec : {M : Type 1} → statement M
@@ -111,17 +127,17 @@ matches-from-spec =
     μ-loop
     loop-holds
     step-at-requires
-    enum-told
+    (λ c. search needs)
     returns
-    enum-told-2
+    (λ c. search needs)
     add-after-star
     after-star-requires
     returns-2
-    enum-known-next
+    (λ c. search needs)
     add-t
     loop-less
     loop-again
-    enum-told-3
+    (λ c. search needs)
     returns-3
-    enum-told-4
+    (λ c. search needs)
     returns-4)

@@ -9,27 +9,26 @@ use Rattle.glob.proofs.Search.{start-at, start-here}
 use Rattle.glob.proofs.next_start.Statement.{statement}
 use Rattle.glob.proofs.next_start.Tie as tie
 
-byte-or-bar-requires : tie.Need-byte-or-bar-requires
-byte-or-bar-requires c κs = search needs
-
-is-plain-requires : tie.Need-is-plain-requires
-is-plain-requires c κs = search needs
-
-byte-end-requires : tie.Need-byte-end-requires
-byte-end-requires c κs = search needs
-
 returns : tie.Need-returns
 returns c =
-    let args = c .before .before .before .before .before .before .args in
-    let byte-or-bar = c .before .before .before .byte-or-bar in
-    let k : isSpecial (byte-or-bar .result) ≡ false = not-true (isSpecial (byte-or-bar .result)) (sym (c .before .before .is-plain .ensures) ∙ c .before .if1 .taken) in
-    start-at (args .pattern .now) (args .star) (args .value .now) (args .from) (c .byte-end .result) (c .before .before .before .before .before .before .pre) (rw (byte-or-bar .ensures) at (c .byte-end .ensures)) (rw (byte-or-bar .ensures) at k)
+    let entry = c .before .before .before .before .before .before .args in
+    let pre = c .before .before .before .before .before .before .pre in
+    let byte-or-bar-call = c .before .before .before .byte-or-bar in
+    let is-plain = c .before .before .is-plain in
+    let args = entry in
+    let byte-or-bar = byte-or-bar-call in
+    let k : isSpecial (byte-or-bar .result) ≡ false =
+    not-true (isSpecial (byte-or-bar .result)) (sym (is-plain .ensures) ∙ c .before .if1 .taken) in
+    start-at (args .pattern .now) (args .star) (args .value .now) (args .from) (c .byte-end .result) pre
+    (rw (byte-or-bar .ensures) at (c .byte-end .ensures)) (rw (byte-or-bar .ensures) at k)
 
 returns-2 : tie.Need-returns-2
 returns-2 c =
-    let args = c .before .before .before .before .before .args in
-    start-here (args .pattern .now) (args .star) (args .value .now) (args .from) (c .before .before .before .before .before .pre)
+    let entry = c .before .before .before .before .before .args in
+    let pre = c .before .before .before .before .before .pre in
+    let args = entry in
+    start-here (args .pattern .now) (args .star) (args .value .now) (args .from) pre
 
 pub next-start-spec : {M : Type 1} → statement M
 next-start-spec =
-    tie.close (tie.spec byte-or-bar-requires is-plain-requires byte-end-requires returns returns-2)
+    tie.close (tie.spec (λ c κs. search needs) (λ c κs. search needs) (λ c κs. search needs) returns returns-2)

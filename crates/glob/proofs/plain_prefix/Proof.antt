@@ -17,50 +17,48 @@ Inv-loop pattern at value most k₀ k = (k ≤ most) × (at + most ≤ length pa
 abbrev μ-loop : tie.MeasureT-loop
 μ-loop pattern at value most k₀ k = most - k
 
-sub-least : tie.Need-sub-least Inv-loop μ-loop
-sub-least c = omega arith
-
-least-requires : tie.Need-least-requires Inv-loop μ-loop
-least-requires c κs = search needs
-
 loop-holds : tie.Need-loop-holds Inv-loop μ-loop
 loop-holds c =
-    let args = c .before .before .before .args in
-    let pre = c .before .before .before .pre in
-    (omega arith, omega (arith, c .least .ensures .0, pre), c .least .ensures .1, common-none (args .pattern .now) (args .at) (args .value .now) (pre))
-
-add-b : tie.Need-add-b Inv-loop μ-loop
-add-b c = omega arith
-
-shared-slice-read-b : tie.Need-shared-slice-read-b Inv-loop μ-loop
-shared-slice-read-b c = omega arith
-
-is-plain-requires : tie.Need-is-plain-requires Inv-loop μ-loop
-is-plain-requires c κs = search needs
+    let entry = c .before .before .before .args in
+    let pre-call = c .before .before .before .pre in
+    let args = entry in
+    let pre = pre-call in (
+      omega arith,
+      omega (arith, c .least .ensures .0, pre),
+      c .least .ensures .1,
+      common-none (args .pattern .now) (args .at) (args .value .now) (pre),
+    )
 
 returns : tie.Need-returns Inv-loop μ-loop
-returns c = c .before .before .before .before .loop .inv .3
-
-shared-slice-read-if2 : tie.Need-shared-slice-read-if2 Inv-loop μ-loop
-shared-slice-read-if2 c = omega arith
+returns c =
+    let loop = c .before .before .before .before .loop in
+    loop .inv .3
 
 returns-2 : tie.Need-returns-2 Inv-loop μ-loop
 returns-2 c =
-    let args = c .before .before .before .before .before .before .before .before .before .before .args in
-    let loop = c .before .before .before .before .before .before .loop in
-    common-differs (args .pattern .now) (args .at) (args .value .now) (loop .k) (loop .inv .3) (omega arith) (omega arith) (not-true _ (sym (c .before .before .before .is-plain .ensures) ∙ not-false _ (c .before .before .if1 .left))) (c .if2 .taken)
-
-add-k : tie.Need-add-k Inv-loop μ-loop
-add-k c = omega arith
-
-loop-less : tie.Need-loop-less Inv-loop μ-loop
-loop-less c = omega arith
+    let entry = c .before .before .before .before .before .before .before .before .before .before .args in
+    let loop-call = c .before .before .before .before .before .before .loop in
+    let is-plain = c .before .before .before .is-plain in
+    let if1 = c .before .before .if1 in
+    let args = entry in
+    let loop = loop-call in
+    common-differs (args .pattern .now) (args .at) (args .value .now) (loop .k) (loop .inv .3) (omega arith) (omega arith)
+    (not-true _ (sym (is-plain .ensures) ∙ not-false _ (if1 .left))) (c .if2 .taken)
 
 loop-again : tie.Need-loop-again Inv-loop μ-loop
 loop-again c =
-    let args = c .before .before .before .before .before .before .before .before .before .before .args in
-    let loop = c .before .before .before .before .before .before .loop in
-    (omega arith, loop .inv .1, loop .inv .2, common-more (args .pattern .now) (args .at) (args .value .now) (loop .k) (loop .inv .3) (omega arith) (omega arith) (not-true _ (sym (c .before .before .before .is-plain .ensures) ∙ not-false _ (c .before .before .if1 .left))) (c .if2 .left))
+    let entry = c .before .before .before .before .before .before .before .before .before .before .args in
+    let loop-call = c .before .before .before .before .before .before .loop in
+    let is-plain = c .before .before .before .is-plain in
+    let if1 = c .before .before .if1 in
+    let args = entry in
+    let loop = loop-call in (
+      omega arith,
+      loop .inv .1,
+      loop .inv .2,
+      common-more (args .pattern .now) (args .at) (args .value .now) (loop .k) (loop .inv .3) (omega arith) (omega arith)
+          (not-true _ (sym (is-plain .ensures) ∙ not-false _ (if1 .left))) (c .if2 .left),
+    )
 
 returns-3 : tie.Need-returns-3 Inv-loop μ-loop
 returns-3 c = c .before .loop .inv .3
@@ -71,16 +69,16 @@ plain-prefix-spec =
     (tie.spec
     Inv-loop
     μ-loop
-    sub-least
-    least-requires
+    (λ c. omega arith)
+    (λ c κs. search needs)
     loop-holds
-    add-b
-    shared-slice-read-b
-    is-plain-requires
+    (λ c. omega arith)
+    (λ c. omega arith)
+    (λ c κs. search needs)
     returns
-    shared-slice-read-if2
+    (λ c. omega arith)
     returns-2
-    add-k
-    loop-less
+    (λ c. omega arith)
+    (λ c. omega arith)
     loop-again
     returns-3)

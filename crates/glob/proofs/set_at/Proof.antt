@@ -7,18 +7,6 @@ use Rattle.glob.proofs.Members.{set-opposite-short, set-opposite, set-s
 use Rattle.glob.proofs.set_at.Statement.{statement}
 use Rattle.glob.proofs.set_at.Tie as tie
 
-byte-or-bar-requires : tie.Need-byte-or-bar-requires
-byte-or-bar-requires c κs = search needs
-
-add-byte-or-bar : tie.Need-add-byte-or-bar
-add-byte-or-bar c = omega arith
-
-byte-or-bar-requires-2 : tie.Need-byte-or-bar-requires-2
-byte-or-bar-requires-2 c κs = search needs
-
-add-set-from : tie.Need-add-set-from
-add-set-from c = omega arith
-
 set-from-requires : tie.Need-set-from-requires
 set-from-requires c κs = λ e. c .if1 .left (c .before .byte-or-bar2 .ensures ∙ e)
 
@@ -27,13 +15,24 @@ set-from-requires-2 c κs = λ e. c .match .rest .1 (c .before .byte-or-bar .ens
 
 returns : tie.Need-returns
 returns c =
-    let args = c .before .before .before .before .before .args in
-    sym (set-opposite-short (args .pattern .now) (args .p) (args .x) (sym (c .before .before .before .byte-or-bar .ensures) ∙ c .before .before .match .keys1) (sym (c .before .byte-or-bar2 .ensures) ∙ c .if1 .taken))
+    let entry = c .before .before .before .before .before .args in
+    let byte-or-bar = c .before .before .before .byte-or-bar in
+    let match = c .before .before .match in
+    let args = entry in
+    sym
+    (set-opposite-short (args .pattern .now) (args .p) (args .x) (sym (byte-or-bar .ensures) ∙ match .keys1)
+    (sym (c .before .byte-or-bar2 .ensures) ∙ c .if1 .taken))
 
 returns-2 : tie.Need-returns-2
 returns-2 c =
-    let args = c .before .before .before .before .before .before .args in
-    c .set-from .ensures ∙ sym (set-opposite (args .pattern .now) (args .p) (args .x) (sym (c .before .before .before .before .byte-or-bar .ensures) ∙ c .before .before .before .match .keys1) (λ e. c .before .if1 .left (c .before .before .byte-or-bar2 .ensures ∙ e)))
+    let entry = c .before .before .before .before .before .before .args in
+    let byte-or-bar = c .before .before .before .before .byte-or-bar in
+    let match = c .before .before .before .match in
+    let byte-or-bar2 = c .before .before .byte-or-bar2 in
+    let args = entry in
+    c .set-from .ensures ∙ sym
+    (set-opposite (args .pattern .now) (args .p) (args .x) (sym (byte-or-bar .ensures) ∙ match .keys1)
+    (λ e. c .before .if1 .left (byte-or-bar2 .ensures ∙ e)))
 
 returns-3 : tie.Need-returns-3
 returns-3 c =
@@ -42,18 +41,22 @@ returns-3 c =
 
 returns-4 : tie.Need-returns-4
 returns-4 c =
-    let args = c .before .before .before .before .args in
-    let byte-or-bar = c .before .before .byte-or-bar in
-    c .set-from2 .ensures ∙ sym (set-plain (args .pattern .now) (args .p) (args .x) (λ e. c .before .match .rest .1 (byte-or-bar .ensures ∙ e)) (λ e. c .before .match .rest .0 .1 (byte-or-bar .ensures ∙ e)))
+    let entry = c .before .before .before .before .args in
+    let byte-or-bar-call = c .before .before .byte-or-bar in
+    let args = entry in
+    let byte-or-bar = byte-or-bar-call in
+    c .set-from2 .ensures ∙ sym
+    (set-plain (args .pattern .now) (args .p) (args .x) (λ e. c .before .match .rest .1 (byte-or-bar .ensures ∙ e))
+    (λ e. c .before .match .rest .0 .1 (byte-or-bar .ensures ∙ e)))
 
 pub set-at-spec : {M : Type 1} → statement M
 set-at-spec =
     tie.close
     (tie.spec
-    byte-or-bar-requires
-    add-byte-or-bar
-    byte-or-bar-requires-2
-    add-set-from
+    (λ c κs. search needs)
+    (λ c. omega arith)
+    (λ c κs. search needs)
+    (λ c. omega arith)
     set-from-requires
     set-from-requires-2
     returns

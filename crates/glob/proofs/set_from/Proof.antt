@@ -25,67 +25,88 @@ loop-holds c = (c .before .pre, refl)
 member-at-requires : tie.Need-member-at-requires Inv-loop μ-loop
 member-at-requires c κs = c .loop .inv .0
 
-enum-known-low : tie.Need-enum-known-low Inv-loop μ-loop
-enum-known-low c = search needs
-
-found-in-requires : tie.Need-found-in-requires Inv-loop μ-loop
-found-in-requires c κs = search needs
-
-byte-or-bar-requires : tie.Need-byte-or-bar-requires Inv-loop μ-loop
-byte-or-bar-requires c κs = search needs
-
 add-answer : tie.Need-add-answer Inv-loop μ-loop
 add-answer c =
-    let low = c .before .before .before .before .low in
+    let entry = c .before .before .before .before .before .before .before .before .before .args in
+    let loop = c .before .before .before .before .before .before .before .loop in
+    let member-at = c .before .before .before .before .before .before .member-at in
+    let low-call = c .before .before .before .before .low in
+    let low = low-call in
     let l = low .given .0 in
-    let r : ReadOn (c .before .before .before .before .before .before .before .before .before .args .pattern .now) (c .before .before .before .before .before .before .before .loop .i) (l .0) (l .1 .0) (l .1 .1 .0) = rw (low .given .1) at (c .before .before .before .before .before .before .member-at .ensures) in
+    let r : ReadOn (entry .pattern .now) (loop .i) (l .0) (l .1 .0) (l .1 .1 .0) = rw (low .given .1) at (member-at .ensures) in
     omega (arith, r .inside)
-
-answer-requires : tie.Need-answer-requires Inv-loop μ-loop
-answer-requires c κs = search needs
 
 returns : tie.Need-returns Inv-loop μ-loop
 returns c =
-    let args = c .before .before .before .before .before .before .before .before .before .before .args in
-    let loop = c .before .before .before .before .before .before .before .before .loop in
-    let low = c .before .before .before .before .before .low in
+    let entry = c .before .before .before .before .before .before .before .before .before .before .args in
+    let loop-call = c .before .before .before .before .before .before .before .before .loop in
+    let member-at = c .before .before .before .before .before .before .before .member-at in
+    let low-call = c .before .before .before .before .before .low in
+    let found-in = c .before .before .before .found-in in
+    let byte-or-bar = c .before .before .byte-or-bar in
+    let args = entry in
+    let loop = loop-call in
+    let low = low-call in
     let l = low .given .0 in
-    let r : ReadOn (args .pattern .now) (loop .i) (l .0) (l .1 .0) (l .1 .1 .0) = rw (low .given .1) at (c .before .before .before .before .before .before .before .member-at .ensures) in
-    c .answer .ensures ∙ ap (λ (t : Bool). answered (args .opposite) t (l .1 .1 .0 + 1)) (c .before .before .before .found-in .ensures) ∙ sym (read-closes (args .pattern .now) (loop .i) (l .0) (l .1 .0) (l .1 .1 .0) r (args .opposite) (loop .found) (args .x) (sym (c .before .before .byte-or-bar .ensures) ∙ c .before .match2 .keys1)) ∙ loop .inv .1
+    let r : ReadOn (args .pattern .now) (loop .i) (l .0) (l .1 .0) (l .1 .1 .0) = rw (low .given .1) at (member-at .ensures) in
+    c .answer .ensures ∙ ap (λ (t : Bool). answered (args .opposite) t (l .1 .1 .0 + 1)) (found-in .ensures) ∙ sym
+    (read-closes (args .pattern .now) (loop .i) (l .0) (l .1 .0) (l .1 .1 .0) r (args .opposite) (loop .found) (args .x)
+    (sym (byte-or-bar .ensures) ∙ c .before .match2 .keys1))
+    ∙ loop .inv .1
 
 returns-2 : tie.Need-returns-2 Inv-loop μ-loop
 returns-2 c =
-    let args = c .before .before .before .before .before .before .before .before .before .args in
-    let loop = c .before .before .before .before .before .before .before .loop in
-    let low = c .before .before .before .before .low in
+    let entry = c .before .before .before .before .before .before .before .before .before .args in
+    let loop-call = c .before .before .before .before .before .before .before .loop in
+    let member-at = c .before .before .before .before .before .before .member-at in
+    let low-call = c .before .before .before .before .low in
+    let args = entry in
+    let loop = loop-call in
+    let low = low-call in
     let l = low .given .0 in
-    let r : ReadOn (args .pattern .now) (loop .i) (l .0) (l .1 .0) (l .1 .1 .0) = rw (low .given .1) at (c .before .before .before .before .before .before .member-at .ensures) in
-    sym (read-ends (args .pattern .now) (loop .i) (l .0) (l .1 .0) (l .1 .1 .0) r (args .opposite) (loop .found) (args .x) (sym (c .before .byte-or-bar .ensures) ∙ c .match2 .keys2)) ∙ loop .inv .1
+    let r : ReadOn (args .pattern .now) (loop .i) (l .0) (l .1 .0) (l .1 .1 .0) = rw (low .given .1) at (member-at .ensures) in
+    sym
+    (read-ends (args .pattern .now) (loop .i) (l .0) (l .1 .0) (l .1 .1 .0) r (args .opposite) (loop .found) (args .x)
+    (sym (c .before .byte-or-bar .ensures) ∙ c .match2 .keys2))
+    ∙ loop .inv .1
 
 loop-less : tie.Need-loop-less Inv-loop μ-loop
 loop-less c =
-    let low = c .before .before .before .before .low in
+    let entry = c .before .before .before .before .before .before .before .before .before .args in
+    let loop = c .before .before .before .before .before .before .before .loop in
+    let member-at = c .before .before .before .before .before .before .member-at in
+    let low-call = c .before .before .before .before .low in
+    let low = low-call in
     let l = low .given .0 in
-    let r : ReadOn (c .before .before .before .before .before .before .before .before .before .args .pattern .now) (c .before .before .before .before .before .before .before .loop .i) (l .0) (l .1 .0) (l .1 .1 .0) = rw (low .given .1) at (c .before .before .before .before .before .before .member-at .ensures) in
+    let r : ReadOn (entry .pattern .now) (loop .i) (l .0) (l .1 .0) (l .1 .1 .0) = rw (low .given .1) at (member-at .ensures) in
     omega (arith, r .forward, r .inside)
 
 loop-again : tie.Need-loop-again Inv-loop μ-loop
 loop-again c =
-    let args = c .before .before .before .before .before .before .before .before .before .args in
-    let loop = c .before .before .before .before .before .before .before .loop in
-    let low = c .before .before .before .before .low in
+    let entry = c .before .before .before .before .before .before .before .before .before .args in
+    let loop-call = c .before .before .before .before .before .before .before .loop in
+    let member-at = c .before .before .before .before .before .before .member-at in
+    let low-call = c .before .before .before .before .low in
+    let found-in = c .before .before .found-in in
+    let args = entry in
+    let loop = loop-call in
+    let low = low-call in
     let byte-or-bar = c .before .byte-or-bar in
     let l = low .given .0 in
-    let r : ReadOn (args .pattern .now) (loop .i) (l .0) (l .1 .0) (l .1 .1 .0) = rw (low .given .1) at (c .before .before .before .before .before .before .member-at .ensures) in
-    let n : NotBar (args .pattern .now) (l .1 .1 .0) = λ e. c .match2 .rest .1 (byte-or-bar .ensures ∙ e) in
-    (n, rw (c .before .before .found-in .ensures) (sym (read-on (args .pattern .now) (loop .i) (l .0) (l .1 .0) (l .1 .1 .0) r (args .opposite) (loop .found) (args .x) n (λ e. c .match2 .rest .0 .1 (byte-or-bar .ensures ∙ e))) ∙ loop .inv .1))
-
-enum-told : tie.Need-enum-told Inv-loop μ-loop
-enum-told c = search needs
+    let r : ReadOn (args .pattern .now) (loop .i) (l .0) (l .1 .0) (l .1 .1 .0) = rw (low .given .1) at (member-at .ensures) in
+    let n : NotBar (args .pattern .now) (l .1 .1 .0) = λ e. c .match2 .rest .1 (byte-or-bar .ensures ∙ e) in (
+      n,
+      rw (found-in .ensures)
+          (sym
+          (read-on (args .pattern .now) (loop .i) (l .0) (l .1 .0) (l .1 .1 .0) r (args .opposite) (loop .found) (args .x) n
+          (λ e. c .match2 .rest .0 .1 (byte-or-bar .ensures ∙ e)))
+          ∙ loop .inv .1),
+    )
 
 returns-3 : tie.Need-returns-3 Inv-loop μ-loop
 returns-3 c =
-    let args = c .before .before .before .before .before .args in
+    let entry = c .before .before .before .before .before .args in
+    let args = entry in
     let loop = c .before .before .before .loop in
     let w : MemberIs Falling (args .pattern .now) (loop .i) = rw (c .enum-told .given .1) at (c .before .before .member-at .ensures) in
     sym (w (args .opposite) (loop .found) (args .x)) ∙ loop .inv .1
@@ -98,14 +119,14 @@ set-from-spec =
     μ-loop
     loop-holds
     member-at-requires
-    enum-known-low
-    found-in-requires
-    byte-or-bar-requires
+    (λ c. search needs)
+    (λ c κs. search needs)
+    (λ c κs. search needs)
     add-answer
-    answer-requires
+    (λ c κs. search needs)
     returns
     returns-2
     loop-less
     loop-again
-    enum-told
+    (λ c. search needs)
     returns-3)

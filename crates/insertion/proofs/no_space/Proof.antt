@@ -5,9 +5,6 @@ use borrow.Author.Needs.{needs}
 use Rattle.insertion.proofs.no_space.Statement.{statement}
 use Rattle.insertion.proofs.no_space.Tie as tie
 
-is-space-requires : tie.Need-is-space-requires
-is-space-requires c κs = search needs
-
 returns : tie.Need-returns
 returns c = rw (sym (c .before .is-space .ensures) ∙ c .if1 .taken)
 
@@ -15,4 +12,4 @@ returns-2 : tie.Need-returns-2
 returns-2 c = rw (sym (c .before .is-space .ensures) ∙ c .if1 .left)
 
 pub no-space-spec : {M : Type 1} → statement M
-no-space-spec = tie.close (tie.spec is-space-requires returns returns-2)
+no-space-spec = tie.close (tie.spec (λ c κs. search needs) returns returns-2)

@@ -37,34 +37,27 @@ done t₀ t src at i e h =
     ∙ ap (λ (l : List ℕ). take at t₀ ++ (l ++ drop (at + length x) t₀)) (take-length x)
 
 loop-holds : tie.Need-loop-holds Inv-loop μ-loop
-loop-holds c = (omega arith, refl, paste-zero (c .before .before .args .t .now) (c .before .before .args .at) (map noSpace (c .before .before .args .src .now)))
-
-shared-slice-read-no-space : tie.Need-shared-slice-read-no-space Inv-loop μ-loop
-shared-slice-read-no-space c = omega arith
-
-no-space-requires : tie.Need-no-space-requires Inv-loop μ-loop
-no-space-requires c κs = search needs
-
-add-t : tie.Need-add-t Inv-loop μ-loop
-add-t c = omega arith
-
-slice-write-t : tie.Need-slice-write-t Inv-loop μ-loop
-slice-write-t c = omega arith
-
-add-i : tie.Need-add-i Inv-loop μ-loop
-add-i c = omega arith
-
-loop-less : tie.Need-loop-less Inv-loop μ-loop
-loop-less c = omega arith
+loop-holds c =
+    let entry = c .before .before .args in
+    (omega arith, refl, paste-zero (entry .t .now) (entry .at) (map noSpace (entry .src .now)))
 
 loop-again : tie.Need-loop-again Inv-loop μ-loop
-loop-again c = (omega arith, simp length-set (omega arith), turn (c .before .before .before .before .before .before .args .t .now) (c .before .before .before .loop .t) (c .before .before .before .before .before .before .args .src .now) (c .before .before .before .before .before .before .args .at) (c .before .before .before .loop .i) (c .no-space .result) (omega arith) (omega arith) (c .no-space .ensures) (c .before .before .before .loop .inv .2))
+loop-again c =
+    let entry = c .before .before .before .before .before .before .args in
+    let loop = c .before .before .before .loop in (
+      omega arith,
+      simp length-set (omega arith),
+      turn (entry .t .now) (loop .t) (entry .src .now) (entry .at) (loop .i) (c .no-space .result) (omega arith) (omega arith)
+          (c .no-space .ensures) (loop .inv .2),
+    )
 
 same-length : tie.Need-same-length Inv-loop μ-loop
 same-length c = c .before .loop .inv .1
 
 returns : tie.Need-returns Inv-loop μ-loop
-returns c = done (c .before .before .before .before .args .t .now) (c .before .loop .t) (c .before .before .before .before .args .src .now) (c .before .before .before .before .args .at) (c .before .loop .i) (c .before .loop .inv .2) (omega arith)
+returns c =
+    let entry = c .before .before .before .before .args in
+    done (entry .t .now) (c .before .loop .t) (entry .src .now) (entry .at) (c .before .loop .i) (c .before .loop .inv .2) (omega arith)
 
 pub store-spaceless-spec : {M : Type 1} → statement M
 store-spaceless-spec =
@@ -73,12 +66,12 @@ store-spaceless-spec =
     Inv-loop
     μ-loop
     loop-holds
-    shared-slice-read-no-space
-    no-space-requires
-    add-t
-    slice-write-t
-    add-i
-    loop-less
+    (λ c. omega arith)
+    (λ c κs. search needs)
+    (λ c. omega arith)
+    (λ c. omega arith)
+    (λ c. omega arith)
+    (λ c. omega arith)
     loop-again
     same-length
     returns)

@@ -22,26 +22,31 @@ loop-holds c = (refl, omega arith, refl)
 slice-read-clean-but : tie.Need-slice-read-clean-but Inv-loop μ-loop
 slice-read-clean-but c = omega (arith, c .before .before .loop .inv .2)
 
-clean-but-requires : tie.Need-clean-but-requires Inv-loop μ-loop
-clean-but-requires c κs = search needs
-
 slice-write-x : tie.Need-slice-write-x Inv-loop μ-loop
 slice-write-x c = omega (arith, c .before .before .before .loop .inv .2)
-
-add-i : tie.Need-add-i Inv-loop μ-loop
-add-i c = search needs
 
 loop-less : tie.Need-loop-less Inv-loop μ-loop
 loop-less c = omega (arith, c .before .before .before .loop .inv .2)
 
 loop-again : tie.Need-loop-again Inv-loop μ-loop
-loop-again c = let h : c .before .before .before .loop .i < length (c .before .before .before .before .before .args .x .now) = omega (arith, c .before .before .before .loop .inv .2) in (cleaned-turn (byteBut (c .before .before .before .before .before .args .spaces)) (c .before .before .before .before .before .args .x .now) (c .before .before .before .loop .i) (c .before .before .before .loop .x) (c .before .before .before .loop .inv .0) (c .clean-but .result) h (c .clean-but .ensures), omega arith, simp length-set (c .before .before .before .loop .inv .2))
+loop-again c =
+    let entry = c .before .before .before .before .before .args in
+    let loop = c .before .before .before .loop in
+    let h : loop .i < length (entry .x .now) = omega (arith, loop .inv .2) in (
+      cleaned-turn (byteBut (entry .spaces)) (entry .x .now) (loop .i) (loop .x) (loop .inv .0) (c .clean-but .result) h
+          (c .clean-but .ensures),
+      omega arith,
+      simp length-set (loop .inv .2),
+    )
 
 same-length : tie.Need-same-length Inv-loop μ-loop
 same-length c = c .before .loop .inv .2
 
 returns : tie.Need-returns Inv-loop μ-loop
-returns c = c .before .loop .inv .0 ∙ cleaned-all (byteBut (c .before .before .before .args .spaces)) (c .before .before .before .args .x .now) (c .before .loop .i) (omega (arith, c .before .loop .inv .2))
+returns c =
+    let entry = c .before .before .before .args in
+    c .before .loop .inv .0 ∙ cleaned-all (byteBut (entry .spaces)) (entry .x .now) (c .before .loop .i)
+    (omega (arith, c .before .loop .inv .2))
 
 pub clean-spec : {M : Type 1} → statement M
 clean-spec =
@@ -51,9 +56,9 @@ clean-spec =
     μ-loop
     loop-holds
     slice-read-clean-but
-    clean-but-requires
+    (λ c κs. search needs)
     slice-write-x
-    add-i
+    (λ c. search needs)
     loop-less
     loop-again
     same-length

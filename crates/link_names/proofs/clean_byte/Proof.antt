@@ -6,35 +6,47 @@ use borrow.Author.Needs.{needs}
 use Rattle.link_names.proofs.clean_byte.Statement.{statement}
 use Rattle.link_names.proofs.clean_byte.Tie as tie
 
-is-letter-requires : tie.Need-is-letter-requires
-is-letter-requires c κs = search needs
-
 returns : tie.Need-returns
-returns c = clean-letter (c .before .before .args .b) (c .before .is-letter .result) _ _ (c .before .is-letter .ensures) refl refl (c .if1 .taken)
-
-is-digit-requires : tie.Need-is-digit-requires
-is-digit-requires c κs = search needs
+returns c =
+    let entry = c .before .before .args in
+    clean-letter (entry .b) (c .before .is-letter .result) _ _ (c .before .is-letter .ensures) refl refl (c .if1 .taken)
 
 returns-2 : tie.Need-returns-2
-returns-2 c = clean-digit (c .before .before .before .before .args .b) (c .before .before .before .is-letter .result) (c .before .is-digit .result) _ (c .before .before .before .is-letter .ensures) (c .before .is-digit .ensures) refl (c .before .before .if1 .left) (c .if2 .taken)
-
-is-mark-requires : tie.Need-is-mark-requires
-is-mark-requires c κs = search needs
+returns-2 c =
+    let entry = c .before .before .before .before .args in
+    let is-letter = c .before .before .before .is-letter in
+    let if1 = c .before .before .if1 in
+    clean-digit (entry .b) (is-letter .result) (c .before .is-digit .result) _ (is-letter .ensures) (c .before .is-digit .ensures) refl
+    (if1 .left) (c .if2 .taken)
 
 returns-3 : tie.Need-returns-3
-returns-3 c = clean-mark (c .before .before .before .before .before .before .args .b) (c .before .before .before .before .before .is-letter .result) (c .before .before .before .is-digit .result) (c .before .is-mark .result) (c .before .before .before .before .before .is-letter .ensures) (c .before .before .before .is-digit .ensures) (c .before .is-mark .ensures) (c .before .before .before .before .if1 .left) (c .before .before .if2 .left) (c .if3 .taken)
+returns-3 c =
+    let entry = c .before .before .before .before .before .before .args in
+    let is-letter = c .before .before .before .before .before .is-letter in
+    let if1 = c .before .before .before .before .if1 in
+    let is-digit = c .before .before .before .is-digit in
+    let if2 = c .before .before .if2 in
+    clean-mark (entry .b) (is-letter .result) (is-digit .result) (c .before .is-mark .result) (is-letter .ensures) (is-digit .ensures)
+    (c .before .is-mark .ensures) (if1 .left) (if2 .left) (c .if3 .taken)
 
 returns-4 : tie.Need-returns-4
-returns-4 c = clean-other (c .before .before .before .before .before .before .args .b) (c .before .before .before .before .before .is-letter .result) (c .before .before .before .is-digit .result) (c .before .is-mark .result) (c .before .before .before .before .before .is-letter .ensures) (c .before .before .before .is-digit .ensures) (c .before .is-mark .ensures) (c .before .before .before .before .if1 .left) (c .before .before .if2 .left) (c .if3 .left)
+returns-4 c =
+    let entry = c .before .before .before .before .before .before .args in
+    let is-letter = c .before .before .before .before .before .is-letter in
+    let if1 = c .before .before .before .before .if1 in
+    let is-digit = c .before .before .before .is-digit in
+    let if2 = c .before .before .if2 in
+    clean-other (entry .b) (is-letter .result) (is-digit .result) (c .before .is-mark .result) (is-letter .ensures) (is-digit .ensures)
+    (c .before .is-mark .ensures) (if1 .left) (if2 .left) (c .if3 .left)
 
 pub clean-byte-spec : {M : Type 1} → statement M
 clean-byte-spec =
     tie.close
     (tie.spec
-    is-letter-requires
+    (λ c κs. search needs)
     returns
-    is-digit-requires
+    (λ c κs. search needs)
     returns-2
-    is-mark-requires
+    (λ c κs. search needs)
     returns-3
     returns-4)

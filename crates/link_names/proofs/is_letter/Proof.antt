@@ -9,7 +9,9 @@ returns : tie.Need-returns
 returns c = letter-upper (c .before .before .args .b) (omega arith) (omega arith)
 
 returns-2 : tie.Need-returns-2
-returns-2 c = letter-lower (c .before .before .before .before .args .b) (omega arith) (omega arith)
+returns-2 c =
+    let entry = c .before .before .before .before .args in
+    letter-lower (entry .b) (omega arith) (omega arith)
 
 returns-3 : tie.Need-returns-3
 returns-3 c = letter-below (c .before .args .b) (omega arith)
@@ -18,7 +20,9 @@ returns-4 : tie.Need-returns-4
 returns-4 c = letter-amid (c .before .before .before .args .b) (omega arith) (omega arith)
 
 returns-5 : tie.Need-returns-5
-returns-5 c = letter-above (c .before .before .before .before .args .b) (omega arith)
+returns-5 c =
+    let entry = c .before .before .before .before .args in
+    letter-above (entry .b) (omega arith)
 
 pub is-letter-spec : {M : Type 1} → statement M
 is-letter-spec = tie.close (tie.spec returns returns-2 returns-3 returns-4 returns-5)

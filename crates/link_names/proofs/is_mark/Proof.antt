@@ -9,7 +9,10 @@ returns : tie.Need-returns
 returns c = mark-none (c .before .before .args .b) (c .before .match .rest .1) (λ e. omega arith) (λ e. omega arith) (λ e. omega arith)
 
 returns-2 : tie.Need-returns-2
-returns-2 c = mark-none (c .before .before .before .args .b) (c .before .before .match .rest .1) (λ e. omega arith) (λ e. omega arith) (λ e. omega arith)
+returns-2 c =
+    let entry = c .before .before .before .args in
+    let match = c .before .before .match in
+    mark-none (entry .b) (match .rest .1) (λ e. omega arith) (λ e. omega arith) (λ e. omega arith)
 
 returns-3 : tie.Need-returns-3
 returns-3 c = mark-key (c .before .args .b) (c .match .keys1)

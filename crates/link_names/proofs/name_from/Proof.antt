@@ -19,23 +19,19 @@ abbrev μ-loop : tie.MeasureT-loop
 loop-holds : tie.Need-loop-holds Inv-loop μ-loop
 loop-holds c = (refl, omega arith, c .before .pre)
 
-shared-slice-read-if1 : tie.Need-shared-slice-read-if1 Inv-loop μ-loop
-shared-slice-read-if1 c = omega arith
-
-byte-end-requires : tie.Need-byte-end-requires Inv-loop μ-loop
-byte-end-requires c κs = search needs
-
 returns : tie.Need-returns Inv-loop μ-loop
-returns c = let (n, u, v) = name-at (c .before .before .before .before .before .before .args .text .now) (c .before .before .before .before .loop .start) (omega arith) (c .before .if1 .taken) (c .byte-end .result) (c .byte-end .ensures) in (c .before .before .before .before .loop .inv .0 ∙ n, c .before .before .before .before .loop .inv .1, u, v)
-
-add-start : tie.Need-add-start Inv-loop μ-loop
-add-start c = omega arith
-
-loop-less : tie.Need-loop-less Inv-loop μ-loop
-loop-less c = omega arith
+returns c =
+    let entry = c .before .before .before .before .before .before .args in
+    let loop = c .before .before .before .before .loop in
+    let (n, u, v) =
+    name-at (entry .text .now) (loop .start) (omega arith) (c .before .if1 .taken) (c .byte-end .result) (c .byte-end .ensures) in
+    (loop .inv .0 ∙ n, loop .inv .1, u, v)
 
 loop-again : tie.Need-loop-again Inv-loop μ-loop
-loop-again c = (c .before .before .before .loop .inv .0 ∙ names-space (c .before .before .before .before .before .args .text .now) (c .before .before .before .loop .start) (omega arith) (c .if1 .left), omega (arith, c .before .before .before .loop .inv .1), omega arith)
+loop-again c =
+    let entry = c .before .before .before .before .before .args in
+    let loop = c .before .before .before .loop in
+    (loop .inv .0 ∙ names-space (entry .text .now) (loop .start) (omega arith) (c .if1 .left), omega (arith, loop .inv .1), omega arith)
 
 returns-2 : tie.Need-returns-2 Inv-loop μ-loop
 returns-2 c = c .before .loop .inv .0 ∙ names-end (c .before .before .before .args .text .now) (c .before .loop .start) (omega arith)
@@ -47,10 +43,10 @@ name-from-spec =
     Inv-loop
     μ-loop
     loop-holds
-    shared-slice-read-if1
-    byte-end-requires
+    (λ c. omega arith)
+    (λ c κs. search needs)
     returns
-    add-start
-    loop-less
+    (λ c. omega arith)
+    (λ c. omega arith)
     loop-again
     returns-2)

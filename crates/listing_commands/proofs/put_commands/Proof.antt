@@ -20,56 +20,99 @@ Inv-loop out₀ list put₀ at₀ left₀ out put at left = (at ≤ length list)
 abbrev μ-loop : tie.MeasureT-loop
 μ-loop out₀ list put₀ at₀ left₀ out put at left = left
 
-take-requires : tie.Need-take-requires Inv-loop μ-loop
-take-requires c κs = search needs
-
 loop-holds : tie.Need-loop-holds Inv-loop μ-loop
-loop-holds c = let n = c .take .ensures .value in (c .before .before .before .pre .1 .0, subst (λ (i : ℕ). Entries i (drop 1 (c .before .before .before .args .list .now))) (sym n) (c .before .before .before .pre .1 .1), refl, c .before .before .before .pre .0, λ r l. subst (λ (i : ℕ). Behind (entryLines i (drop 1 (c .before .before .before .args .list .now))) (c .before .before .before .args .out .now) (c .before .before .before .args .front) r l) n)
-
-sub-head-of : tie.Need-sub-head-of Inv-loop μ-loop
-sub-head-of c = omega arith
-
-part-head-of-start : tie.Need-part-head-of-start Inv-loop μ-loop
-part-head-of-start c = omega arith
-
-part-head-of-end : tie.Need-part-head-of-end Inv-loop μ-loop
-part-head-of-end c = omega arith
+loop-holds c =
+    let pre = c .before .before .before .pre in
+    let entry = c .before .before .before .args in
+    let n = c .take .ensures .value in (
+      pre .1 .0,
+      subst (λ (i : ℕ). Entries i (drop 1 (entry .list .now))) (sym n) (pre .1 .1),
+      refl,
+      pre .0,
+      λ r l. subst (λ (i : ℕ). Behind (entryLines i (drop 1 (entry .list .now))) (entry .out .now) (entry .front) r l) n,
+    )
 
 head-of-requires : tie.Need-head-of-requires Inv-loop μ-loop
-head-of-requires c κs = let l = c .before .before .before .before .before .before .args .list .now in let at = c .before .before .loop .at in omega (arith, ap length (rest-part l at), length-drop at l, entry-head l at (c .before .before .loop .left) (c .before .loop-test .taken) (c .before .before .loop .inv .1) (c .before .before .loop .inv .0))
+head-of-requires c κs =
+    let entry = c .before .before .before .before .before .before .args in
+    let loop = c .before .before .loop in
+    let l = entry .list .now in
+    let at = loop .at in
+    omega (
+      arith,
+      ap length (rest-part l at),
+      length-drop at l,
+      entry-head l at (loop .left) (c .before .loop-test .taken) (loop .inv .1) (loop .inv .0),
+    )
 
 add-start : tie.Need-add-start Inv-loop μ-loop
-add-start c = omega (arith, entry-head (c .before .before .before .before .before .before .before .args .list .now) (c .before .before .before .loop .at) (c .before .before .before .loop .left) (c .before .before .loop-test .taken) (c .before .before .before .loop .inv .1) (c .before .before .before .loop .inv .0))
+add-start c =
+    let entry = c .before .before .before .before .before .before .before .args in
+    let loop = c .before .before .before .loop in
+    let loop-test = c .before .before .loop-test in
+    omega (arith, entry-head (entry .list .now) (loop .at) (loop .left) (loop-test .taken) (loop .inv .1) (loop .inv .0))
 
 add-end : tie.Need-add-end Inv-loop μ-loop
-add-end c = omega (arith, entry-size (c .before .before .before .before .before .before .before .before .args .list .now) (c .before .before .before .before .loop .at) (c .before .before .before .before .loop .left) (c .before .before .before .loop-test .taken) (c .before .before .before .before .loop .inv .1) (c .before .head-of .result) (subst (λ (x : List ℕ). First x (c .before .head-of .result)) (rest-part (c .before .before .before .before .before .before .before .before .args .list .now) (c .before .before .before .before .loop .at)) (c .before .head-of .ensures)) (c .before .before .before .before .loop .inv .0))
-
-sub-put-command : tie.Need-sub-put-command Inv-loop μ-loop
-sub-put-command c = omega arith
-
-part-put-command-start : tie.Need-part-put-command-start Inv-loop μ-loop
-part-put-command-start c = omega arith
+add-end c =
+    let entry = c .before .before .before .before .before .before .before .before .args in
+    let loop = c .before .before .before .before .loop in
+    let loop-test = c .before .before .before .loop-test in
+    omega (
+      arith,
+      entry-size (entry .list .now) (loop .at) (loop .left) (loop-test .taken) (loop .inv .1) (c .before .head-of .result)
+          (subst (λ (x : List ℕ). First x (c .before .head-of .result)) (rest-part (entry .list .now) (loop .at))
+          (c .before .head-of .ensures))
+          (loop .inv .0),
+    )
 
 part-put-command-end : tie.Need-part-put-command-end Inv-loop μ-loop
-part-put-command-end c = omega (arith, entry-size (c .before .before .before .before .before .before .before .before .before .args .list .now) (c .before .before .before .before .before .loop .at) (c .before .before .before .before .before .loop .left) (c .before .before .before .before .loop-test .taken) (c .before .before .before .before .before .loop .inv .1) (c .before .before .head-of .result) (subst (λ (x : List ℕ). First x (c .before .before .head-of .result)) (rest-part (c .before .before .before .before .before .before .before .before .before .args .list .now) (c .before .before .before .before .before .loop .at)) (c .before .before .head-of .ensures)) (c .before .before .before .before .before .loop .inv .0))
+part-put-command-end c =
+    let entry = c .before .before .before .before .before .before .before .before .before .args in
+    let loop = c .before .before .before .before .before .loop in
+    let loop-test = c .before .before .before .before .loop-test in
+    let head-of = c .before .before .head-of in
+    omega (
+      arith,
+      entry-size (entry .list .now) (loop .at) (loop .left) (loop-test .taken) (loop .inv .1) (head-of .result)
+          (subst (λ (x : List ℕ). First x (head-of .result)) (rest-part (entry .list .now) (loop .at)) (head-of .ensures))
+          (loop .inv .0),
+    )
 
 put-command-requires : tie.Need-put-command-requires Inv-loop μ-loop
-put-command-requires c κs = c .before .before .before .before .before .before .loop .inv .3
-
-sub-left : tie.Need-sub-left Inv-loop μ-loop
-sub-left c = omega arith
-
-loop-less : tie.Need-loop-less Inv-loop μ-loop
-loop-less c = omega arith
+put-command-requires c κs =
+    let loop = c .before .before .before .before .before .before .loop in
+    loop .inv .3
 
 loop-again : tie.Need-loop-again Inv-loop μ-loop
-loop-again c = (entry-size (c .before .before .before .before .before .before .before .before .before .before .before .before .before .args .list .now) (c .before .before .before .before .before .before .before .before .before .loop .at) (c .before .before .before .before .before .before .before .before .before .loop .left) (c .before .before .before .before .before .before .before .before .loop-test .taken) (c .before .before .before .before .before .before .before .before .before .loop .inv .1) (c .before .before .before .before .before .before .head-of .result) (subst (λ (x : List ℕ). First x (c .before .before .before .before .before .before .head-of .result)) (rest-part (c .before .before .before .before .before .before .before .before .before .before .before .before .before .args .list .now) (c .before .before .before .before .before .before .before .before .before .loop .at)) (c .before .before .before .before .before .before .head-of .ensures)) (c .before .before .before .before .before .before .before .before .before .loop .inv .0), entries-next (c .before .before .before .before .before .before .before .before .before .before .before .before .before .args .list .now) (c .before .before .before .before .before .before .before .before .before .loop .at) (c .before .before .before .before .before .before .before .before .before .loop .left) (c .before .before .before .before .before .before .before .before .loop-test .taken) (c .before .before .before .before .before .before .before .before .before .loop .inv .1) (c .before .before .before .before .before .before .head-of .result) (subst (λ (x : List ℕ). First x (c .before .before .before .before .before .before .head-of .result)) (rest-part (c .before .before .before .before .before .before .before .before .before .before .before .before .before .args .list .now) (c .before .before .before .before .before .before .before .before .before .loop .at)) (c .before .before .before .before .before .before .head-of .ensures)), omega (arith, c .before .before .put-command .kept .0, c .before .before .before .before .before .before .before .before .before .loop .inv .2), c .before .before .put-command .ensures .0, lines-next (c .before .before .before .before .before .before .before .before .before .before .before .before .before .args .list .now) (c .before .before .before .before .before .before .before .before .before .loop .at) (c .before .before .before .before .before .before .before .before .before .loop .left) (c .before .before .before .before .before .before .before .before .loop-test .taken) (c .before .before .before .before .before .before .before .before .before .loop .inv .1) (c .before .before .before .before .before .before .head-of .result) (subst (λ (x : List ℕ). First x (c .before .before .before .before .before .before .head-of .result)) (rest-part (c .before .before .before .before .before .before .before .before .before .before .before .before .before .args .list .now) (c .before .before .before .before .before .before .before .before .before .loop .at)) (c .before .before .before .before .before .before .head-of .ensures)) (entryLines (numberAt (c .before .before .before .before .before .before .before .before .before .before .before .before .before .args .list .now) 0 5) (drop 1 (c .before .before .before .before .before .before .before .before .before .before .before .before .before .args .list .now))) (c .before .before .before .before .before .before .before .before .before .before .before .before .before .args .out .now) (c .before .before .before .before .before .before .before .before .before .before .before .before .before .args .front) (c .before .before .before .before .before .before .before .before .before .loop .out) (c .before .before .before .before .before .before .before .before .before .loop .put) (c .before .before .before .before .before .before .before .before .before .loop .inv .4) (c .before .before .put-command .result) (c .before .before .put-command .last .0) (c .before .before .put-command .ensures .1))
+loop-again c =
+    let entry = c .before .before .before .before .before .before .before .before .before .before .before .before .before .args in
+    let loop = c .before .before .before .before .before .before .before .before .before .loop in
+    let loop-test = c .before .before .before .before .before .before .before .before .loop-test in
+    let head-of = c .before .before .before .before .before .before .head-of in
+    let put-command = c .before .before .put-command in (
+      entry-size (entry .list .now) (loop .at) (loop .left) (loop-test .taken) (loop .inv .1) (head-of .result)
+          (subst (λ (x : List ℕ). First x (head-of .result)) (rest-part (entry .list .now) (loop .at)) (head-of .ensures)) (loop .inv .0),
+      entries-next (entry .list .now) (loop .at) (loop .left) (loop-test .taken) (loop .inv .1) (head-of .result)
+          (subst (λ (x : List ℕ). First x (head-of .result)) (rest-part (entry .list .now) (loop .at)) (head-of .ensures)),
+      omega (arith, put-command .kept .0, loop .inv .2),
+      put-command .ensures .0,
+      lines-next (entry .list .now) (loop .at) (loop .left) (loop-test .taken) (loop .inv .1) (head-of .result)
+          (subst (λ (x : List ℕ). First x (head-of .result)) (rest-part (entry .list .now) (loop .at)) (head-of .ensures))
+          (entryLines (numberAt (entry .list .now) 0 5) (drop 1 (entry .list .now))) (entry .out .now) (entry .front) (loop .out)
+          (loop .put) (loop .inv .4) (put-command .result) (put-command .last .0) (put-command .ensures .1),
+    )
 
 same-length : tie.Need-same-length Inv-loop μ-loop
 same-length c = c .before .loop .inv .2
 
 returns : tie.Need-returns Inv-loop μ-loop
-returns c = (c .before .loop .inv .3, lines-end (c .before .loop .left) (drop (c .before .loop .at) (c .before .before .before .before .before .args .list .now)) (entryLines (numberAt (c .before .before .before .before .before .args .list .now) 0 5) (drop 1 (c .before .before .before .before .before .args .list .now))) (c .before .before .before .before .before .args .out .now) (c .before .before .before .before .before .args .front) (c .before .loop .out) (c .before .loop .put) (omega arith) (c .before .loop .inv .4))
+returns c =
+    let entry = c .before .before .before .before .before .args in (
+      c .before .loop .inv .3,
+      lines-end (c .before .loop .left) (drop (c .before .loop .at) (entry .list .now))
+          (entryLines (numberAt (entry .list .now) 0 5) (drop 1 (entry .list .now))) (entry .out .now) (entry .front)
+          (c .before .loop .out) (c .before .loop .put) (omega arith) (c .before .loop .inv .4),
+    )
 
 pub put-commands-spec : {M : Type 1} → statement M
 put-commands-spec =
@@ -77,20 +120,20 @@ put-commands-spec =
     (tie.spec
     Inv-loop
     μ-loop
-    take-requires
+    (λ c κs. search needs)
     loop-holds
-    sub-head-of
-    part-head-of-start
-    part-head-of-end
+    (λ c. omega arith)
+    (λ c. omega arith)
+    (λ c. omega arith)
     head-of-requires
     add-start
     add-end
-    sub-put-command
-    part-put-command-start
+    (λ c. omega arith)
+    (λ c. omega arith)
     part-put-command-end
     put-command-requires
-    sub-left
-    loop-less
+    (λ c. omega arith)
+    (λ c. omega arith)
     loop-again
     same-length
     returns)

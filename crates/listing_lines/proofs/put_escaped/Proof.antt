@@ -20,26 +20,31 @@ abbrev μ-loop : tie.MeasureT-loop
 loop-holds : tie.Need-loop-holds Inv-loop μ-loop
 loop-holds c = (refl, c .before .before .pre, λ r l g. g)
 
-shared-slice-read-put-shown : tie.Need-shared-slice-read-put-shown Inv-loop μ-loop
-shared-slice-read-put-shown c = search needs
-
 put-shown-requires : tie.Need-put-shown-requires Inv-loop μ-loop
 put-shown-requires c κs = c .before .before .before .loop .inv .1
 
-add-i : tie.Need-add-i Inv-loop μ-loop
-add-i c = search needs
-
-loop-less : tie.Need-loop-less Inv-loop μ-loop
-loop-less c = omega arith
-
 loop-again : tie.Need-loop-again Inv-loop μ-loop
-loop-again c = (omega (arith, c .before .before .put-shown .kept .0, c .before .before .before .before .before .before .loop .inv .0), c .before .before .put-shown .ensures .0, leads-next (escaped (c .before .before .before .before .before .before .before .before .before .args .text .now)) (c .before .before .before .before .before .before .before .before .before .args .out .now) (c .before .before .before .before .before .before .before .before .before .args .front) (c .before .before .before .before .before .before .before .before .before .args .text .now) (c .before .before .before .before .before .before .loop .i) (c .before .before .before .before .before .before .loop .out) (c .before .before .before .before .before .before .loop .put) (c .before .before .before .before .before .before .loop .inv .2) (c .before .before .before .before .before .loop-test .taken) (c .before .before .put-shown .result) (c .before .before .put-shown .last .0) (c .before .before .put-shown .ensures .1))
+loop-again c =
+    let entry = c .before .before .before .before .before .before .before .before .before .args in
+    let loop = c .before .before .before .before .before .before .loop in
+    let loop-test = c .before .before .before .before .before .loop-test in
+    let put-shown = c .before .before .put-shown in (
+      omega (arith, put-shown .kept .0, loop .inv .0),
+      put-shown .ensures .0,
+      leads-next (escaped (entry .text .now)) (entry .out .now) (entry .front) (entry .text .now) (loop .i) (loop .out) (loop .put)
+          (loop .inv .2) (loop-test .taken) (put-shown .result) (put-shown .last .0) (put-shown .ensures .1),
+    )
 
 same-length : tie.Need-same-length Inv-loop μ-loop
 same-length c = c .before .loop .inv .0
 
 returns : tie.Need-returns Inv-loop μ-loop
-returns c = (c .before .loop .inv .1, leads-end (escaped (c .before .before .before .before .args .text .now)) (c .before .before .before .before .args .out .now) (c .before .before .before .before .args .front) (c .before .before .before .before .args .text .now) (c .before .loop .i) (c .before .loop .out) (c .before .loop .put) (c .before .loop .inv .2) (c .loop-test .left))
+returns c =
+    let entry = c .before .before .before .before .args in (
+      c .before .loop .inv .1,
+      leads-end (escaped (entry .text .now)) (entry .out .now) (entry .front) (entry .text .now) (c .before .loop .i)
+          (c .before .loop .out) (c .before .loop .put) (c .before .loop .inv .2) (c .loop-test .left),
+    )
 
 pub put-escaped-spec : {M : Type 1} → statement M
 put-escaped-spec =
@@ -48,10 +53,10 @@ put-escaped-spec =
     Inv-loop
     μ-loop
     loop-holds
-    shared-slice-read-put-shown
+    (λ c. search needs)
     put-shown-requires
-    add-i
-    loop-less
+    (λ c. search needs)
+    (λ c. omega arith)
     loop-again
     same-length
     returns)

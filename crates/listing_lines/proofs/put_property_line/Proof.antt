@@ -8,35 +8,35 @@ use borrow.Author.Needs.{needs}
 use Rattle.listing_lines.proofs.put_property_line.Statement.{statement}
 use Rattle.listing_lines.proofs.put_property_line.Tie as tie
 
-put-word-requires : tie.Need-put-word-requires
-put-word-requires c κs = search needs
-
-put-escaped-requires : tie.Need-put-escaped-requires
-put-escaped-requires c κs = search needs
-
-put-byte-requires : tie.Need-put-byte-requires
-put-byte-requires c κs = search needs
-
-put-escaped-requires-2 : tie.Need-put-escaped-requires-2
-put-escaped-requires-2 c κs = search needs
-
-put-byte-requires-2 : tie.Need-put-byte-requires-2
-put-byte-requires-2 c κs = search needs
-
-same-length : tie.Need-same-length
-same-length c = search needs
-
 returns : tie.Need-returns
-returns c = let args = c .before .before .before .before .before .before .before .before .before .before .before .before .before .before .before .before .before .before .before .before .before .before .before .before .args in let k = behind-both (escaped (args .key .now)) (61 ∷ escaped (args .value .now)) (c .before .before .before .before .before .before .before .before .before .before .before .before .before .before .before .before .before .before .put-word .last .0) (c .before .before .before .before .before .before .before .before .before .before .before .before .before .before .put-escaped .last .0) (c .before .before .before .before .before .before .put-escaped2 .last .0) (c .before .before .before .before .before .before .before .before .before .before .before .before .before .before .before .before .before .before .put-word .result) (c .before .before .before .before .before .before .before .before .before .before .before .before .before .before .put-escaped .result) (c .before .before .before .before .before .before .put-escaped2 .result) (c .before .before .before .before .before .before .before .before .before .before .before .before .before .before .put-escaped .ensures .1) (behind-both (61 ∷ []) (escaped (args .value .now)) (c .before .before .before .before .before .before .before .before .before .before .before .before .before .before .put-escaped .last .0) (c .before .before .before .before .before .before .before .before .before .before .put-byte .last .0) (c .before .before .before .before .before .before .put-escaped2 .last .0) (c .before .before .before .before .before .before .before .before .before .before .before .before .before .before .put-escaped .result) (c .before .before .before .before .before .before .before .before .before .before .put-byte .result) (c .before .before .before .before .before .before .put-escaped2 .result) (c .before .before .before .before .before .before .before .before .before .before .put-byte .ensures .1) (c .before .before .before .before .before .before .put-escaped2 .ensures .1)) in (c .before .before .put-byte2 .ensures .0, line-behind (args .word .now) (escaped (args .key .now) ++ (61 ∷ escaped (args .value .now))) (args .out .now) (c .before .before .before .before .before .before .before .before .before .before .before .before .before .before .before .before .before .before .put-word .last .0) (c .before .before .before .before .before .before .put-escaped2 .last .0) (c .before .before .put-byte2 .last .0) (args .front) (c .before .before .before .before .before .before .before .before .before .before .before .before .before .before .before .before .before .before .put-word .result) (c .before .before .before .before .before .before .put-escaped2 .result) (c .before .before .put-byte2 .result) (c .before .before .before .before .before .before .before .before .before .before .before .before .before .before .before .before .before .before .put-word .ensures .1) k (c .before .before .put-byte2 .ensures .1))
+returns c =
+    let entry = c .before .before .before .before .before .before .before .before .before .before .before .before .before .before .before .before .before .before .before .before .before .before .before .before .args in
+    let put-word = c .before .before .before .before .before .before .before .before .before .before .before .before .before .before .before .before .before .before .put-word in
+    let put-escaped = c .before .before .before .before .before .before .before .before .before .before .before .before .before .before .put-escaped in
+    let put-byte = c .before .before .before .before .before .before .before .before .before .before .put-byte in
+    let put-escaped2 = c .before .before .before .before .before .before .put-escaped2 in
+    let put-byte2 = c .before .before .put-byte2 in
+    let args = entry in
+    let k =
+    behind-both (escaped (args .key .now)) (61 ∷ escaped (args .value .now)) (put-word .last .0) (put-escaped .last .0)
+    (put-escaped2 .last .0) (put-word .result) (put-escaped .result) (put-escaped2 .result) (put-escaped .ensures .1)
+    (behind-both (61 ∷ []) (escaped (args .value .now)) (put-escaped .last .0) (put-byte .last .0) (put-escaped2 .last .0)
+    (put-escaped .result) (put-byte .result) (put-escaped2 .result) (put-byte .ensures .1) (put-escaped2 .ensures .1))
+    in (
+      put-byte2 .ensures .0,
+      line-behind (args .word .now) (escaped (args .key .now) ++ (61 ∷ escaped (args .value .now))) (args .out .now) (put-word .last .0)
+          (put-escaped2 .last .0) (put-byte2 .last .0) (args .front) (put-word .result) (put-escaped2 .result) (put-byte2 .result)
+          (put-word .ensures .1) k (put-byte2 .ensures .1),
+    )
 
 pub put-property-line-spec : {M : Type 1} → statement M
 put-property-line-spec =
     tie.close
     (tie.spec
-    put-word-requires
-    put-escaped-requires
-    put-byte-requires
-    put-escaped-requires-2
-    put-byte-requires-2
-    same-length
+    (λ c κs. search needs)
+    (λ c κs. search needs)
+    (λ c κs. search needs)
+    (λ c κs. search needs)
+    (λ c κs. search needs)
+    (λ c. search needs)
     returns)

@@ -8,44 +8,38 @@ use borrow.Author.Needs.{needs}
 use Rattle.listing_lines.proofs.put_refusal_line.Statement.{statement}
 use Rattle.listing_lines.proofs.put_refusal_line.Tie as tie
 
-slice-aggregate-put-text : tie.Need-slice-aggregate-put-text
-slice-aggregate-put-text c = search needs
-
-put-text-requires : tie.Need-put-text-requires
-put-text-requires c κs = search needs
-
-put-decimal-requires : tie.Need-put-decimal-requires
-put-decimal-requires c κs = search needs
-
-slice-aggregate-put-text-2 : tie.Need-slice-aggregate-put-text-2
-slice-aggregate-put-text-2 c = search needs
-
-put-text-requires-2 : tie.Need-put-text-requires-2
-put-text-requires-2 c κs = search needs
-
-put-decimal-requires-2 : tie.Need-put-decimal-requires-2
-put-decimal-requires-2 c κs = search needs
-
-put-byte-requires : tie.Need-put-byte-requires
-put-byte-requires c κs = search needs
-
-same-length : tie.Need-same-length
-same-length c = search needs
-
 returns : tie.Need-returns
 unfolding bytes
-returns c = (c .before .before .put-byte .ensures .0, (behind-both (bytes "refused ") (decimal (c .before .before .before .before .before .before .before .before .before .before .before .before .before .before .before .before .before .before .before .before .before .before .before .args .number) ++ (bytes " line " ++ (decimal (c .before .before .before .before .before .before .before .before .before .before .before .before .before .before .before .before .before .before .before .before .before .before .before .args .line) ++ (10 ∷ [])))) (c .before .before .before .before .before .before .before .before .before .before .before .before .before .before .before .before .before .before .before .before .before .before .before .args .out .now) (c .before .before .before .before .before .before .before .before .before .before .before .before .before .before .before .before .before .before .before .put-text .last .0) (c .before .before .put-byte .last .0) (c .before .before .before .before .before .before .before .before .before .before .before .before .before .before .before .before .before .before .before .before .before .before .before .args .front) (c .before .before .before .before .before .before .before .before .before .before .before .before .before .before .before .before .before .before .before .put-text .result) (c .before .before .put-byte .result) (c .before .before .before .before .before .before .before .before .before .before .before .before .before .before .before .before .before .before .before .put-text .ensures .1) (behind-both (decimal (c .before .before .before .before .before .before .before .before .before .before .before .before .before .before .before .before .before .before .before .before .before .before .before .args .number)) (bytes " line " ++ (decimal (c .before .before .before .before .before .before .before .before .before .before .before .before .before .before .before .before .before .before .before .before .before .before .before .args .line) ++ (10 ∷ []))) (c .before .before .before .before .before .before .before .before .before .before .before .before .before .before .before .before .before .before .before .put-text .last .0) (c .before .before .before .before .before .before .before .before .before .before .before .before .before .before .before .put-decimal .last .0) (c .before .before .put-byte .last .0) (c .before .before .before .before .before .before .before .before .before .before .before .before .before .before .before .before .before .before .before .put-text .result) (c .before .before .before .before .before .before .before .before .before .before .before .before .before .before .before .put-decimal .result) (c .before .before .put-byte .result) (c .before .before .before .before .before .before .before .before .before .before .before .before .before .before .before .put-decimal .ensures .1) (behind-both (bytes " line ") (decimal (c .before .before .before .before .before .before .before .before .before .before .before .before .before .before .before .before .before .before .before .before .before .before .before .args .line) ++ (10 ∷ [])) (c .before .before .before .before .before .before .before .before .before .before .before .before .before .before .before .put-decimal .last .0) (c .before .before .before .before .before .before .before .before .before .before .put-text2 .last .0) (c .before .before .put-byte .last .0) (c .before .before .before .before .before .before .before .before .before .before .before .before .before .before .before .put-decimal .result) (c .before .before .before .before .before .before .before .before .before .before .put-text2 .result) (c .before .before .put-byte .result) (c .before .before .before .before .before .before .before .before .before .before .put-text2 .ensures .1) (behind-both (decimal (c .before .before .before .before .before .before .before .before .before .before .before .before .before .before .before .before .before .before .before .before .before .before .before .args .line)) (10 ∷ []) (c .before .before .before .before .before .before .before .before .before .before .put-text2 .last .0) (c .before .before .before .before .before .before .put-decimal2 .last .0) (c .before .before .put-byte .last .0) (c .before .before .before .before .before .before .before .before .before .before .put-text2 .result) (c .before .before .before .before .before .before .put-decimal2 .result) (c .before .before .put-byte .result) (c .before .before .before .before .before .before .put-decimal2 .ensures .1) (c .before .before .put-byte .ensures .1))))))
+returns c =
+    let entry = c .before .before .before .before .before .before .before .before .before .before .before .before .before .before .before .before .before .before .before .before .before .before .before .args in
+    let put-text = c .before .before .before .before .before .before .before .before .before .before .before .before .before .before .before .before .before .before .before .put-text in
+    let put-decimal = c .before .before .before .before .before .before .before .before .before .before .before .before .before .before .before .put-decimal in
+    let put-text2 = c .before .before .before .before .before .before .before .before .before .before .put-text2 in
+    let put-decimal2 = c .before .before .before .before .before .before .put-decimal2 in
+    let put-byte = c .before .before .put-byte in (
+      put-byte .ensures .0,
+      (behind-both (bytes "refused ") (decimal (entry .number) ++ (bytes " line " ++ (decimal (entry .line) ++ (10 ∷ []))))
+          (entry .out .now) (put-text .last .0) (put-byte .last .0) (entry .front) (put-text .result) (put-byte .result)
+          (put-text .ensures .1)
+          (behind-both (decimal (entry .number)) (bytes " line " ++ (decimal (entry .line) ++ (10 ∷ []))) (put-text .last .0)
+          (put-decimal .last .0) (put-byte .last .0) (put-text .result) (put-decimal .result) (put-byte .result)
+          (put-decimal .ensures .1)
+          (behind-both (bytes " line ") (decimal (entry .line) ++ (10 ∷ [])) (put-decimal .last .0) (put-text2 .last .0)
+          (put-byte .last .0) (put-decimal .result) (put-text2 .result) (put-byte .result) (put-text2 .ensures .1)
+          (behind-both (decimal (entry .line)) (10 ∷ []) (put-text2 .last .0) (put-decimal2 .last .0) (put-byte .last .0)
+          (put-text2 .result) (put-decimal2 .result) (put-byte .result) (put-decimal2 .ensures .1) (put-byte .ensures .1))))),
+    )
 
 pub put-refusal-line-spec : {M : Type 1} → statement M
 put-refusal-line-spec =
     tie.close
     (tie.spec
-    slice-aggregate-put-text
-    put-text-requires
-    put-decimal-requires
-    slice-aggregate-put-text-2
-    put-text-requires-2
-    put-decimal-requires-2
-    put-byte-requires
-    same-length
+    (λ c. search needs)
+    (λ c κs. search needs)
+    (λ c κs. search needs)
+    (λ c. search needs)
+    (λ c κs. search needs)
+    (λ c κs. search needs)
+    (λ c κs. search needs)
+    (λ c. search needs)
     returns)

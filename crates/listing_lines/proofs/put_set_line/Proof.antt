@@ -9,16 +9,24 @@ use Rattle.listing_lines.proofs.put_set_line.Statement.{statement}
 use Rattle.listing_lines.proofs.put_set_line.Tie as tie
 
 returns : tie.Need-returns
-returns c = (c .before .before .before .before .pre, behind-is [] (setLine (c .before .before .before .before .args .word .now) (c .before .before .before .before .args .text .now)) (c .before .before .before .before .args .out .now) (c .before .before .before .before .args .out .now) (c .before .before .before .before .args .front) (c .before .before .before .before .args .front) (unset-line (c .before .before .before .before .args .word .now) (c .before .before .before .before .args .text .now) (c .if1 .taken)) (behind-none (c .before .before .before .before .args .out .now) (c .before .before .before .before .args .front)))
-
-put-line-requires : tie.Need-put-line-requires
-put-line-requires c κs = search needs
-
-same-length : tie.Need-same-length
-same-length c = search needs
+returns c =
+    let pre = c .before .before .before .before .pre in
+    let entry = c .before .before .before .before .args in (
+      pre,
+      behind-is [] (setLine (entry .word .now) (entry .text .now)) (entry .out .now) (entry .out .now) (entry .front) (entry .front)
+          (unset-line (entry .word .now) (entry .text .now) (c .if1 .taken)) (behind-none (entry .out .now) (entry .front)),
+    )
 
 returns-2 : tie.Need-returns-2
-returns-2 c = (c .before .before .put-line .ensures .0, behind-is (lineOf (c .before .before .before .before .before .before .before .before .args .word .now) (escaped (c .before .before .before .before .before .before .before .before .args .text .now))) (setLine (c .before .before .before .before .before .before .before .before .args .word .now) (c .before .before .before .before .before .before .before .before .args .text .now)) (c .before .before .before .before .before .before .before .before .args .out .now) (c .before .before .put-line .last .0) (c .before .before .before .before .before .before .before .before .args .front) (c .before .before .put-line .result) (set-line (c .before .before .before .before .before .before .before .before .args .word .now) (c .before .before .before .before .before .before .before .before .args .text .now) (omega (arith, c .before .before .before .before .if1 .left))) (c .before .before .put-line .ensures .1))
+returns-2 c =
+    let entry = c .before .before .before .before .before .before .before .before .args in
+    let if1 = c .before .before .before .before .if1 in
+    let put-line = c .before .before .put-line in (
+      put-line .ensures .0,
+      behind-is (lineOf (entry .word .now) (escaped (entry .text .now))) (setLine (entry .word .now) (entry .text .now)) (entry .out .now)
+          (put-line .last .0) (entry .front) (put-line .result)
+          (set-line (entry .word .now) (entry .text .now) (omega (arith, if1 .left))) (put-line .ensures .1),
+    )
 
 pub put-set-line-spec : {M : Type 1} → statement M
-put-set-line-spec = tie.close (tie.spec returns put-line-requires same-length returns-2)
+put-set-line-spec = tie.close (tie.spec returns (λ c κs. search needs) (λ c. search needs) returns-2)

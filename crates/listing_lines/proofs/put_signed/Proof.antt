@@ -11,43 +11,42 @@ use borrow.Author.Needs.{needs}
 use Rattle.listing_lines.proofs.put_signed.Statement.{statement}
 use Rattle.listing_lines.proofs.put_signed.Tie as tie
 
-put-decimal-requires : tie.Need-put-decimal-requires
-put-decimal-requires c κs = search needs
-
-same-length : tie.Need-same-length
-same-length c = search needs
-
 returns : tie.Need-returns
-returns c = (c .before .before .put-decimal .ensures .0, behind-is (decimal (c .before .before .before .before .before .before .args .n)) (signed (c .before .before .before .before .before .before .args .n)) (c .before .before .before .before .before .before .args .out .now) (c .before .before .put-decimal .last .0) (c .before .before .before .before .before .before .args .front) (c .before .before .put-decimal .result) (signed-low (c .before .before .before .before .before .before .args .n) (c .before .before .before .before .if1 .taken)) (c .before .before .put-decimal .ensures .1))
-
-put-byte-requires : tie.Need-put-byte-requires
-put-byte-requires c κs = search needs
-
-sub-put-decimal : tie.Need-sub-put-decimal
-sub-put-decimal c = search needs
-
-add-put-decimal : tie.Need-add-put-decimal
-add-put-decimal c = search needs
-
-put-decimal-requires-2 : tie.Need-put-decimal-requires-2
-put-decimal-requires-2 c κs = search needs
-
-same-length-2 : tie.Need-same-length-2
-same-length-2 c = search needs
+returns c =
+    let entry = c .before .before .before .before .before .before .args in
+    let if1 = c .before .before .before .before .if1 in
+    let put-decimal = c .before .before .put-decimal in (
+      put-decimal .ensures .0,
+      behind-is (decimal (entry .n)) (signed (entry .n)) (entry .out .now) (put-decimal .last .0) (entry .front) (put-decimal .result)
+          (signed-low (entry .n) (if1 .taken)) (put-decimal .ensures .1),
+    )
 
 returns-2 : tie.Need-returns-2
-returns-2 c = let n = c .before .before .before .before .before .before .before .before .before .before .args .n in let e : 4294967295 - n + 1 ≡ 4294967296 - n = omega (arith, c .before .before .before .before .before .before .before .before .if1 .left, c .before .before .before .before .before .before .before .before .before .before .fits) in (c .before .before .put-decimal2 .ensures .0, behind-is (45 ∷ decimal (4294967295 - n + 1)) (signed n) (c .before .before .before .before .before .before .before .before .before .before .args .out .now) (c .before .before .put-decimal2 .last .0) (c .before .before .before .before .before .before .before .before .before .before .args .front) (c .before .before .put-decimal2 .result) (ap (λ (i : ℕ). 45 ∷ decimal i) e ∙ signed-high n (c .before .before .before .before .before .before .before .before .if1 .left)) (behind-both (45 ∷ []) (decimal (4294967295 - n + 1)) (c .before .before .before .before .before .before .before .before .before .before .args .out .now) (c .before .before .before .before .before .before .put-byte .last .0) (c .before .before .put-decimal2 .last .0) (c .before .before .before .before .before .before .before .before .before .before .args .front) (c .before .before .before .before .before .before .put-byte .result) (c .before .before .put-decimal2 .result) (c .before .before .before .before .before .before .put-byte .ensures .1) (c .before .before .put-decimal2 .ensures .1)))
+returns-2 c =
+    let entry = c .before .before .before .before .before .before .before .before .before .before .args in
+    let fits = c .before .before .before .before .before .before .before .before .before .before .fits in
+    let if1 = c .before .before .before .before .before .before .before .before .if1 in
+    let put-byte = c .before .before .before .before .before .before .put-byte in
+    let put-decimal2 = c .before .before .put-decimal2 in
+    let n = entry .n in
+    let e : 4294967295 - n + 1 ≡ 4294967296 - n = omega (arith, if1 .left, fits) in (
+      put-decimal2 .ensures .0,
+      behind-is (45 ∷ decimal (4294967295 - n + 1)) (signed n) (entry .out .now) (put-decimal2 .last .0) (entry .front)
+          (put-decimal2 .result) (ap (λ (i : ℕ). 45 ∷ decimal i) e ∙ signed-high n (if1 .left))
+          (behind-both (45 ∷ []) (decimal (4294967295 - n + 1)) (entry .out .now) (put-byte .last .0) (put-decimal2 .last .0)
+          (entry .front) (put-byte .result) (put-decimal2 .result) (put-byte .ensures .1) (put-decimal2 .ensures .1)),
+    )
 
 pub put-signed-spec : {M : Type 1} → statement M
 put-signed-spec =
     tie.close
     (tie.spec
-    put-decimal-requires
-    same-length
+    (λ c κs. search needs)
+    (λ c. search needs)
     returns
-    put-byte-requires
-    sub-put-decimal
-    add-put-decimal
-    put-decimal-requires-2
-    same-length-2
+    (λ c κs. search needs)
+    (λ c. search needs)
+    (λ c. search needs)
+    (λ c κs. search needs)
+    (λ c. search needs)
     returns-2)

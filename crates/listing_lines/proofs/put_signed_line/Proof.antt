@@ -7,22 +7,19 @@ use borrow.Author.Needs.{needs}
 use Rattle.listing_lines.proofs.put_signed_line.Statement.{statement}
 use Rattle.listing_lines.proofs.put_signed_line.Tie as tie
 
-put-word-requires : tie.Need-put-word-requires
-put-word-requires c κs = search needs
-
-put-signed-requires : tie.Need-put-signed-requires
-put-signed-requires c κs = search needs
-
-put-byte-requires : tie.Need-put-byte-requires
-put-byte-requires c κs = search needs
-
-same-length : tie.Need-same-length
-same-length c = search needs
-
 returns : tie.Need-returns
-returns c = (c .before .before .put-byte .ensures .0, line-behind (c .before .before .before .before .before .before .before .before .before .before .before .before .before .before .args .word .now) (signed (c .before .before .before .before .before .before .before .before .before .before .before .before .before .before .args .n)) (c .before .before .before .before .before .before .before .before .before .before .before .before .before .before .args .out .now) (c .before .before .before .before .before .before .before .before .before .before .put-word .last .0) (c .before .before .before .before .before .before .put-signed .last .0) (c .before .before .put-byte .last .0) (c .before .before .before .before .before .before .before .before .before .before .before .before .before .before .args .front) (c .before .before .before .before .before .before .before .before .before .before .put-word .result) (c .before .before .before .before .before .before .put-signed .result) (c .before .before .put-byte .result) (c .before .before .before .before .before .before .before .before .before .before .put-word .ensures .1) (c .before .before .before .before .before .before .put-signed .ensures .1) (c .before .before .put-byte .ensures .1))
+returns c =
+    let entry = c .before .before .before .before .before .before .before .before .before .before .before .before .before .before .args in
+    let put-word = c .before .before .before .before .before .before .before .before .before .before .put-word in
+    let put-signed = c .before .before .before .before .before .before .put-signed in
+    let put-byte = c .before .before .put-byte in (
+      put-byte .ensures .0,
+      line-behind (entry .word .now) (signed (entry .n)) (entry .out .now) (put-word .last .0) (put-signed .last .0) (put-byte .last .0)
+          (entry .front) (put-word .result) (put-signed .result) (put-byte .result) (put-word .ensures .1) (put-signed .ensures .1)
+          (put-byte .ensures .1),
+    )
 
 pub put-signed-line-spec : {M : Type 1} → statement M
 put-signed-line-spec =
     tie.close
-    (tie.spec put-word-requires put-signed-requires put-byte-requires same-length returns)
+    (tie.spec (λ c κs. search needs) (λ c κs. search needs) (λ c κs. search needs) (λ c. search needs) returns)

@@ -10,52 +10,49 @@ use Rattle.listing_rows.proofs.put_entry.Tie as tie
 enum-told : tie.Need-enum-told
 enum-told c = search needs
 
-put-line-requires : tie.Need-put-line-requires
-put-line-requires c κs = search needs
-
-enum-told-2 : tie.Need-enum-told-2
-enum-told-2 c = search needs
-
-put-property-line-requires : tie.Need-put-property-line-requires
-put-property-line-requires c κs = search needs
-
-enum-told-3 : tie.Need-enum-told-3
-enum-told-3 c = search needs
-
-put-line-requires-2 : tie.Need-put-line-requires-2
-put-line-requires-2 c κs = search needs
-
-same-length : tie.Need-same-length
-same-length c = search needs
-
 returns : tie.Need-returns
-returns c = (c .before .before .put-line .ensures .0, line-of (c .before .before .before .before .before .before .before .before .before .before .args .kind) Text (c .before .before .before .before .before .before .before .before .before .before .args .word .now) (c .before .before .before .before .before .before .before .before .before .before .args .name .now) (c .before .before .before .before .before .before .before .before .before .before .args .rest .now) (c .before .before .before .before .enum-told .given .1) (c .before .before .before .before .before .before .before .before .before .before .args .out .now) (c .before .before .put-line .last .0) (c .before .before .before .before .before .before .before .before .before .before .args .front) (c .before .before .put-line .result) (c .before .before .put-line .ensures .1))
-
-same-length-2 : tie.Need-same-length-2
-same-length-2 c = search needs
+returns c =
+    let entry = c .before .before .before .before .before .before .before .before .before .before .args in
+    let enum-told = c .before .before .before .before .enum-told in
+    let put-line = c .before .before .put-line in (
+      put-line .ensures .0,
+      line-of (entry .kind) Text (entry .word .now) (entry .name .now) (entry .rest .now) (enum-told .given .1) (entry .out .now)
+          (put-line .last .0) (entry .front) (put-line .result) (put-line .ensures .1),
+    )
 
 returns-2 : tie.Need-returns-2
-returns-2 c = (c .before .before .put-property-line .ensures .0, line-of (c .before .before .before .before .before .before .before .before .before .before .args .kind) Property (c .before .before .before .before .before .before .before .before .before .before .args .word .now) (c .before .before .before .before .before .before .before .before .before .before .args .name .now) (c .before .before .before .before .before .before .before .before .before .before .args .rest .now) (c .before .before .before .before .enum-told2 .given .1) (c .before .before .before .before .before .before .before .before .before .before .args .out .now) (c .before .before .put-property-line .last .0) (c .before .before .before .before .before .before .before .before .before .before .args .front) (c .before .before .put-property-line .result) (c .before .before .put-property-line .ensures .1))
-
-same-length-3 : tie.Need-same-length-3
-same-length-3 c = search needs
+returns-2 c =
+    let entry = c .before .before .before .before .before .before .before .before .before .before .args in
+    let enum-told2 = c .before .before .before .before .enum-told2 in
+    let put-property-line = c .before .before .put-property-line in (
+      put-property-line .ensures .0,
+      line-of (entry .kind) Property (entry .word .now) (entry .name .now) (entry .rest .now) (enum-told2 .given .1) (entry .out .now)
+          (put-property-line .last .0) (entry .front) (put-property-line .result) (put-property-line .ensures .1),
+    )
 
 returns-3 : tie.Need-returns-3
-returns-3 c = (c .before .before .put-line2 .ensures .0, line-of (c .before .before .before .before .before .before .before .before .before .before .args .kind) Run (c .before .before .before .before .before .before .before .before .before .before .args .word .now) (c .before .before .before .before .before .before .before .before .before .before .args .name .now) (c .before .before .before .before .before .before .before .before .before .before .args .rest .now) (c .before .before .before .before .enum-told3 .given .1) (c .before .before .before .before .before .before .before .before .before .before .args .out .now) (c .before .before .put-line2 .last .0) (c .before .before .before .before .before .before .before .before .before .before .args .front) (c .before .before .put-line2 .result) (c .before .before .put-line2 .ensures .1))
+returns-3 c =
+    let entry = c .before .before .before .before .before .before .before .before .before .before .args in
+    let enum-told3 = c .before .before .before .before .enum-told3 in
+    let put-line2 = c .before .before .put-line2 in (
+      put-line2 .ensures .0,
+      line-of (entry .kind) Run (entry .word .now) (entry .name .now) (entry .rest .now) (enum-told3 .given .1) (entry .out .now)
+          (put-line2 .last .0) (entry .front) (put-line2 .result) (put-line2 .ensures .1),
+    )
 
 pub put-entry-spec : {M : Type 1} → statement M
 put-entry-spec =
     tie.close
     (tie.spec
     enum-told
-    put-line-requires
-    enum-told-2
-    put-property-line-requires
-    enum-told-3
-    put-line-requires-2
-    same-length
+    (λ c κs. search needs)
+    (λ c. search needs)
+    (λ c κs. search needs)
+    (λ c. search needs)
+    (λ c κs. search needs)
+    (λ c. search needs)
     returns
-    same-length-2
+    (λ c. search needs)
     returns-2
-    same-length-3
+    (λ c. search needs)
     returns-3)

@@ -19,18 +19,28 @@ returns c =
 
 returns-3 : tie.Need-returns-3
 returns-3 c =
-    let args = c .before .before .before .before .args in
-    (no-letter (args .template .now) (args .at) (c .before .before .byte-at .ensures) (c .before .match .rest .1) (λ h l. omega arith) (λ h l. omega arith), tt)
+    let entry = c .before .before .before .before .args in
+    let byte-at = c .before .before .byte-at in
+    let args = entry in (
+      no-letter (args .template .now) (args .at) (byte-at .ensures) (c .before .match .rest .1) (λ h l. omega arith) (λ h l. omega arith),
+      tt,
+    )
 
 returns-4 : tie.Need-returns-4
 returns-4 c =
-    let args = c .before .before .before .before .before .before .args in
-    (no-letter (args .template .now) (args .at) (c .before .before .before .before .byte-at .ensures) (c .before .before .before .match .rest .1) (λ h l. omega arith) (λ h l. omega arith), tt)
+    let entry = c .before .before .before .before .before .before .args in
+    let byte-at = c .before .before .before .before .byte-at in
+    let match = c .before .before .before .match in
+    let args = entry in
+    (no-letter (args .template .now) (args .at) (byte-at .ensures) (match .rest .1) (λ h l. omega arith) (λ h l. omega arith), tt)
 
 returns-5 : tie.Need-returns-5
 returns-5 c =
-    let args = c .before .before .before .before .before .before .before .args in
-    (no-letter (args .template .now) (args .at) (c .before .before .before .before .before .byte-at .ensures) (c .before .before .before .before .match .rest .1) (λ h l. omega arith) (λ h l. omega arith), tt)
+    let entry = c .before .before .before .before .before .before .before .args in
+    let byte-at = c .before .before .before .before .before .byte-at in
+    let match = c .before .before .before .before .match in
+    let args = entry in
+    (no-letter (args .template .now) (args .at) (byte-at .ensures) (match .rest .1) (λ h l. omega arith) (λ h l. omega arith), tt)
 
 pub after-percent-spec : {M : Type 1} → statement M
 after-percent-spec =

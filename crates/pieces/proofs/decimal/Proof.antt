@@ -16,9 +16,6 @@ abbrev μ-loop : tie.MeasureT-loop
 loop-holds : tie.Need-loop-holds Inv-loop μ-loop
 loop-holds c = writing-begins (c .args .n) _ refl (c .fits .n .fits)
 
-digit-requires : tie.Need-digit-requires Inv-loop μ-loop
-digit-requires c κs = omega arith
-
 array-write-digits : tie.Need-array-write-digits Inv-loop μ-loop
 array-write-digits c =
     let loop = c .before .before .loop in
@@ -26,19 +23,18 @@ array-write-digits c =
 
 sub-start : tie.Need-sub-start Inv-loop μ-loop
 sub-start c =
-    let loop = c .before .before .loop in
-    omega (arith, places-left (c .before .before .before .args .n) (loop .digits) (loop .start) (loop .m) 0 (loop .inv) (c .before .loop-test .taken))
-
-loop-less : tie.Need-loop-less Inv-loop μ-loop
-loop-less c = omega arith
+    let entry = c .before .before .before .args in
+    let loop-call = c .before .before .loop in
+    let loop = loop-call in
+    omega (arith, places-left (entry .n) (loop .digits) (loop .start) (loop .m) 0 (loop .inv) (c .before .loop-test .taken))
 
 loop-again : tie.Need-loop-again Inv-loop μ-loop
 loop-again c =
-    let loop = c .before .before .loop in
-    writing-on (c .before .before .before .args .n) (loop .digits) (loop .start) (loop .m) (c .digit .result) (loop .inv) (c .before .loop-test .taken) (c .digit .ensures)
-
-digit-requires-2 : tie.Need-digit-requires-2 Inv-loop μ-loop
-digit-requires-2 c κs = omega arith
+    let entry = c .before .before .before .args in
+    let loop-call = c .before .before .loop in
+    let loop = loop-call in
+    writing-on (entry .n) (loop .digits) (loop .start) (loop .m) (c .digit .result) (loop .inv) (c .before .loop-test .taken)
+    (c .digit .ensures)
 
 array-write-digits-2 : tie.Need-array-write-digits-2 Inv-loop μ-loop
 array-write-digits-2 c =
@@ -47,8 +43,11 @@ array-write-digits-2 c =
 
 returns : tie.Need-returns Inv-loop μ-loop
 returns c =
-    let loop = c .before .before .loop in
-    record { same = writing-ends (c .before .before .before .args .n) (loop .digits) (loop .start) (loop .m) (c .digit2 .result) (loop .inv) (c .before .loop-test .left) (c .digit2 .ensures); inside = loop .inv .inside; size = length-set (loop .digits) (loop .start) (c .digit2 .result) ∙ loop .inv .size }
+    let entry = c .before .before .before .args in
+    let loop-call = c .before .before .loop in
+    let loop = loop-call in
+    record
+    { same = writing-ends (entry .n) (loop .digits) (loop .start) (loop .m) (c .digit2 .result) (loop .inv) (c .before .loop-test .left) (c .digit2 .ensures); inside = loop .inv .inside; size = length-set (loop .digits) (loop .start) (c .digit2 .result) ∙ loop .inv .size }
 
 pub decimal-spec : {M : Type 1} → statement M
 decimal-spec =
@@ -57,11 +56,11 @@ decimal-spec =
     Inv-loop
     μ-loop
     loop-holds
-    digit-requires
+    (λ c κs. omega arith)
     array-write-digits
     sub-start
-    loop-less
+    (λ c. omega arith)
     loop-again
-    digit-requires-2
+    (λ c κs. omega arith)
     array-write-digits-2
     returns)

@@ -37,15 +37,23 @@ returns-4 c =
 
 returns-5 : tie.Need-returns-5
 returns-5 c =
-    let args = c .before .before .before .before .args in
-    let here = sym (c .before .before .byte-at .ensures) ∙ c .before .match .keys5 in
-    (c .attr-at .ensures .0 ∙ sym (letter-s (args .template .now) (args .at) here), behind (args .template .now) (args .at) 1 (c .attr-at .result) (c .attr-at .ensures .1))
+    let entry = c .before .before .before .before .args in
+    let byte-at = c .before .before .byte-at in
+    let args = entry in
+    let here = sym (byte-at .ensures) ∙ c .before .match .keys5 in (
+      c .attr-at .ensures .0 ∙ sym (letter-s (args .template .now) (args .at) here),
+      behind (args .template .now) (args .at) 1 (c .attr-at .result) (c .attr-at .ensures .1),
+    )
 
 returns-6 : tie.Need-returns-6
 returns-6 c =
-    let args = c .before .before .before .before .args in
-    let here = sym (c .before .before .byte-at .ensures) ∙ c .before .match .keys6 in
-    (c .env-at .ensures .0 ∙ sym (letter-E (args .template .now) (args .at) here), behind (args .template .now) (args .at) 1 (c .env-at .result) (c .env-at .ensures .1))
+    let entry = c .before .before .before .before .args in
+    let byte-at = c .before .before .byte-at in
+    let args = entry in
+    let here = sym (byte-at .ensures) ∙ c .before .match .keys6 in (
+      c .env-at .ensures .0 ∙ sym (letter-E (args .template .now) (args .at) here),
+      behind (args .template .now) (args .at) 1 (c .env-at .result) (c .env-at .ensures .1),
+    )
 
 returns-7 : tie.Need-returns-7
 unfolding letters nameIn starts bytes
@@ -61,11 +69,16 @@ returns-8 c =
 
 returns-9 : tie.Need-returns-9
 returns-9 c =
-    let entry = c .before .before .before in
+    let before = c .before .before .before in
+    let entry = before in
     let args = entry .args in
     let byte = c .before .byte-at .ensures in
-    let rest = c .match .rest in
-    (letter-none (args .template .now) (args .at) byte (λ e. entry .pre .1 (sym byte ∙ e)) (rest .0 .0 .0 .0 .0 .0 .0 .1) (rest .0 .0 .0 .0 .0 .0 .1) (rest .0 .0 .0 .0 .0 .1) (rest .0 .0 .0 .0 .1) (rest .0 .0 .0 .1) (rest .0 .0 .1) (rest .0 .1) (rest .1), tt)
+    let rest = c .match .rest in (
+      letter-none (args .template .now) (args .at) byte (λ e. entry .pre .1 (sym byte ∙ e)) (rest .0 .0 .0 .0 .0 .0 .0 .1)
+          (rest .0 .0 .0 .0 .0 .0 .1) (rest .0 .0 .0 .0 .0 .1) (rest .0 .0 .0 .0 .1) (rest .0 .0 .0 .1) (rest .0 .0 .1) (rest .0 .1)
+          (rest .1),
+      tt,
+    )
 
 pub letter-at-spec : {M : Type 1} → statement M
 letter-at-spec =

@@ -23,52 +23,58 @@ loop-holds : tie.Need-loop-holds Inv-loop μ-loop
 unfolding wellFormed
 loop-holds c = (omega arith, refl)
 
-written-end-requires : tie.Need-written-end-requires Inv-loop μ-loop
-written-end-requires c κs = omega arith
-
-piece-at-requires : tie.Need-piece-at-requires Inv-loop μ-loop
-piece-at-requires c κs = search needs
-
-enum-known-next : tie.Need-enum-known-next Inv-loop μ-loop
-enum-known-next c = search needs
-
 loop-less : tie.Need-loop-less Inv-loop μ-loop
 loop-less c =
-    let args = c .before .before .before .before .before .before .before .args in
-    let written-end = c .before .before .before .before .written-end in
+    let entry = c .before .before .before .before .before .before .before .args in
+    let written-end-call = c .before .before .before .before .written-end in
+    let piece-at = c .before .before .before .piece-at in
+    let args = entry in
+    let written-end = written-end-call in
     let g = c .before .next .given .0 in
-    let w : Ahead (g .0) (g .1 .0) (args .template .now) (written-end .result) = rw (c .before .next .given .1) at (c .before .before .before .piece-at .ensures .1) in
+    let w : Ahead (g .0) (g .1 .0) (args .template .now) (written-end .result) = rw (c .before .next .given .1) at (piece-at .ensures .1) in
     omega (arith, w .forward, w .inside, written-end .ensures .from)
 
 loop-again : tie.Need-loop-again Inv-loop μ-loop
 loop-again c =
-    let args = c .before .before .before .before .before .before .before .args in
-    let written-end = c .before .before .before .before .written-end in
-    let piece-at = c .before .before .before .piece-at in
+    let entry = c .before .before .before .before .before .before .before .args in
+    let loop = c .before .before .before .before .before .loop in
+    let written-end-call = c .before .before .before .before .written-end in
+    let piece-at-call = c .before .before .before .piece-at in
+    let args = entry in
+    let written-end = written-end-call in
+    let piece-at = piece-at-call in
     let g = c .before .next .given .0 in
     let w : Ahead (g .0) (g .1 .0) (args .template .now) (written-end .result) = rw (c .before .next .given .1) at (piece-at .ensures .1) in
-    let e : told (Read (g .0) (g .1 .0)) (args .template .now) ≡ readAt (args .template .now) (written-end .result) = rw (c .before .next .given .1) at (piece-at .ensures .0) in
-    (w .inside, some-behind (args .template .now) (written-end .result) (meaning (g .0) (args .template .now)) (g .1 .0) (sym e) ∙ written-end .ensures .same ∙ c .before .before .before .before .before .loop .inv .1)
-
-enum-told : tie.Need-enum-told Inv-loop μ-loop
-enum-told c = search needs
+    let e : told (Read (g .0) (g .1 .0)) (args .template .now) ≡ readAt (args .template .now) (written-end .result) =
+    rw (c .before .next .given .1) at (piece-at .ensures .0) in (
+      w .inside,
+      some-behind (args .template .now) (written-end .result) (meaning (g .0) (args .template .now)) (g .1 .0) (sym e) ∙
+          written-end .ensures .same ∙ loop .inv .1,
+    )
 
 returns : tie.Need-returns Inv-loop μ-loop
 returns c =
-    let args = c .before .before .before .before .before .before .args in
-    let written-end = c .before .before .before .written-end in
-    let e : told End (args .template .now) ≡ readAt (args .template .now) (written-end .result) = rw (c .enum-told .given .1) at (c .before .before .piece-at .ensures .0) in
-    sym (ap isSome (reads-end (args .template .now) (written-end .result) (sym e))) ∙ written-end .ensures .same ∙ c .before .before .before .before .loop .inv .1
-
-enum-told-2 : tie.Need-enum-told-2 Inv-loop μ-loop
-enum-told-2 c = search needs
+    let entry = c .before .before .before .before .before .before .args in
+    let loop = c .before .before .before .before .loop in
+    let written-end-call = c .before .before .before .written-end in
+    let piece-at = c .before .before .piece-at in
+    let args = entry in
+    let written-end = written-end-call in
+    let e : told End (args .template .now) ≡ readAt (args .template .now) (written-end .result) =
+    rw (c .enum-told .given .1) at (piece-at .ensures .0) in
+    sym (ap isSome (reads-end (args .template .now) (written-end .result) (sym e))) ∙ written-end .ensures .same ∙ loop .inv .1
 
 returns-2 : tie.Need-returns-2 Inv-loop μ-loop
 returns-2 c =
-    let args = c .before .before .before .before .before .before .args in
-    let written-end = c .before .before .before .written-end in
-    let e : told Fault (args .template .now) ≡ readAt (args .template .now) (written-end .result) = rw (c .enum-told2 .given .1) at (c .before .before .piece-at .ensures .0) in
-    sym (ap isSome (reads-fault (args .template .now) (written-end .result) (sym e))) ∙ written-end .ensures .same ∙ c .before .before .before .before .loop .inv .1
+    let entry = c .before .before .before .before .before .before .args in
+    let loop = c .before .before .before .before .loop in
+    let written-end-call = c .before .before .before .written-end in
+    let piece-at = c .before .before .piece-at in
+    let args = entry in
+    let written-end = written-end-call in
+    let e : told Fault (args .template .now) ≡ readAt (args .template .now) (written-end .result) =
+    rw (c .enum-told2 .given .1) at (piece-at .ensures .0) in
+    sym (ap isSome (reads-fault (args .template .now) (written-end .result) (sym e))) ∙ written-end .ensures .same ∙ loop .inv .1
 
 pub well-formed-spec : {M : Type 1} → statement M
 well-formed-spec =
@@ -77,12 +83,12 @@ well-formed-spec =
     Inv-loop
     μ-loop
     loop-holds
-    written-end-requires
-    piece-at-requires
-    enum-known-next
+    (λ c κs. omega arith)
+    (λ c κs. search needs)
+    (λ c. search needs)
     loop-less
     loop-again
-    enum-told
+    (λ c. search needs)
     returns
-    enum-told-2
+    (λ c. search needs)
     returns-2)

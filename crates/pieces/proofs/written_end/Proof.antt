@@ -19,24 +19,20 @@ abbrev μ-loop : tie.MeasureT-loop
 loop-holds : tie.Need-loop-holds Inv-loop μ-loop
 loop-holds c = record { from = omega arith; within = c .pre; same = refl }
 
-shared-slice-read-if1 : tie.Need-shared-slice-read-if1 Inv-loop μ-loop
-shared-slice-read-if1 c = omega arith
-
 returns : tie.Need-returns Inv-loop μ-loop
-returns c = c .before .before .before .before .loop .inv
-
-add-i : tie.Need-add-i Inv-loop μ-loop
-add-i c = omega arith
-
-loop-less : tie.Need-loop-less Inv-loop μ-loop
-loop-less c = omega arith
+returns c =
+    let loop = c .before .before .before .before .loop in
+    loop .inv
 
 loop-again : tie.Need-loop-again Inv-loop μ-loop
 loop-again c =
-    let args = c .before .before .before .before .args in
-    let loop = c .before .before .before .loop in
+    let entry = c .before .before .before .before .args in
+    let loop-call = c .before .before .before .loop in
+    let args = entry in
+    let loop = loop-call in
     let on = written-on (args .template .now) (args .at) (loop .i) (loop .inv) (omega arith) in
-    ⊎-elim (λ w. on (λ e. omega (arith, w .taken)) (λ e. omega (arith, w .taken))) (λ w. on (λ e. omega (arith, w .1 .left)) (λ e. omega (arith, w .1 .left))) (c .if1 .came)
+    ⊎-elim (λ w. on (λ e. omega (arith, w .taken)) (λ e. omega (arith, w .taken)))
+    (λ w. on (λ e. omega (arith, w .1 .left)) (λ e. omega (arith, w .1 .left))) (c .if1 .came)
 
 returns-2 : tie.Need-returns-2 Inv-loop μ-loop
 returns-2 c = c .before .loop .inv
@@ -48,9 +44,9 @@ written-end-spec =
     Inv-loop
     μ-loop
     loop-holds
-    shared-slice-read-if1
+    (λ c. omega arith)
     returns
-    add-i
-    loop-less
+    (λ c. omega arith)
+    (λ c. omega arith)
     loop-again
     returns-2)

@@ -33,106 +33,181 @@ loop-holds c = (c .before .before .before .pre .0, refl, λ d ps rs b r. record 
 
 run-at-requires : tie.Need-run-at-requires Inv-loop μ-loop
 run-at-requires c κs =
-    let pre = c .before .before .before .before .before .pre in
+    let pre-call = c .before .before .before .before .before .pre in
+    let entry = c .before .before .before .before .before .args in
+    let pre = pre-call in
     let loop = c .before .loop in
     let x = loop .inv .2 (pre .1 .0) (pre .1 .1) (pre .1 .2) (pre .1 .3) (pre .1 .4) in
-    runs-from (c .before .before .before .before .before .args .rec .now) (loop .p) (loop .left) (pre .1 .0) (x .others) (x .stand) (c .loop-test .taken)
+    runs-from (entry .rec .now) (loop .p) (loop .left) (pre .1 .0) (x .others) (x .stand) (c .loop-test .taken)
 
 places-of-requires : tie.Need-places-of-requires Inv-loop μ-loop
 places-of-requires c κs =
-    let pre = c .before .before .before .before .before .before .pre in
-    let args = c .before .before .before .before .before .before .args in
-    let loop = c .before .before .loop in
+    let pre-call = c .before .before .before .before .before .before .pre in
+    let entry = c .before .before .before .before .before .before .args in
+    let shared-slice-known2 = c .before .before .before .shared-slice-known2 in
+    let loop-call = c .before .before .loop in
+    let pre = pre-call in
+    let args = entry in
+    let loop = loop-call in
     let run-at = c .run-at in
     let x = loop .inv .2 (pre .1 .0) (pre .1 .1) (pre .1 .2) (pre .1 .3) (pre .1 .4) in
-    let h = runs-here (args .rec .now) (loop .p) (loop .left) (pre .1 .0) (x .others) (run-at .result) (λ i. c .before .before .before .shared-slice-known2 .given i .fits) (x .stand) (c .before .loop-test .taken) (run-at .ensures) in
+    let h =
+    runs-here (args .rec .now) (loop .p) (loop .left) (pre .1 .0) (x .others) (run-at .result) (λ i. shared-slice-known2 .given i .fits)
+    (x .stand) (c .before .loop-test .taken) (run-at .ensures) in
     omega (arith, h .few, h .is .device, chain-few (args .dev .now) (pre .1 .0) (pre .1 .3 .device))
 
 sub-put-command : tie.Need-sub-put-command Inv-loop μ-loop
 sub-put-command c =
-    let pre = c .before .before .before .before .before .before .before .before .pre in
-    let loop = c .before .before .before .before .loop in
-    let run-at = c .before .before .run-at in
+    let pre-call = c .before .before .before .before .before .before .before .before .pre in
+    let entry = c .before .before .before .before .before .before .before .before .args in
+    let shared-slice-known2 = c .before .before .before .before .before .shared-slice-known2 in
+    let loop-call = c .before .before .before .before .loop in
+    let loop-test = c .before .before .before .loop-test in
+    let run-at-call = c .before .before .run-at in
+    let pre = pre-call in
+    let loop = loop-call in
+    let run-at = run-at-call in
     let x = loop .inv .2 (pre .1 .0) (pre .1 .1) (pre .1 .2) (pre .1 .3) (pre .1 .4) in
-    let h = runs-here (c .before .before .before .before .before .before .before .before .args .rec .now) (loop .p) (loop .left) (pre .1 .0) (x .others) (run-at .result) (λ i. c .before .before .before .before .before .shared-slice-known2 .given i .fits) (x .stand) (c .before .before .before .loop-test .taken) (run-at .ensures) in
+    let h =
+    runs-here (entry .rec .now) (loop .p) (loop .left) (pre .1 .0) (x .others) (run-at .result)
+    (λ i. shared-slice-known2 .given i .fits) (x .stand) (loop-test .taken) (run-at .ensures) in
     omega (arith, h .is .rising)
 
 part-put-command-start : tie.Need-part-put-command-start Inv-loop μ-loop
 part-put-command-start c =
-    let pre = c .before .before .before .before .before .before .before .before .pre in
-    let loop = c .before .before .before .before .loop in
-    let run-at = c .before .before .run-at in
+    let pre-call = c .before .before .before .before .before .before .before .before .pre in
+    let entry = c .before .before .before .before .before .before .before .before .args in
+    let shared-slice-known2 = c .before .before .before .before .before .shared-slice-known2 in
+    let loop-call = c .before .before .before .before .loop in
+    let loop-test = c .before .before .before .loop-test in
+    let run-at-call = c .before .before .run-at in
+    let pre = pre-call in
+    let loop = loop-call in
+    let run-at = run-at-call in
     let x = loop .inv .2 (pre .1 .0) (pre .1 .1) (pre .1 .2) (pre .1 .3) (pre .1 .4) in
-    let h = runs-here (c .before .before .before .before .before .before .before .before .args .rec .now) (loop .p) (loop .left) (pre .1 .0) (x .others) (run-at .result) (λ i. c .before .before .before .before .before .shared-slice-known2 .given i .fits) (x .stand) (c .before .before .before .loop-test .taken) (run-at .ensures) in
+    let h =
+    runs-here (entry .rec .now) (loop .p) (loop .left) (pre .1 .0) (x .others) (run-at .result)
+    (λ i. shared-slice-known2 .given i .fits) (x .stand) (loop-test .taken) (run-at .ensures) in
     omega (arith, h .is .rising)
 
 part-put-command-end : tie.Need-part-put-command-end Inv-loop μ-loop
 part-put-command-end c =
-    let pre = c .before .before .before .before .before .before .before .before .pre in
-    let loop = c .before .before .before .before .loop in
-    let run-at = c .before .before .run-at in
+    let pre-call = c .before .before .before .before .before .before .before .before .pre in
+    let entry = c .before .before .before .before .before .before .before .before .args in
+    let shared-slice-known2 = c .before .before .before .before .before .shared-slice-known2 in
+    let loop-call = c .before .before .before .before .loop in
+    let loop-test = c .before .before .before .loop-test in
+    let run-at-call = c .before .before .run-at in
+    let pre = pre-call in
+    let loop = loop-call in
+    let run-at = run-at-call in
     let x = loop .inv .2 (pre .1 .0) (pre .1 .1) (pre .1 .2) (pre .1 .3) (pre .1 .4) in
-    let h = runs-here (c .before .before .before .before .before .before .before .before .args .rec .now) (loop .p) (loop .left) (pre .1 .0) (x .others) (run-at .result) (λ i. c .before .before .before .before .before .shared-slice-known2 .given i .fits) (x .stand) (c .before .before .before .loop-test .taken) (run-at .ensures) in
+    let h =
+    runs-here (entry .rec .now) (loop .p) (loop .left) (pre .1 .0) (x .others) (run-at .result)
+    (λ i. shared-slice-known2 .given i .fits) (x .stand) (loop-test .taken) (run-at .ensures) in
     omega (arith, h .is .inside)
 
 put-command-requires : tie.Need-put-command-requires Inv-loop μ-loop
 put-command-requires c κs =
-    let pre = c .before .before .before .before .before .before .before .before .before .pre in
-    let args = c .before .before .before .before .before .before .before .before .before .args in
-    let loop = c .before .before .before .before .before .loop in
-    let run-at = c .before .before .before .run-at in
-    let places-of = c .before .before .places-of in
+    let pre-call = c .before .before .before .before .before .before .before .before .before .pre in
+    let entry = c .before .before .before .before .before .before .before .before .before .args in
+    let shared-slice-known = c .before .before .before .before .before .before .before .shared-slice-known in
+    let shared-slice-known2 = c .before .before .before .before .before .before .shared-slice-known2 in
+    let loop-call = c .before .before .before .before .before .loop in
+    let loop-test = c .before .before .before .before .loop-test in
+    let run-at-call = c .before .before .before .run-at in
+    let places-of-call = c .before .before .places-of in
+    let pre = pre-call in
+    let args = entry in
+    let loop = loop-call in
+    let run-at = run-at-call in
+    let places-of = places-of-call in
     let x = loop .inv .2 (pre .1 .0) (pre .1 .1) (pre .1 .2) (pre .1 .3) (pre .1 .4) in
-    let h = runs-here (args .rec .now) (loop .p) (loop .left) (pre .1 .0) (x .others) (run-at .result) (λ i. c .before .before .before .before .before .before .shared-slice-known2 .given i .fits) (x .stand) (c .before .before .before .before .loop-test .taken) (run-at .ensures) in
-    (omega (arith, loop .inv .0), ap wellFormed (h .is .template) ∙ h .sound, ((sourceOf (pre .1 .0) (pre .1 .1) (h .run) (h .others)), (here-source (args .dev .now) (args .rec .now) (args .chain) (args .properties) (args .count) (loop .left) (pre .1 .0) (pre .1 .1) (x .others) (run-at .result) (λ i. c .before .before .before .before .before .before .before .shared-slice-known .given i .fits) (pre .1 .3) h (places-of .result) (places-of .ensures))))
-
-enum-known-k : tie.Need-enum-known-k Inv-loop μ-loop
-enum-known-k c = search needs
-
-enum-told : tie.Need-enum-told Inv-loop μ-loop
-enum-told c = search needs
-
-same-length : tie.Need-same-length Inv-loop μ-loop
-same-length c = omega arith
+    let h =
+    runs-here (args .rec .now) (loop .p) (loop .left) (pre .1 .0) (x .others) (run-at .result) (λ i. shared-slice-known2 .given i .fits)
+    (x .stand) (loop-test .taken) (run-at .ensures) in (
+      omega (arith, loop .inv .0),
+      ap wellFormed (h .is .template) ∙ h .sound,
+      (
+        (sourceOf (pre .1 .0) (pre .1 .1) (h .run) (h .others)),
+        (here-source (args .dev .now) (args .rec .now) (args .chain) (args .properties) (args .count) (loop .left) (pre .1 .0)
+            (pre .1 .1) (x .others) (run-at .result) (λ i. shared-slice-known .given i .fits) (pre .1 .3) h (places-of .result)
+            (places-of .ensures)),
+      ),
+    )
 
 returns : tie.Need-returns Inv-loop μ-loop
 returns c =
-    let args = c .before .before .before .before .before .before .before .before .before .before .before .before .before .before .args in
-    let loop = c .before .before .before .before .before .before .before .before .before .before .loop in
-    let run-at = c .before .before .before .before .before .before .before .before .run-at in
-    let places-of = c .before .before .before .before .before .before .before .places-of in
+    let entry = c .before .before .before .before .before .before .before .before .before .before .before .before .before .before .args in
+    let shared-slice-known = c .before .before .before .before .before .before .before .before .before .before .before .before .shared-slice-known in
+    let shared-slice-known2 = c .before .before .before .before .before .before .before .before .before .before .before .shared-slice-known2 in
+    let loop-call = c .before .before .before .before .before .before .before .before .before .before .loop in
+    let loop-test = c .before .before .before .before .before .before .before .before .before .loop-test in
+    let run-at-call = c .before .before .before .before .before .before .before .before .run-at in
+    let places-of-call = c .before .before .before .before .before .before .before .places-of in
+    let put-command = c .before .before .before .before .put-command in
+    let args = entry in
+    let loop = loop-call in
+    let run-at = run-at-call in
+    let places-of = places-of-call in
     λ d ps rs b r.
     let x = loop .inv .2 d ps rs b r in
-    let h = runs-here (args .rec .now) (loop .p) (loop .left) d (x .others) (run-at .result) (λ i. c .before .before .before .before .before .before .before .before .before .before .before .shared-slice-known2 .given i .fits) (x .stand) (c .before .before .before .before .before .before .before .before .before .loop-test .taken) (run-at .ensures) in
-    let m : filled false (sourceOf d ps (h .run) (h .others)) (templateAt (args .rec .now) (loop .left) d ps (x .others) (run-at .result) h) ≡ refused substitution-long = rw (c .enum-told .given .1) at (c .before .before .before .before .put-command .ensures .1 (sourceOf d ps (h .run) (h .others)) (here-source (args .dev .now) (args .rec .now) (args .chain) (args .properties) (args .count) (loop .left) d ps (x .others) (run-at .result) (λ i. c .before .before .before .before .before .before .before .before .before .before .before .before .shared-slice-known .given i .fits) b h (places-of .result) (places-of .ensures))) in
+    let h =
+    runs-here (args .rec .now) (loop .p) (loop .left) d (x .others) (run-at .result) (λ i. shared-slice-known2 .given i .fits)
+    (x .stand) (loop-test .taken) (run-at .ensures) in
+    let m : filled false (sourceOf d ps (h .run) (h .others)) (templateAt (args .rec .now) (loop .left) d ps (x .others) (run-at .result) h) ≡ refused substitution-long =
+    rw (c .enum-told .given .1) at
+    (put-command .ensures .1 (sourceOf d ps (h .run) (h .others))
+    (here-source (args .dev .now) (args .rec .now) (args .chain) (args .properties) (args .count) (loop .left) d ps (x .others)
+    (run-at .result) (λ i. shared-slice-known .given i .fits) b h (places-of .result) (places-of .ensures)))
+    in
     x .leads Full (loop .t) (here-full (args .rec .now) (loop .left) d ps (x .others) (run-at .result) h m)
-
-sub-left : tie.Need-sub-left Inv-loop μ-loop
-sub-left c = omega arith
-
-loop-less : tie.Need-loop-less Inv-loop μ-loop
-loop-less c = omega arith
 
 loop-again : tie.Need-loop-again Inv-loop μ-loop
 loop-again c =
-    let args = c .before .before .before .before .before .before .before .before .before .before .before .before .before .before .before .args in
-    let loop = c .before .before .before .before .before .before .before .before .before .before .before .loop in
-    let run-at = c .before .before .before .before .before .before .before .before .before .run-at in
-    let places-of = c .before .before .before .before .before .before .before .before .places-of in
-    let put-command = c .before .before .before .before .before .put-command in
+    let entry = c .before .before .before .before .before .before .before .before .before .before .before .before .before .before .before .args in
+    let shared-slice-known = c .before .before .before .before .before .before .before .before .before .before .before .before .before .shared-slice-known in
+    let shared-slice-known2 = c .before .before .before .before .before .before .before .before .before .before .before .before .shared-slice-known2 in
+    let loop-call = c .before .before .before .before .before .before .before .before .before .before .before .loop in
+    let loop-test = c .before .before .before .before .before .before .before .before .before .before .loop-test in
+    let run-at-call = c .before .before .before .before .before .before .before .before .before .run-at in
+    let places-of-call = c .before .before .before .before .before .before .before .before .places-of in
+    let put-command-call = c .before .before .before .before .before .put-command in
+    let args = entry in
+    let loop = loop-call in
+    let run-at = run-at-call in
+    let places-of = places-of-call in
+    let put-command = put-command-call in
     let the-k = c .before .k in
-    let few : the-k .given .0 .0 ≤ loop .at + 514 = rw (the-k .given .1) at (put-command .ensures .0) in
-    (omega (arith, loop .inv .0), omega arith, λ d ps rs b r. let x = loop .inv .2 d ps rs b r in let h = runs-here (args .rec .now) (loop .p) (loop .left) d (x .others) (run-at .result) (λ i. c .before .before .before .before .before .before .before .before .before .before .before .before .shared-slice-known2 .given i .fits) (x .stand) (c .before .before .before .before .before .before .before .before .before .before .loop-test .taken) (run-at .ensures) in let m : Made (run-at .result .builtin) (filled false (sourceOf d ps (h .run) (h .others)) (templateAt (args .rec .now) (loop .left) d ps (x .others) (run-at .result) h)) (loop .t) (loop .at) (Done (the-k .given .0 .0)) (put-command .last .0) = rw (the-k .given .1) at (put-command .ensures .1 (sourceOf d ps (h .run) (h .others)) (here-source (args .dev .now) (args .rec .now) (args .chain) (args .properties) (args .count) (loop .left) d ps (x .others) (run-at .result) (λ i. c .before .before .before .before .before .before .before .before .before .before .before .before .before .shared-slice-known .given i .fits) b h (places-of .result) (places-of .ensures))) in record { others = h .others; stand = h .next; leads = λ q l z. x .leads q l (here-leads (args .rec .now) (loop .left) d ps (x .others) (run-at .result) h (loop .t) (put-command .last .0) (loop .at) (the-k .given .0 .0) m q l z) })
-
-same-length-2 : tie.Need-same-length-2 Inv-loop μ-loop
-same-length-2 c = omega arith
+    let few : the-k .given .0 .0 ≤ loop .at + 514 = rw (the-k .given .1) at (put-command .ensures .0) in (
+      omega (arith, loop .inv .0),
+      omega arith,
+      λ d ps rs b r.
+          let x = loop .inv .2 d ps rs b r in
+          let h =
+          runs-here (args .rec .now) (loop .p) (loop .left) d (x .others) (run-at .result) (λ i. shared-slice-known2 .given i .fits)
+          (x .stand) (loop-test .taken) (run-at .ensures) in
+          let m : Made (run-at .result .builtin) (filled false (sourceOf d ps (h .run) (h .others)) (templateAt (args .rec .now) (loop .left) d ps (x .others) (run-at .result) h)) (loop .t) (loop .at) (Done (the-k .given .0 .0)) (put-command .last .0) =
+          rw (the-k .given .1) at
+          (put-command .ensures .1 (sourceOf d ps (h .run) (h .others))
+          (here-source (args .dev .now) (args .rec .now) (args .chain) (args .properties) (args .count) (loop .left) d ps
+          (x .others) (run-at .result) (λ i. shared-slice-known .given i .fits) b h (places-of .result)
+          (places-of .ensures)))
+          in
+          record
+          { others = h .others; stand = h .next; leads = λ q l z. x .leads q l (here-leads (args .rec .now) (loop .left) d ps (x .others) (run-at .result) h (loop .t) (put-command .last .0) (loop .at) (the-k .given .0 .0) m q l z) },
+    )
 
 returns-2 : tie.Need-returns-2 Inv-loop μ-loop
 returns-2 c =
+    let entry = c .before .before .before .before .before .args in
     let loop = c .before .loop in
     λ d ps rs b r.
     let x = loop .inv .2 d ps rs b r in
-    x .leads (Done (loop .at)) (loop .t) (subst (λ (y : List Run). Listed (commands d ps y) (loop .t) (loop .at) (Done (loop .at)) (loop .t)) (sym (runs-none (c .before .before .before .before .before .args .rec .now) (loop .p) (loop .left) d (x .others) (x .stand) (omega arith))) (commands-none d ps (loop .t) (loop .at) (omega (arith, loop .inv .0))))
+    x .leads (Done (loop .at)) (loop .t)
+    (subst (λ (y : List Run). Listed (commands d ps y) (loop .t) (loop .at) (Done (loop .at)) (loop .t))
+    (sym (runs-none (entry .rec .now) (loop .p) (loop .left) d (x .others) (x .stand) (omega arith)))
+    (commands-none d ps (loop .t) (loop .at) (omega (arith, loop .inv .0))))
 
 pub put-runs-spec : {M : Type 1} → statement M
 put-runs-spec =
@@ -147,12 +222,12 @@ put-runs-spec =
     part-put-command-start
     part-put-command-end
     put-command-requires
-    enum-known-k
-    enum-told
-    same-length
+    (λ c. search needs)
+    (λ c. search needs)
+    (λ c. omega arith)
     returns
-    sub-left
-    loop-less
+    (λ c. omega arith)
+    (λ c. omega arith)
     loop-again
-    same-length-2
+    (λ c. omega arith)
     returns-2)

@@ -12,24 +12,15 @@ use Rattle.runner.proofs.behind.Lts as lts
 use Rattle.table.proofs.number_at.Reads as number-at-reads
 
 -- src/lib.rt:43:9
-number-at-requires : tie.Need-number-at-requires
-number-at-requires c κs = search needs
-
 -- src/lib.rt:45:16
-add-result : tie.Need-add-result
-add-result c = search needs
-
 -- src/lib.rt:45:9
 returns : tie.Need-returns
 returns c = rw (eq-eqb _ 0 (sym (c .before .number-at .ensures .0) ∙ c .if1 .taken))
 
 -- src/lib.rt:47:5
-sub-result : tie.Need-sub-result
-sub-result c = search needs
-
 -- src/lib.rt:39:1
 returns-2 : tie.Need-returns-2
 returns-2 c = rw (ne-eqb _ 0 (λ e. c .if1 .left (c .before .number-at .ensures .0 ∙ e)), c .before .number-at .ensures .0)
 
 pub behind-spec : {M : Type 1} → statement M
-behind-spec = tie.close (tie.spec number-at-requires add-result returns sub-result returns-2)
+behind-spec = tie.close (tie.spec (λ c κs. search needs) (λ c. search needs) returns (λ c. search needs) returns-2)

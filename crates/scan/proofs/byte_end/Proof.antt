@@ -18,20 +18,17 @@ abbrev μ-loop : tie.MeasureT-loop
 loop-holds : tie.Need-loop-holds Inv-loop μ-loop
 loop-holds c = run-begins (isNot (c .args .b)) _ _
 
-shared-slice-read-if1 : tie.Need-shared-slice-read-if1 Inv-loop μ-loop
-shared-slice-read-if1 c = omega arith
-
 returns : tie.Need-returns Inv-loop μ-loop
-returns c = run-stops (isNot (c .before .before .before .before .args .b)) _ _ _ (c .before .before .before .loop .inv) (omega arith) (rw (eq-eqb _ _ (c .if1 .taken)))
-
-add-i : tie.Need-add-i Inv-loop μ-loop
-add-i c = omega arith
-
-loop-less : tie.Need-loop-less Inv-loop μ-loop
-loop-less c = omega arith
+returns c =
+    let entry = c .before .before .before .before .args in
+    let loop = c .before .before .before .loop in
+    run-stops (isNot (entry .b)) _ _ _ (loop .inv) (omega arith) (rw (eq-eqb _ _ (c .if1 .taken)))
 
 loop-again : tie.Need-loop-again Inv-loop μ-loop
-loop-again c = run-goes-on (isNot (c .before .before .before .before .args .b)) _ _ _ (c .before .before .before .loop .inv) (omega arith) (rw (ne-eqb _ _ (c .if1 .left)))
+loop-again c =
+    let entry = c .before .before .before .before .args in
+    let loop = c .before .before .before .loop in
+    run-goes-on (isNot (entry .b)) _ _ _ (loop .inv) (omega arith) (rw (ne-eqb _ _ (c .if1 .left)))
 
 returns-2 : tie.Need-returns-2 Inv-loop μ-loop
 returns-2 c = run-out (isNot (c .before .before .args .b)) _ _ _ (c .before .loop .inv) (omega arith)
@@ -43,9 +40,9 @@ byte-end-spec =
     Inv-loop
     μ-loop
     loop-holds
-    shared-slice-read-if1
+    (λ c. omega arith)
     returns
-    add-i
-    loop-less
+    (λ c. omega arith)
+    (λ c. omega arith)
     loop-again
     returns-2)

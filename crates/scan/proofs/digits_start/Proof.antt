@@ -23,30 +23,25 @@ abbrev μ-loop : tie.MeasureT-loop
 loop-holds : tie.Need-loop-holds Inv-loop μ-loop
 loop-holds c = (omega arith, rw (drop-length (c .before .args .s .now)))
 
-sub-is-digit : tie.Need-sub-is-digit Inv-loop μ-loop
-sub-is-digit c = omega arith
-
-shared-slice-read-is-digit : tie.Need-shared-slice-read-is-digit Inv-loop μ-loop
-shared-slice-read-is-digit c = omega arith
-
-is-digit-requires : tie.Need-is-digit-requires Inv-loop μ-loop
-is-digit-requires c κs = search needs
-
 returns : tie.Need-returns Inv-loop μ-loop
 returns c =
-    let loop = c .before .before .before .before .loop in
-    (loop .inv .0, digits-at (c .before .before .before .before .before .before .args .s .now) (loop .n) (omega arith) (omega arith) (sym (c .before .is-digit .ensures) ∙ not-true _ (c .if1 .taken)) (loop .inv .1))
-
-sub-n : tie.Need-sub-n Inv-loop μ-loop
-sub-n c = omega arith
-
-loop-less : tie.Need-loop-less Inv-loop μ-loop
-loop-less c = omega arith
+    let entry = c .before .before .before .before .before .before .args in
+    let loop-call = c .before .before .before .before .loop in
+    let loop = loop-call in (
+      loop .inv .0,
+      digits-at (entry .s .now) (loop .n) (omega arith) (omega arith) (sym (c .before .is-digit .ensures) ∙ not-true _ (c .if1 .taken))
+          (loop .inv .1),
+    )
 
 loop-again : tie.Need-loop-again Inv-loop μ-loop
 loop-again c =
-    let loop = c .before .before .before .before .loop in
-    (omega arith, all-back isDigit (c .before .before .before .before .before .before .args .s .now) (loop .n) (omega arith) (omega arith) (loop .inv .1) (sym (c .before .is-digit .ensures) ∙ not-false _ (c .if1 .left)))
+    let entry = c .before .before .before .before .before .before .args in
+    let loop-call = c .before .before .before .before .loop in
+    let loop = loop-call in (
+      omega arith,
+      all-back isDigit (entry .s .now) (loop .n) (omega arith) (omega arith) (loop .inv .1)
+          (sym (c .before .is-digit .ensures) ∙ not-false _ (c .if1 .left)),
+    )
 
 returns-2 : tie.Need-returns-2 Inv-loop μ-loop
 returns-2 c =
@@ -60,11 +55,11 @@ digits-start-spec =
     Inv-loop
     μ-loop
     loop-holds
-    sub-is-digit
-    shared-slice-read-is-digit
-    is-digit-requires
+    (λ c. omega arith)
+    (λ c. omega arith)
+    (λ c κs. search needs)
     returns
-    sub-n
-    loop-less
+    (λ c. omega arith)
+    (λ c. omega arith)
     loop-again
     returns-2)

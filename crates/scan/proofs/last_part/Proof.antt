@@ -22,29 +22,22 @@ abbrev μ-loop : tie.MeasureT-loop
 loop-holds : tie.Need-loop-holds Inv-loop μ-loop
 loop-holds c = (omega arith, rw (drop-length (c .args .s .now)))
 
-sub-if1 : tie.Need-sub-if1 Inv-loop μ-loop
-sub-if1 c = omega arith
-
-shared-slice-read-if1 : tie.Need-shared-slice-read-if1 Inv-loop μ-loop
-shared-slice-read-if1 c = omega arith
-
 returns : tie.Need-returns Inv-loop μ-loop
 returns c =
-    let args = c .before .before .before .before .args in
+    let entry = c .before .before .before .before .args in
+    let args = entry in
     let loop = c .before .before .before .loop in
     (loop .inv .0, part-at (args .b) (args .s .now) (loop .n) (omega arith) (omega arith) (c .if1 .taken) (loop .inv .1))
 
-sub-n : tie.Need-sub-n Inv-loop μ-loop
-sub-n c = omega arith
-
-loop-less : tie.Need-loop-less Inv-loop μ-loop
-loop-less c = omega arith
-
 loop-again : tie.Need-loop-again Inv-loop μ-loop
 loop-again c =
-    let args = c .before .before .before .before .args in
-    let loop = c .before .before .before .loop in
-    (omega arith, all-back (isNot (args .b)) (args .s .now) (loop .n) (omega arith) (omega arith) (loop .inv .1) (rw (ne-eqb _ _ (c .if1 .left))))
+    let entry = c .before .before .before .before .args in
+    let loop-call = c .before .before .before .loop in
+    let args = entry in
+    let loop = loop-call in (
+      omega arith,
+      all-back (isNot (args .b)) (args .s .now) (loop .n) (omega arith) (omega arith) (loop .inv .1) (rw (ne-eqb _ _ (c .if1 .left))),
+    )
 
 returns-2 : tie.Need-returns-2 Inv-loop μ-loop
 returns-2 c =
@@ -59,10 +52,10 @@ last-part-spec =
     Inv-loop
     μ-loop
     loop-holds
-    sub-if1
-    shared-slice-read-if1
+    (λ c. omega arith)
+    (λ c. omega arith)
     returns
-    sub-n
-    loop-less
+    (λ c. omega arith)
+    (λ c. omega arith)
     loop-again
     returns-2)

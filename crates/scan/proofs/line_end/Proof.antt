@@ -5,17 +5,13 @@ use Rattle.scan.proofs.Groups.{above-run}
 use Rattle.scan.proofs.line_end.Statement.{statement}
 use Rattle.scan.proofs.line_end.Tie as tie
 
-line-groups-requires : tie.Need-line-groups-requires
-line-groups-requires c κs = search needs
-
-byte-end-requires : tie.Need-byte-end-requires
-byte-end-requires c κs = search needs
-
 returns : tie.Need-returns
 returns c =
-    let args = c .before .before .before .args in
+    let entry = c .before .before .before .args in
+    let args = entry in
     let groups = c .before .line-groups in
-    above-run (args .s .now) (args .at) (groups .result) (groups .ensures .2) (groups .ensures .0) (groups .ensures .1) (c .byte-end .result) (c .byte-end .ensures)
+    above-run (args .s .now) (args .at) (groups .result) (groups .ensures .2) (groups .ensures .0) (groups .ensures .1)
+    (c .byte-end .result) (c .byte-end .ensures)
 
 pub line-end-spec : {M : Type 1} → statement M
-line-end-spec = tie.close (tie.spec line-groups-requires byte-end-requires returns)
+line-end-spec = tie.close (tie.spec (λ c κs. search needs) (λ c κs. search needs) returns)

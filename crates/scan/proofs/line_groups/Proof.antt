@@ -17,26 +17,19 @@ abbrev μ-loop : tie.MeasureT-loop
 loop-holds : tie.Need-loop-holds Inv-loop μ-loop
 loop-holds c = (omega arith, c .before .pre, λ k h l. absurd (omega arith))
 
-sub-loop : tie.Need-sub-loop Inv-loop μ-loop
-sub-loop c = omega arith
-
-low-in-group-requires : tie.Need-low-in-group-requires Inv-loop μ-loop
-low-in-group-requires c κs = omega arith
-
 returns : tie.Need-returns Inv-loop μ-loop
 returns c = c .before .before .before .loop .inv
 
-add-i : tie.Need-add-i Inv-loop μ-loop
-add-i c = omega arith
-
-loop-less : tie.Need-loop-less Inv-loop μ-loop
-loop-less c = omega arith
-
 loop-again : tie.Need-loop-again Inv-loop μ-loop
 loop-again c =
-    let args = c .before .before .before .before .before .args in
-    let loop = c .before .before .before .loop in
-    (omega arith, omega arith, above-both (args .s .now) (args .at) (loop .i) (loop .inv .2) (loop .i + 16) (c .before .low-in-group .ensures (c .if1 .left)))
+    let entry = c .before .before .before .before .before .args in
+    let loop-call = c .before .before .before .loop in
+    let args = entry in
+    let loop = loop-call in (
+      omega arith,
+      omega arith,
+      above-both (args .s .now) (args .at) (loop .i) (loop .inv .2) (loop .i + 16) (c .before .low-in-group .ensures (c .if1 .left)),
+    )
 
 returns-2 : tie.Need-returns-2 Inv-loop μ-loop
 returns-2 c = c .before .loop .inv
@@ -48,10 +41,10 @@ line-groups-spec =
     Inv-loop
     μ-loop
     loop-holds
-    sub-loop
-    low-in-group-requires
+    (λ c. omega arith)
+    (λ c κs. omega arith)
     returns
-    add-i
-    loop-less
+    (λ c. omega arith)
+    (λ c. omega arith)
     loop-again
     returns-2)

@@ -19,23 +19,17 @@ abbrev μ-loop : tie.MeasureT-loop
 loop-holds : tie.Need-loop-holds Inv-loop μ-loop
 loop-holds c = (omega arith, λ e k h l. absurd (omega arith))
 
-add-loop : tie.Need-add-loop Inv-loop μ-loop
-add-loop c = omega arith
-
-shared-slice-read-if1 : tie.Need-shared-slice-read-if1 Inv-loop μ-loop
-shared-slice-read-if1 c = omega arith
-
-add-i : tie.Need-add-i Inv-loop μ-loop
-add-i c = omega arith
-
-loop-less : tie.Need-loop-less Inv-loop μ-loop
-loop-less c = omega arith
-
 loop-again : tie.Need-loop-again Inv-loop μ-loop
 loop-again c =
-    let args = c .before .before .before .before .args in
-    let loop = c .before .before .before .loop in
-    (omega arith, λ e. ⊎-elim (λ w. let z : _≡_ {A = ℕ} 0 1 = cc (w .1, e) in absurd (omega arith)) (λ w. above-more (args .s .now) (args .at) (loop .i) (loop .inv .1 (sym (w .1) ∙ e)) (w .0 .left)) (c .if1 .came))
+    let entry = c .before .before .before .before .args in
+    let loop-call = c .before .before .before .loop in
+    let args = entry in
+    let loop = loop-call in (
+      omega arith,
+      λ e.
+          ⊎-elim (λ w. let z : _≡_ {A = ℕ} 0 1 = cc (w .1, e) in absurd (omega arith))
+          (λ w. above-more (args .s .now) (args .at) (loop .i) (loop .inv .1 (sym (w .1) ∙ e)) (w .0 .left)) (c .if1 .came),
+    )
 
 returns : tie.Need-returns Inv-loop μ-loop
 returns c e = let h : c .before .loop .i ≡ c .before .before .args .at + 16 = omega arith in rw h at (c .before .loop .inv .1 e)
@@ -47,9 +41,9 @@ low-in-group-spec =
     Inv-loop
     μ-loop
     loop-holds
-    add-loop
-    shared-slice-read-if1
-    add-i
-    loop-less
+    (λ c. omega arith)
+    (λ c. omega arith)
+    (λ c. omega arith)
+    (λ c. omega arith)
     loop-again
     returns)

@@ -21,29 +21,24 @@ abbrev μ-loop : tie.MeasureT-loop
 loop-holds : tie.Need-loop-holds Inv-loop μ-loop
 loop-holds c = (omega arith, omega arith, (λ e. refl), λ e. let z : _≡_ {A = ℕ} 0 1 = cc e in absurd (omega arith))
 
-add-loop : tie.Need-add-loop Inv-loop μ-loop
-add-loop c = omega arith
-
-shared-slice-read-if1 : tie.Need-shared-slice-read-if1 Inv-loop μ-loop
-shared-slice-read-if1 c = omega arith
-
-shared-slice-read-if1-2 : tie.Need-shared-slice-read-if1-2 Inv-loop μ-loop
-shared-slice-read-if1-2 c = omega arith
-
-add-i : tie.Need-add-i Inv-loop μ-loop
-add-i c = omega arith
-
-loop-less : tie.Need-loop-less Inv-loop μ-loop
-loop-less c = omega arith
-
 loop-again : tie.Need-loop-again Inv-loop μ-loop
 loop-again c =
-    let args = c .before .before .before .before .before .args in
-    let loop = c .before .before .before .before .loop in (
+    let entry = c .before .before .before .before .before .args in
+    let loop-call = c .before .before .before .before .loop in
+    let args = entry in
+    let loop = loop-call in (
       omega arith,
       omega arith,
-      λ e. ⊎-elim (λ w. let z : _≡_ {A = ℕ} 0 1 = cc (w .1, e) in absurd (omega arith)) (λ w. loop .inv .2 (sym (w .1) ∙ e) ∙ same-on (args .a .now) (args .b .now) (loop .i) (omega arith) (omega arith) (w .0 .left)) (c .if1 .came),
-      λ e. ⊎-elim (λ w. differs-behind (args .a .now) (args .b .now) (args .at) (loop .i) (omega arith) (same-differs (args .a .now) (args .b .now) (loop .i) (omega arith) (omega arith) (w .0 .taken))) (λ w. loop .inv .3 (sym (w .1) ∙ e)) (c .if1 .came),
+      λ e.
+          ⊎-elim (λ w. let z : _≡_ {A = ℕ} 0 1 = cc (w .1, e) in absurd (omega arith))
+          (λ w. loop .inv .2 (sym (w .1) ∙ e) ∙ same-on (args .a .now) (args .b .now) (loop .i) (omega arith) (omega arith) (w .0 .left))
+          (c .if1 .came),
+      λ e.
+          ⊎-elim
+          (λ w.
+          differs-behind (args .a .now) (args .b .now) (args .at) (loop .i) (omega arith)
+          (same-differs (args .a .now) (args .b .now) (loop .i) (omega arith) (omega arith) (w .0 .taken)))
+          (λ w. loop .inv .3 (sym (w .1) ∙ e)) (c .if1 .came),
     )
 
 returns : tie.Need-returns Inv-loop μ-loop
@@ -58,10 +53,10 @@ same-group-spec =
     Inv-loop
     μ-loop
     loop-holds
-    add-loop
-    shared-slice-read-if1
-    shared-slice-read-if1-2
-    add-i
-    loop-less
+    (λ c. omega arith)
+    (λ c. omega arith)
+    (λ c. omega arith)
+    (λ c. omega arith)
+    (λ c. omega arith)
     loop-again
     returns)

@@ -16,14 +16,15 @@ Inv-loop a b last i₀ i = SameFrom a b 0 i
 abbrev μ-loop : tie.MeasureT-loop
 μ-loop a b last i₀ i = length a - i
 
-sub-last : tie.Need-sub-last Inv-loop μ-loop
-sub-last c = omega arith
-
 same-group-requires : tie.Need-same-group-requires Inv-loop μ-loop
 same-group-requires c κs = (omega arith, omega arith)
 
 returns : tie.Need-returns Inv-loop μ-loop
-returns c = sym (differs-behind (c .before .before .before .before .args .a .now) (c .before .before .before .before .args .b .now) 0 (length (c .before .before .before .before .args .a .now) - 8) (omega arith) (c .before .same-group .ensures .1 (not-true _ (c .if1 .taken))))
+returns c =
+    let entry = c .before .before .before .before .args in
+    sym
+    (differs-behind (entry .a .now) (entry .b .now) 0 (length (entry .a .now) - 8) (omega arith)
+    (c .before .same-group .ensures .1 (not-true _ (c .if1 .taken))))
 
 loop-holds : tie.Need-loop-holds Inv-loop μ-loop
 loop-holds c = refl
@@ -32,19 +33,25 @@ same-group-requires-2 : tie.Need-same-group-requires-2 Inv-loop μ-loop
 same-group-requires-2 c κs = (omega arith, omega arith)
 
 returns-2 : tie.Need-returns-2 Inv-loop μ-loop
-returns-2 c = sym (differs-behind (c .before .before .before .before .before .before .before .before .args .a .now) (c .before .before .before .before .before .before .before .before .args .b .now) 0 (c .before .before .before .loop .i) (omega arith) (c .before .same-group2 .ensures .1 (not-true _ (c .if2 .taken))))
-
-add-i : tie.Need-add-i Inv-loop μ-loop
-add-i c = omega arith
-
-loop-less : tie.Need-loop-less Inv-loop μ-loop
-loop-less c = omega arith
+returns-2 c =
+    let entry = c .before .before .before .before .before .before .before .before .args in
+    let loop = c .before .before .before .loop in
+    sym
+    (differs-behind (entry .a .now) (entry .b .now) 0 (loop .i) (omega arith)
+    (c .before .same-group2 .ensures .1 (not-true _ (c .if2 .taken))))
 
 loop-again : tie.Need-loop-again Inv-loop μ-loop
 loop-again c = c .before .before .before .loop .inv ∙ c .before .same-group2 .ensures .0 (not-false _ (c .if2 .left))
 
 returns-3 : tie.Need-returns-3 Inv-loop μ-loop
-returns-3 c = sym (c .before .loop .inv ∙ same-behind (c .before .before .before .before .before .before .args .a .now) (c .before .before .before .before .before .before .args .b .now) (length (c .before .before .before .before .before .before .args .a .now) - 8) (c .before .loop .i) (omega arith) (c .before .before .before .same-group .ensures .0 (not-false _ (c .before .before .if1 .left)) ∙ same-out (c .before .before .before .before .before .before .args .a .now) (c .before .before .before .before .before .before .args .b .now) (length (c .before .before .before .before .before .before .args .a .now) - 8 + 8) (omega arith) (omega arith)))
+returns-3 c =
+    let entry = c .before .before .before .before .before .before .args in
+    let same-group = c .before .before .before .same-group in
+    let if1 = c .before .before .if1 in
+    sym
+    (c .before .loop .inv ∙ same-behind (entry .a .now) (entry .b .now) (length (entry .a .now) - 8) (c .before .loop .i) (omega arith)
+    (same-group .ensures .0 (not-false _ (if1 .left)) ∙ same-out (entry .a .now) (entry .b .now) (length (entry .a .now) - 8 + 8)
+    (omega arith) (omega arith)))
 
 pub same-groups-spec : {M : Type 1} → statement M
 same-groups-spec =
@@ -52,13 +59,13 @@ same-groups-spec =
     (tie.spec
     Inv-loop
     μ-loop
-    sub-last
+    (λ c. omega arith)
     same-group-requires
     returns
     loop-holds
     same-group-requires-2
     returns-2
-    add-i
-    loop-less
+    (λ c. omega arith)
+    (λ c. omega arith)
     loop-again
     returns-3)

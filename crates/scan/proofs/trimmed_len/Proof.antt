@@ -23,30 +23,25 @@ abbrev μ-loop : tie.MeasureT-loop
 loop-holds : tie.Need-loop-holds Inv-loop μ-loop
 loop-holds c = (omega arith, rw (drop-length (c .before .args .s .now)))
 
-sub-is-space : tie.Need-sub-is-space Inv-loop μ-loop
-sub-is-space c = omega arith
-
-shared-slice-read-is-space : tie.Need-shared-slice-read-is-space Inv-loop μ-loop
-shared-slice-read-is-space c = omega arith
-
-is-space-requires : tie.Need-is-space-requires Inv-loop μ-loop
-is-space-requires c κs = search needs
-
 returns : tie.Need-returns Inv-loop μ-loop
 returns c =
-    let loop = c .before .before .before .before .loop in
-    (loop .inv .0, trim-at (c .before .before .before .before .before .before .args .s .now) (loop .n) (omega arith) (omega arith) (sym (c .before .is-space .ensures) ∙ not-true _ (c .if1 .taken)) (loop .inv .1))
-
-sub-n : tie.Need-sub-n Inv-loop μ-loop
-sub-n c = omega arith
-
-loop-less : tie.Need-loop-less Inv-loop μ-loop
-loop-less c = omega arith
+    let entry = c .before .before .before .before .before .before .args in
+    let loop-call = c .before .before .before .before .loop in
+    let loop = loop-call in (
+      loop .inv .0,
+      trim-at (entry .s .now) (loop .n) (omega arith) (omega arith) (sym (c .before .is-space .ensures) ∙ not-true _ (c .if1 .taken))
+          (loop .inv .1),
+    )
 
 loop-again : tie.Need-loop-again Inv-loop μ-loop
 loop-again c =
-    let loop = c .before .before .before .before .loop in
-    (omega arith, all-back isSpace (c .before .before .before .before .before .before .args .s .now) (loop .n) (omega arith) (omega arith) (loop .inv .1) (sym (c .before .is-space .ensures) ∙ not-false _ (c .if1 .left)))
+    let entry = c .before .before .before .before .before .before .args in
+    let loop-call = c .before .before .before .before .loop in
+    let loop = loop-call in (
+      omega arith,
+      all-back isSpace (entry .s .now) (loop .n) (omega arith) (omega arith) (loop .inv .1)
+          (sym (c .before .is-space .ensures) ∙ not-false _ (c .if1 .left)),
+    )
 
 returns-2 : tie.Need-returns-2 Inv-loop μ-loop
 returns-2 c =
@@ -60,11 +55,11 @@ trimmed-len-spec =
     Inv-loop
     μ-loop
     loop-holds
-    sub-is-space
-    shared-slice-read-is-space
-    is-space-requires
+    (λ c. omega arith)
+    (λ c. omega arith)
+    (λ c κs. search needs)
     returns
-    sub-n
-    loop-less
+    (λ c. omega arith)
+    (λ c. omega arith)
     loop-again
     returns-2)

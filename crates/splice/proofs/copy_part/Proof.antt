@@ -11,51 +11,53 @@ use Rattle.splice.specs.Moves.{part, stored}
 use Rattle.splice.proofs.copy_part.Statement.{statement}
 use Rattle.splice.proofs.copy_part.Tie as tie
 
-slice-aggregate-store : tie.Need-slice-aggregate-store
-slice-aggregate-store c = search needs
-
-sub-store : tie.Need-sub-store
-sub-store c = search needs
-
-part-store-start : tie.Need-part-store-start
-part-store-start c = search needs
-
-part-store-end : tie.Need-part-store-end
-part-store-end c = search needs
-
-store-requires : tie.Need-store-requires
-store-requires c κs = search needs
-
-sub-copy : tie.Need-sub-copy
-sub-copy c = search needs
-
-array-share-prefix-copy : tie.Need-array-share-prefix-copy
-array-share-prefix-copy c = search needs
-
 slice-aggregate-store-2 : tie.Need-slice-aggregate-store-2
-slice-aggregate-store-2 c = sym (ap length (stored-front _ (part (c .before .before .before .before .before .before .before .before .args .t .now) (c .before .before .before .before .before .before .before .before .args .from) (c .before .before .before .before .before .before .before .before .args .to)) _ (c .before .before .before .before .before .before .before .before .args .to - c .before .before .before .before .before .before .before .before .args .from) (c .before .before .before .store .ensures) (length-part (c .before .before .before .before .before .before .before .before .args .t .now) (c .before .before .before .before .before .before .before .before .args .from) (c .before .before .before .before .before .before .before .before .args .to) (c .before .before .before .before .before .before .before .before .pre .1))) ∙ (length-part (c .before .before .before .before .before .before .before .before .args .t .now) (c .before .before .before .before .before .before .before .before .args .from) (c .before .before .before .before .before .before .before .before .args .to) (c .before .before .before .before .before .before .before .before .pre .1)))
+slice-aggregate-store-2 c =
+    let entry = c .before .before .before .before .before .before .before .before .args in
+    let pre = c .before .before .before .before .before .before .before .before .pre in
+    let store = c .before .before .before .store in
+    sym
+    (ap length
+    (stored-front _ (part (entry .t .now) (entry .from) (entry .to)) _ (entry .to - entry .from) (store .ensures)
+    (length-part (entry .t .now) (entry .from) (entry .to) (pre .1)))
+    ∙ (length-part (entry .t .now) (entry .from) (entry .to) (pre .1)))
 
 store-requires-2 : tie.Need-store-requires-2
-store-requires-2 c κs = omega (arith, ap length (stored-front _ (part (c .before .before .before .before .before .before .before .before .args .t .now) (c .before .before .before .before .before .before .before .before .args .from) (c .before .before .before .before .before .before .before .before .args .to)) _ (c .before .before .before .before .before .before .before .before .args .to - c .before .before .before .before .before .before .before .before .args .from) (c .before .before .before .store .ensures) (length-part (c .before .before .before .before .before .before .before .before .args .t .now) (c .before .before .before .before .before .before .before .before .args .from) (c .before .before .before .before .before .before .before .before .args .to) (c .before .before .before .before .before .before .before .before .pre .1))), (length-part (c .before .before .before .before .before .before .before .before .args .t .now) (c .before .before .before .before .before .before .before .before .args .from) (c .before .before .before .before .before .before .before .before .args .to) (c .before .before .before .before .before .before .before .before .pre .1)), c .before .before .before .before .before .before .before .before .pre .3)
-
-same-length : tie.Need-same-length
-same-length c = search needs
+store-requires-2 c κs =
+    let entry = c .before .before .before .before .before .before .before .before .args in
+    let pre = c .before .before .before .before .before .before .before .before .pre in
+    let store = c .before .before .before .store in
+    omega (
+      arith,
+      ap length
+          (stored-front _ (part (entry .t .now) (entry .from) (entry .to)) _ (entry .to - entry .from) (store .ensures)
+          (length-part (entry .t .now) (entry .from) (entry .to) (pre .1))),
+      (length-part (entry .t .now) (entry .from) (entry .to) (pre .1)),
+      pre .3,
+    )
 
 returns : tie.Need-returns
-returns c = c .before .before .store2 .ensures ∙ ap (stored (c .before .before .before .before .before .before .before .before .before .before .before .args .t .now) (c .before .before .before .before .before .before .before .before .before .before .before .args .at)) (stored-front _ (part (c .before .before .before .before .before .before .before .before .before .before .before .args .t .now) (c .before .before .before .before .before .before .before .before .before .before .before .args .from) (c .before .before .before .before .before .before .before .before .before .before .before .args .to)) _ (c .before .before .before .before .before .before .before .before .before .before .before .args .to - c .before .before .before .before .before .before .before .before .before .before .before .args .from) (c .before .before .before .before .before .before .store .ensures) (length-part (c .before .before .before .before .before .before .before .before .before .before .before .args .t .now) (c .before .before .before .before .before .before .before .before .before .before .before .args .from) (c .before .before .before .before .before .before .before .before .before .before .before .args .to) (c .before .before .before .before .before .before .before .before .before .before .before .pre .1)))
+returns c =
+    let entry = c .before .before .before .before .before .before .before .before .before .before .before .args in
+    let pre = c .before .before .before .before .before .before .before .before .before .before .before .pre in
+    let store = c .before .before .before .before .before .before .store in
+    let store2 = c .before .before .store2 in
+    store2 .ensures ∙ ap (stored (entry .t .now) (entry .at))
+    (stored-front _ (part (entry .t .now) (entry .from) (entry .to)) _ (entry .to - entry .from) (store .ensures)
+    (length-part (entry .t .now) (entry .from) (entry .to) (pre .1)))
 
 pub copy-part-spec : {M : Type 1} → statement M
 copy-part-spec =
     tie.close
     (tie.spec
-    slice-aggregate-store
-    sub-store
-    part-store-start
-    part-store-end
-    store-requires
-    sub-copy
-    array-share-prefix-copy
+    (λ c. search needs)
+    (λ c. search needs)
+    (λ c. search needs)
+    (λ c. search needs)
+    (λ c κs. search needs)
+    (λ c. search needs)
+    (λ c. search needs)
     slice-aggregate-store-2
     store-requires-2
-    same-length
+    (λ c. search needs)
     returns)

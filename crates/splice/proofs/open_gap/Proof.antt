@@ -18,10 +18,18 @@ abbrev μ-loop : tie.MeasureT-loop
 μ-loop t₀ at used n k₀ t k = k
 
 loop-holds : tie.Need-loop-holds Inv-loop μ-loop
-loop-holds c = (omega arith, omega arith, refl, sym (ap (λ (l : List ℕ). take (c .before .args .used + c .before .args .n) (c .before .args .t .now) ++ (l ++ drop (c .before .args .used + c .before .args .n) (c .before .args .t .now))) (part-none (c .before .args .t .now) (c .before .args .used) (c .before .args .used) (omega arith)) ∙ take-append-drop (c .before .args .used + c .before .args .n) (c .before .args .t .now)))
-
-sub-next-size : tie.Need-sub-next-size Inv-loop μ-loop
-sub-next-size c = omega arith
+loop-holds c = (
+  omega arith,
+  omega arith,
+  refl,
+  sym
+      (ap
+      (λ (l : List ℕ).
+      take (c .before .args .used + c .before .args .n) (c .before .args .t .now) ++
+      (l ++ drop (c .before .args .used + c .before .args .n) (c .before .args .t .now)))
+      (part-none (c .before .args .t .now) (c .before .args .used) (c .before .args .used) (omega arith)) ∙ take-append-drop
+      (c .before .args .used + c .before .args .n) (c .before .args .t .now)),
+)
 
 next-size-requires : tie.Need-next-size-requires Inv-loop μ-loop
 next-size-requires c κs = tt
@@ -36,22 +44,45 @@ add-copy-part : tie.Need-add-copy-part Inv-loop μ-loop
 add-copy-part c = omega (arith, c .before .next-size .ensures .0, c .before .next-size .ensures .1)
 
 copy-part-requires : tie.Need-copy-part-requires Inv-loop μ-loop
-copy-part-requires c κs = (omega (arith, c .before .next-size .ensures .0, c .before .next-size .ensures .1), omega (arith, c .before .next-size .ensures .0, c .before .next-size .ensures .1), omega (arith, c .before .next-size .ensures .0, c .before .next-size .ensures .1), omega (arith, c .before .next-size .ensures .0, c .before .next-size .ensures .1))
+copy-part-requires c κs = (
+  omega (arith, c .before .next-size .ensures .0, c .before .next-size .ensures .1),
+  omega (arith, c .before .next-size .ensures .0, c .before .next-size .ensures .1),
+  omega (arith, c .before .next-size .ensures .0, c .before .next-size .ensures .1),
+  omega (arith, c .before .next-size .ensures .0, c .before .next-size .ensures .1),
+)
 
 sub-k : tie.Need-sub-k Inv-loop μ-loop
-sub-k c = omega (arith, c .before .before .before .before .next-size .ensures .0, c .before .before .before .before .next-size .ensures .1)
+sub-k c =
+    let next-size = c .before .before .before .before .next-size in
+    omega (arith, next-size .ensures .0, next-size .ensures .1)
 
 loop-less : tie.Need-loop-less Inv-loop μ-loop
-loop-less c = omega (arith, c .before .before .before .before .next-size .ensures .0, c .before .before .before .before .next-size .ensures .2 (omega arith))
+loop-less c =
+    let next-size = c .before .before .before .before .next-size in
+    omega (arith, next-size .ensures .0, next-size .ensures .2 (omega arith))
 
 loop-again : tie.Need-loop-again Inv-loop μ-loop
-loop-again c = (omega (arith, c .before .before .before .before .next-size .ensures .0, c .before .before .before .before .next-size .ensures .1), omega (arith, c .before .before .before .before .next-size .ensures .0, c .before .before .before .before .next-size .ensures .1), c .before .before .copy-part .kept .0 ∙ c .before .before .before .before .before .before .loop .inv .2, c .before .before .copy-part .ensures ∙ ap (λ (l : List ℕ). stored l (c .before .before .before .before .before .before .loop .k - c .before .before .before .before .next-size .result + c .before .before .before .before .before .before .before .before .args .n) (part l (c .before .before .before .before .before .before .loop .k - c .before .before .before .before .next-size .result) (c .before .before .before .before .before .before .loop .k))) (c .before .before .before .before .before .before .loop .inv .3) ∙ opened-more (c .before .before .before .before .before .before .before .before .args .t .now) (c .before .before .before .before .before .before .loop .k - c .before .before .before .before .next-size .result) (c .before .before .before .before .before .before .loop .k) (c .before .before .before .before .before .before .before .before .args .used) (c .before .before .before .before .before .before .before .before .args .n) (omega (arith, c .before .before .before .before .next-size .ensures .0, c .before .before .before .before .next-size .ensures .1)) (c .before .before .before .before .before .before .loop .inv .1) (omega arith))
+loop-again c =
+    let entry = c .before .before .before .before .before .before .before .before .args in
+    let loop = c .before .before .before .before .before .before .loop in
+    let next-size = c .before .before .before .before .next-size in
+    let copy-part = c .before .before .copy-part in (
+      omega (arith, next-size .ensures .0, next-size .ensures .1),
+      omega (arith, next-size .ensures .0, next-size .ensures .1),
+      copy-part .kept .0 ∙ loop .inv .2,
+      copy-part .ensures ∙ ap
+          (λ (l : List ℕ). stored l (loop .k - next-size .result + entry .n) (part l (loop .k - next-size .result) (loop .k)))
+          (loop .inv .3) ∙ opened-more (entry .t .now) (loop .k - next-size .result) (loop .k) (entry .used) (entry .n)
+          (omega (arith, next-size .ensures .0, next-size .ensures .1)) (loop .inv .1) (omega arith),
+    )
 
 same-length : tie.Need-same-length Inv-loop μ-loop
 same-length c = c .before .loop .inv .2
 
 returns : tie.Need-returns Inv-loop μ-loop
-returns c = c .before .loop .inv .3 ∙ ap-at (λ i. opened (c .before .before .before .args .t .now) i (c .before .before .before .args .used) (c .before .before .before .args .n)) (c .before .loop .k) (c .before .before .before .args .at) (omega arith)
+returns c =
+    let entry = c .before .before .before .args in
+    c .before .loop .inv .3 ∙ ap-at (λ i. opened (entry .t .now) i (entry .used) (entry .n)) (c .before .loop .k) (entry .at) (omega arith)
 
 pub open-gap-spec : {M : Type 1} → statement M
 open-gap-spec =
@@ -60,7 +91,7 @@ open-gap-spec =
     Inv-loop
     μ-loop
     loop-holds
-    sub-next-size
+    (λ c. omega arith)
     next-size-requires
     sub-copy-part
     sub-copy-part-2

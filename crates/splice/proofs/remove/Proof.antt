@@ -42,14 +42,8 @@ Inv-loop t₀ at used n k₀ t k = (at + n ≤ k) × (k ≤ used) × (length t �
 abbrev μ-loop : tie.MeasureT-loop
 μ-loop t₀ at used n k₀ t k = used - k
 
-add-k : tie.Need-add-k Inv-loop μ-loop
-add-k c = omega arith
-
 loop-holds : tie.Need-loop-holds Inv-loop μ-loop
 loop-holds c = (omega arith, omega arith, refl, moved-none (c .before .args .t .now) (c .before .args .at) (c .before .args .n))
-
-sub-next-size : tie.Need-sub-next-size Inv-loop μ-loop
-sub-next-size c = omega arith
 
 next-size-requires : tie.Need-next-size-requires Inv-loop μ-loop
 next-size-requires c κs = tt
@@ -61,37 +55,55 @@ sub-copy-part : tie.Need-sub-copy-part Inv-loop μ-loop
 sub-copy-part c = omega (arith, c .before .next-size .ensures .0, c .before .next-size .ensures .1)
 
 copy-part-requires : tie.Need-copy-part-requires Inv-loop μ-loop
-copy-part-requires c κs = (omega (arith, c .before .next-size .ensures .0, c .before .next-size .ensures .1), omega (arith, c .before .next-size .ensures .0, c .before .next-size .ensures .1), omega (arith, c .before .next-size .ensures .0, c .before .next-size .ensures .1), omega (arith, c .before .next-size .ensures .0, c .before .next-size .ensures .1))
+copy-part-requires c κs = (
+  omega (arith, c .before .next-size .ensures .0, c .before .next-size .ensures .1),
+  omega (arith, c .before .next-size .ensures .0, c .before .next-size .ensures .1),
+  omega (arith, c .before .next-size .ensures .0, c .before .next-size .ensures .1),
+  omega (arith, c .before .next-size .ensures .0, c .before .next-size .ensures .1),
+)
 
 add-k-2 : tie.Need-add-k-2 Inv-loop μ-loop
-add-k-2 c = omega (arith, c .before .before .before .before .next-size .ensures .0, c .before .before .before .before .next-size .ensures .1)
+add-k-2 c =
+    let next-size = c .before .before .before .before .next-size in
+    omega (arith, next-size .ensures .0, next-size .ensures .1)
 
 loop-less : tie.Need-loop-less Inv-loop μ-loop
-loop-less c = omega (arith, c .before .before .before .before .next-size .ensures .0, c .before .before .before .before .next-size .ensures .2 (omega arith))
+loop-less c =
+    let next-size = c .before .before .before .before .next-size in
+    omega (arith, next-size .ensures .0, next-size .ensures .2 (omega arith))
 
 loop-again : tie.Need-loop-again Inv-loop μ-loop
-loop-again c = (omega (arith, c .before .before .before .before .next-size .ensures .0, c .before .before .before .before .next-size .ensures .1), omega (arith, c .before .before .before .before .next-size .ensures .0, c .before .before .before .before .next-size .ensures .1), c .before .before .copy-part .kept .0 ∙ c .before .before .before .before .before .before .loop .inv .2, c .before .before .copy-part .ensures ∙ moved-more (c .before .before .before .before .before .before .before .before .args .t .now) (c .before .before .before .before .before .before .before .before .args .at) (c .before .before .before .before .before .before .before .before .args .n) (c .before .before .before .before .before .before .loop .t) (c .before .before .before .before .before .before .loop .k) (c .before .before .before .before .before .before .loop .k + c .before .before .before .before .next-size .result) (c .before .before .before .before .before .before .loop .inv .0) (omega arith) (omega (arith, c .before .before .before .before .next-size .ensures .0, c .before .before .before .before .next-size .ensures .1)) (c .before .before .before .before .before .before .loop .inv .3))
-
-sub-clear : tie.Need-sub-clear Inv-loop μ-loop
-sub-clear c = omega arith
-
-sub-clear-2 : tie.Need-sub-clear-2 Inv-loop μ-loop
-sub-clear-2 c = omega arith
-
-part-clear-start : tie.Need-part-clear-start Inv-loop μ-loop
-part-clear-start c = omega arith
-
-part-clear-end : tie.Need-part-clear-end Inv-loop μ-loop
-part-clear-end c = omega arith
+loop-again c =
+    let entry = c .before .before .before .before .before .before .before .before .args in
+    let loop = c .before .before .before .before .before .before .loop in
+    let next-size = c .before .before .before .before .next-size in
+    let copy-part = c .before .before .copy-part in (
+      omega (arith, next-size .ensures .0, next-size .ensures .1),
+      omega (arith, next-size .ensures .0, next-size .ensures .1),
+      copy-part .kept .0 ∙ loop .inv .2,
+      copy-part .ensures ∙ moved-more (entry .t .now) (entry .at) (entry .n) (loop .t) (loop .k) (loop .k + next-size .result)
+          (loop .inv .0) (omega arith) (omega (arith, next-size .ensures .0, next-size .ensures .1)) (loop .inv .3),
+    )
 
 clear-requires : tie.Need-clear-requires Inv-loop μ-loop
 clear-requires c κs = tt
 
 same-length : tie.Need-same-length Inv-loop μ-loop
-same-length c = same-len-mid (c .before .before .before .before .before .loop .k - c .before .before .before .before .before .before .before .args .n) (c .before .before .before .before .before .before .before .args .used - (c .before .before .before .before .before .loop .k - c .before .before .before .before .before .before .before .args .n)) (c .before .before .before .before .before .loop .t) (c .before .before .clear .last .0) (c .before .before .clear .kept .0) ∙ c .before .before .before .before .before .loop .inv .2
+same-length c =
+    let entry = c .before .before .before .before .before .before .before .args in
+    let loop = c .before .before .before .before .before .loop in
+    let clear = c .before .before .clear in
+    same-len-mid (loop .k - entry .n) (entry .used - (loop .k - entry .n)) (loop .t) (clear .last .0) (clear .kept .0) ∙ loop .inv .2
 
 returns : tie.Need-returns Inv-loop μ-loop
-returns c = let n : length (part (c .before .before .before .before .before .loop .t) (c .before .before .before .before .before .loop .k - c .before .before .before .before .before .before .before .args .n) (c .before .before .before .before .before .before .before .args .used)) ≡ c .before .before .before .before .before .before .before .args .n = length-part (c .before .before .before .before .before .loop .t) (c .before .before .before .before .before .loop .k - c .before .before .before .before .before .before .before .args .n) (c .before .before .before .before .before .before .before .args .used) (omega arith) ∙ omega arith in done (c .before .before .before .before .before .before .before .args .t .now) (c .before .before .before .before .before .before .before .args .at) (c .before .before .before .before .before .before .before .args .n) (c .before .before .before .before .before .loop .t) (c .before .before .clear .last .0) (c .before .before .before .before .before .loop .k) (c .before .before .before .before .before .before .before .args .used) (omega arith) (omega arith) (omega arith) (c .before .before .before .before .before .loop .inv .3) (c .before .before .clear .ensures ∙ ap (λ (i : ℕ). replicate i 0) n)
+returns c =
+    let entry = c .before .before .before .before .before .before .before .args in
+    let loop = c .before .before .before .before .before .loop in
+    let clear = c .before .before .clear in
+    let n : length (part (loop .t) (loop .k - entry .n) (entry .used)) ≡ entry .n =
+    length-part (loop .t) (loop .k - entry .n) (entry .used) (omega arith) ∙ omega arith in
+    done (entry .t .now) (entry .at) (entry .n) (loop .t) (clear .last .0) (loop .k) (entry .used) (omega arith) (omega arith) (omega arith)
+    (loop .inv .3) (clear .ensures ∙ ap (λ (i : ℕ). replicate i 0) n)
 
 pub remove-spec : {M : Type 1} → statement M
 remove-spec =
@@ -99,9 +111,9 @@ remove-spec =
     (tie.spec
     Inv-loop
     μ-loop
-    add-k
+    (λ c. omega arith)
     loop-holds
-    sub-next-size
+    (λ c. omega arith)
     next-size-requires
     add-copy-part
     sub-copy-part
@@ -109,10 +121,10 @@ remove-spec =
     add-k-2
     loop-less
     loop-again
-    sub-clear
-    sub-clear-2
-    part-clear-start
-    part-clear-end
+    (λ c. omega arith)
+    (λ c. omega arith)
+    (λ c. omega arith)
+    (λ c. omega arith)
     clear-requires
     same-length
     returns)

@@ -10,24 +10,15 @@ use Rattle.splice.proofs.Laws.{stored-shifted}
 use Rattle.splice.proofs.replace.Statement.{statement}
 use Rattle.splice.proofs.replace.Tie as tie
 
-add-shift : tie.Need-add-shift
-add-shift c = search needs
-
-add-shift-2 : tie.Need-add-shift-2
-add-shift-2 c = search needs
-
-shift-requires : tie.Need-shift-requires
-shift-requires c κs = search needs
-
-store-requires : tie.Need-store-requires
-store-requires c κs = search needs
-
-same-length : tie.Need-same-length
-same-length c = search needs
-
 returns : tie.Need-returns
-returns c = let a = c .before .before .before .before .before .before .before .before .before .before .args in c .before .before .store .ensures ∙ ap (λ (l : List ℕ). stored l (a .at) (a .src .now)) (c .before .before .before .before .before .before .shift .ensures) ∙ stored-shifted (a .t .now) (a .at) (a .src .now) (omega arith) (a .n) (a .used)
+returns c =
+    let entry = c .before .before .before .before .before .before .before .before .before .before .args in
+    let shift = c .before .before .before .before .before .before .shift in
+    let store = c .before .before .store in
+    let a = entry in
+    store .ensures ∙ ap (λ (l : List ℕ). stored l (a .at) (a .src .now)) (shift .ensures) ∙ stored-shifted (a .t .now) (a .at) (a .src .now)
+    (omega arith) (a .n) (a .used)
 
 pub replace-spec : {M : Type 1} → statement M
 replace-spec =
-    tie.close (tie.spec add-shift add-shift-2 shift-requires store-requires same-length returns)
+    tie.close (tie.spec (λ c. search needs) (λ c. search needs) (λ c κs. search needs) (λ c κs. search needs) (λ c. search needs) returns)

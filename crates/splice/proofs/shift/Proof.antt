@@ -7,26 +7,17 @@ use Rattle.splice.proofs.Laws.{opened-shifted, removed-shifted, same-sh
 use Rattle.splice.proofs.shift.Statement.{statement}
 use Rattle.splice.proofs.shift.Tie as tie
 
-sub-open-gap : tie.Need-sub-open-gap
-sub-open-gap c = search needs
-
-open-gap-requires : tie.Need-open-gap-requires
-open-gap-requires c κs = search needs
-
-remove-requires : tie.Need-remove-requires
-remove-requires c κs = search needs
-
-same-length : tie.Need-same-length
-same-length c = search needs
-
 returns : tie.Need-returns
-returns c = let a = c .before .before .before .before .before .before .args in c .before .before .open-gap .ensures ∙ opened-shifted (a .t .now) (a .from) (a .to) (a .used) (omega arith)
-
-same-length-2 : tie.Need-same-length-2
-same-length-2 c = search needs
+returns c =
+    let entry = c .before .before .before .before .before .before .args in
+    let open-gap = c .before .before .open-gap in
+    let a = entry in open-gap .ensures ∙ opened-shifted (a .t .now) (a .from) (a .to) (a .used) (omega arith)
 
 returns-2 : tie.Need-returns-2
-returns-2 c = let a = c .before .before .before .before .before .before .before .args in c .before .before .remove .ensures ∙ removed-shifted (a .t .now) (a .from) (a .to) (a .used) (omega arith)
+returns-2 c =
+    let entry = c .before .before .before .before .before .before .before .args in
+    let remove = c .before .before .remove in
+    let a = entry in remove .ensures ∙ removed-shifted (a .t .now) (a .from) (a .to) (a .used) (omega arith)
 
 returns-3 : tie.Need-returns-3
 returns-3 c = let a = c .before .before .before .args in same-shifted (a .t .now) (a .from) (a .to) (a .used) (omega arith) (omega arith)
@@ -35,11 +26,11 @@ pub shift-spec : {M : Type 1} → statement M
 shift-spec =
     tie.close
     (tie.spec
-    sub-open-gap
-    open-gap-requires
-    remove-requires
-    same-length
+    (λ c. search needs)
+    (λ c κs. search needs)
+    (λ c κs. search needs)
+    (λ c. search needs)
     returns
-    same-length-2
+    (λ c. search needs)
     returns-2
     returns-3)

@@ -32,21 +32,6 @@ done t₀ t src at i e h =
 loop-holds : tie.Need-loop-holds Inv-loop μ-loop
 loop-holds c = (omega arith, refl, paste-zero (c .args .t .now) (c .args .at) (c .args .src .now))
 
-shared-slice-read-t : tie.Need-shared-slice-read-t Inv-loop μ-loop
-shared-slice-read-t c = omega arith
-
-add-t : tie.Need-add-t Inv-loop μ-loop
-add-t c = omega arith
-
-slice-write-t : tie.Need-slice-write-t Inv-loop μ-loop
-slice-write-t c = omega arith
-
-add-i : tie.Need-add-i Inv-loop μ-loop
-add-i c = omega arith
-
-loop-less : tie.Need-loop-less Inv-loop μ-loop
-loop-less c = omega arith
-
 loop-again : tie.Need-loop-again Inv-loop μ-loop
 loop-again c = (omega arith, simp length-set (omega arith), turn _ _ _ _ _ (omega arith) (omega arith) (c .before .before .loop .inv .2))
 
@@ -59,4 +44,4 @@ returns c =
     done (a .t .now) _ (a .src .now) (a .at) (c .before .loop .i) (c .before .loop .inv .2) (omega arith)
 
 pub store-spec : {M : Type 1} → statement M
-store-spec = tie.close (tie.spec Inv-loop μ-loop loop-holds shared-slice-read-t add-t slice-write-t add-i loop-less loop-again same-length returns)
+store-spec = tie.close (tie.spec Inv-loop μ-loop loop-holds (λ c. omega arith) (λ c. omega arith) (λ c. omega arith) (λ c. omega arith) (λ c. omega arith) loop-again same-length returns)

@@ -15,78 +15,71 @@ use Rattle.lists.specs.Runs.{trim}
 use Rattle.substitution.proofs.put_attribute.Statement.{statement}
 use Rattle.substitution.proofs.put_attribute.Tie as tie
 
-find-attribute-at-requires : tie.Need-find-attribute-at-requires
-find-attribute-at-requires c κs = search needs
-
-enum-known-start : tie.Need-enum-known-start
-enum-known-start c = search needs
-
 add-put-trimmed : tie.Need-add-put-trimmed
 add-put-trimmed c =
+    let entry = c .before .before .before .before .before .before .before .args in
+    let find-attribute-at = c .before .before .before .find-attribute-at in
     let start = c .before .start in
-    let w : Within (At (start .given .0 .0) (start .given .0 .1 .0)) (length (c .before .before .before .before .before .before .before .args .dev .now)) = rw (start .given .1) at (c .before .before .before .find-attribute-at .ensures .1) in
+    let w : Within (At (start .given .0 .0) (start .given .0 .1 .0)) (length (entry .dev .now)) =
+    rw (start .given .1) at (find-attribute-at .ensures .1) in
     omega arith
-
-sub-put-trimmed : tie.Need-sub-put-trimmed
-sub-put-trimmed c = search needs
-
-part-put-trimmed-start : tie.Need-part-put-trimmed-start
-part-put-trimmed-start c = search needs
 
 part-put-trimmed-end : tie.Need-part-put-trimmed-end
 part-put-trimmed-end c =
+    let entry = c .before .before .before .before .before .before .before .args in
+    let find-attribute-at = c .before .before .before .find-attribute-at in
     let start = c .before .start in
-    let w : Within (At (start .given .0 .0) (start .given .0 .1 .0)) (length (c .before .before .before .before .before .before .before .args .dev .now)) = rw (start .given .1) at (c .before .before .before .find-attribute-at .ensures .1) in
+    let w : Within (At (start .given .0 .0) (start .given .0 .1 .0)) (length (entry .dev .now)) =
+    rw (start .given .1) at (find-attribute-at .ensures .1) in
     omega arith
-
-put-trimmed-requires : tie.Need-put-trimmed-requires
-put-trimmed-requires c κs = search needs
 
 enum-told : tie.Need-enum-told
 enum-told c = search needs
 
-put-parent-attribute-requires : tie.Need-put-parent-attribute-requires
-put-parent-attribute-requires c κs = search needs
-
-same-length : tie.Need-same-length
-same-length c = search needs
-
 returns : tie.Need-returns
 returns c =
-    let args = c .before .before .before .before .before .before .before .before .before .before .before .before .args in
-    let start = c .before .before .before .before .before .before .start in
-    let put-trimmed = c .before .before .put-trimmed in
+    let entry = c .before .before .before .before .before .before .before .before .before .before .before .before .args in
+    let find-attribute-at = c .before .before .before .before .before .before .before .before .find-attribute-at in
+    let start-call = c .before .before .before .before .before .before .start in
+    let put-trimmed-call = c .before .before .put-trimmed in
+    let args = entry in
+    let start = start-call in
+    let put-trimmed = put-trimmed-call in
     λ m h o k.
     let v = start .given .0 .0 in
     let n = start .given .0 .1 .0 in
-    let w : Says (args .dev .now) (At v n) (attrOf (args .key .now) m) = rw (start .given .1) at (c .before .before .before .before .before .before .before .before .find-attribute-at .ensures .0 m h) in
-    appended-same (args .spaceless) _ (trim (orEmpty (firstOf (attrOf (args .key .now) m) (attrAt (args .key .now) o)))) (args .out .now) (args .used) (put-trimmed .result) _ (ap trim (sized-part (args .dev .now) v n ∙ attribute-here (args .dev .now) (args .key .now) m o v n w)) (put-trimmed .ensures)
-
-same-length-2 : tie.Need-same-length-2
-same-length-2 c = search needs
+    let w : Says (args .dev .now) (At v n) (attrOf (args .key .now) m) = rw (start .given .1) at (find-attribute-at .ensures .0 m h) in
+    appended-same (args .spaceless) _ (trim (orEmpty (firstOf (attrOf (args .key .now) m) (attrAt (args .key .now) o)))) (args .out .now)
+    (args .used) (put-trimmed .result) _
+    (ap trim (sized-part (args .dev .now) v n ∙ attribute-here (args .dev .now) (args .key .now) m o v n w)) (put-trimmed .ensures)
 
 returns-2 : tie.Need-returns-2
 returns-2 c =
-    let args = c .before .before .before .before .before .before .before .before .before .before .args in
-    let put-parent-attribute = c .before .before .put-parent-attribute in
+    let entry = c .before .before .before .before .before .before .before .before .before .before .args in
+    let find-attribute-at = c .before .before .before .before .before .before .find-attribute-at in
+    let enum-told = c .before .before .before .before .enum-told in
+    let put-parent-attribute-call = c .before .before .put-parent-attribute in
+    let args = entry in
+    let put-parent-attribute = put-parent-attribute-call in
     λ m h o k.
-    let w : Says (args .dev .now) Missing (attrOf (args .key .now) m) = rw (c .before .before .before .before .enum-told .given .1) at (c .before .before .before .before .before .before .find-attribute-at .ensures .0 m h) in
-    appended-same (args .spaceless) _ (trim (orEmpty (firstOf (attrOf (args .key .now) m) (attrAt (args .key .now) o)))) (args .out .now) (args .used) (put-parent-attribute .result) _ (ap trim (attribute-there (args .key .now) m o w)) (put-parent-attribute .ensures o k)
+    let w : Says (args .dev .now) Missing (attrOf (args .key .now) m) = rw (enum-told .given .1) at (find-attribute-at .ensures .0 m h) in
+    appended-same (args .spaceless) _ (trim (orEmpty (firstOf (attrOf (args .key .now) m) (attrAt (args .key .now) o)))) (args .out .now)
+    (args .used) (put-parent-attribute .result) _ (ap trim (attribute-there (args .key .now) m o w)) (put-parent-attribute .ensures o k)
 
 pub put-attribute-spec : {M : Type 1} → statement M
 put-attribute-spec =
     tie.close
     (tie.spec
-    find-attribute-at-requires
-    enum-known-start
+    (λ c κs. search needs)
+    (λ c. search needs)
     add-put-trimmed
-    sub-put-trimmed
-    part-put-trimmed-start
+    (λ c. search needs)
+    (λ c. search needs)
     part-put-trimmed-end
-    put-trimmed-requires
+    (λ c κs. search needs)
     enum-told
-    put-parent-attribute-requires
-    same-length
+    (λ c κs. search needs)
+    (λ c. search needs)
     returns
-    same-length-2
+    (λ c. search needs)
     returns-2)
