@@ -1,6 +1,6 @@
 //! The engine that is linked in through its bindings.
 
-use reference::compare::{AnswerArray, Engine};
+use reference::request::{AnswerArray, Engine, Request, Written};
 use spillfinch::calls;
 
 /// The linked engine.
@@ -13,62 +13,56 @@ pub struct LinkedApart;
 /// The answers start with other numbers, so that one that is not written shows.
 const UNWRITTEN: AnswerArray = [0xAAAA_AAAA; 8];
 
-fn answered(call: impl FnOnce(&mut AnswerArray)) -> AnswerArray {
-    let mut answer = UNWRITTEN;
-    call(&mut answer);
-    answer
-}
-
 impl Engine for Linked {
-    fn check(&self, text: &[u8]) -> AnswerArray {
-        answered(|answer| calls::check(text, answer))
-    }
-
-    fn fresh(&self, device: &[u8], target: &mut [u8]) -> AnswerArray {
-        answered(|answer| calls::fresh(device, target, answer))
-    }
-
-    fn run(&self, text: &[u8], device: &[u8], outcome: &[u8], target: &mut [u8]) -> AnswerArray {
-        answered(|answer| calls::run(text, device, outcome, target, answer))
-    }
-
-    fn close(&self, device: &[u8], outcome: &[u8], target: &mut [u8]) -> AnswerArray {
-        answered(|answer| calls::close(device, outcome, target, answer))
+    fn answer(&self, request: &Request, written: &mut Written) -> AnswerArray {
+        let mut answer = UNWRITTEN;
+        call(request, written, &mut answer);
+        answer
     }
 }
 
+fn call(request: &Request, written: &mut Written, answer: &mut AnswerArray) {
+    let target = &mut written.target;
+    match *request {
+        Request::Check { text } => calls::check(text, answer),
+        Request::Fresh { device } => calls::fresh(device, target, answer),
+        Request::Run {
+            text,
+            device,
+            outcome,
+        } => calls::run(text, device, outcome, target, answer),
+        Request::Close { device, outcome } => calls::close(device, outcome, target, answer),
+    }
+}
+
+/// What is written to is in allocations of its own already.
 impl Engine for LinkedApart {
-    fn check(&self, text: &[u8]) -> AnswerArray {
-        apart(&mut [], |_, answer| calls::check(&own(text), answer))
-    }
-
-    fn fresh(&self, device: &[u8], target: &mut [u8]) -> AnswerArray {
-        apart(target, |target, answer| {
-            calls::fresh(&own(device), target, answer)
-        })
-    }
-
-    fn run(&self, text: &[u8], device: &[u8], outcome: &[u8], target: &mut [u8]) -> AnswerArray {
-        apart(target, |target, answer| {
-            calls::run(&own(text), &own(device), &own(outcome), target, answer)
-        })
-    }
-
-    fn close(&self, device: &[u8], outcome: &[u8], target: &mut [u8]) -> AnswerArray {
-        apart(target, |target, answer| {
-            calls::close(&own(device), &own(outcome), target, answer)
-        })
+    fn answer(&self, request: &Request, written: &mut Written) -> AnswerArray {
+        let mut answer = Box::new(UNWRITTEN);
+        let mut call = |request| call(&request, written, &mut answer);
+        match *request {
+            Request::Check { text } => call(Request::Check { text: &own(text) }),
+            Request::Fresh { device } => call(Request::Fresh {
+                device: &own(device),
+            }),
+            Request::Run {
+                text,
+                device,
+                outcome,
+            } => call(Request::Run {
+                text: &own(text),
+                device: &own(device),
+                outcome: &own(outcome),
+            }),
+            Request::Close { device, outcome } => call(Request::Close {
+                device: &own(device),
+                outcome: &own(outcome),
+            }),
+        }
+        *answer
     }
 }
 
 fn own(bytes: &[u8]) -> Box<[u8]> {
     Box::from(bytes)
-}
-
-fn apart(target: &mut [u8], operate: impl FnOnce(&mut [u8], &mut AnswerArray)) -> AnswerArray {
-    let mut answer = Box::new(UNWRITTEN);
-    let mut written = own(target);
-    operate(&mut written, &mut answer);
-    target.copy_from_slice(&written);
-    *answer
 }

@@ -4,7 +4,7 @@ use std::cell::Cell;
 use std::ffi::{c_int, c_void};
 use std::ptr;
 
-use reference::compare::{AnswerArray, Engine};
+use reference::request::{AnswerArray, Engine, Request, Written};
 
 use crate::Linked;
 
@@ -18,29 +18,13 @@ impl LinkedOnStack {
     pub fn most(&self) -> usize {
         self.most.get()
     }
-
-    fn call(&self, operate: impl FnOnce() -> AnswerArray) -> AnswerArray {
-        let (answer, bytes) = on_filled_stack(operate);
-        self.most.set(self.most.get().max(bytes));
-        answer
-    }
 }
 
 impl Engine for LinkedOnStack {
-    fn check(&self, text: &[u8]) -> AnswerArray {
-        self.call(|| Linked.check(text))
-    }
-
-    fn fresh(&self, device: &[u8], target: &mut [u8]) -> AnswerArray {
-        self.call(|| Linked.fresh(device, target))
-    }
-
-    fn run(&self, text: &[u8], device: &[u8], outcome: &[u8], target: &mut [u8]) -> AnswerArray {
-        self.call(|| Linked.run(text, device, outcome, target))
-    }
-
-    fn close(&self, device: &[u8], outcome: &[u8], target: &mut [u8]) -> AnswerArray {
-        self.call(|| Linked.close(device, outcome, target))
+    fn answer(&self, request: &Request, written: &mut Written) -> AnswerArray {
+        let (answer, bytes) = on_filled_stack(|| Linked.answer(request, written));
+        self.most.set(self.most.get().max(bytes));
+        answer
     }
 }
 

@@ -8,51 +8,8 @@ use std::path::Path;
 
 use crate::generate::{self, Case, Rooms};
 use crate::joined;
-use crate::operations::{self, Answer};
-
-/// Number, line, visited, used and tried, then three zeros.
-pub type AnswerArray = [u32; 8];
-
-pub trait Engine {
-    fn check(&self, text: &[u8]) -> AnswerArray;
-    fn fresh(&self, device: &[u8], target: &mut [u8]) -> AnswerArray;
-    fn run(&self, text: &[u8], device: &[u8], outcome: &[u8], target: &mut [u8]) -> AnswerArray;
-    fn close(&self, device: &[u8], outcome: &[u8], target: &mut [u8]) -> AnswerArray;
-}
-
-/// The engine of this crate.
-pub struct Reference;
-
-impl From<Answer> for AnswerArray {
-    fn from(answer: Answer) -> AnswerArray {
-        let Answer {
-            number,
-            line,
-            visited,
-            used,
-            tried,
-        } = answer;
-        [number, line, visited, used, tried, 0, 0, 0]
-    }
-}
-
-impl Engine for Reference {
-    fn check(&self, text: &[u8]) -> AnswerArray {
-        operations::check(text).into()
-    }
-
-    fn fresh(&self, device: &[u8], target: &mut [u8]) -> AnswerArray {
-        operations::fresh(device, target).into()
-    }
-
-    fn run(&self, text: &[u8], device: &[u8], outcome: &[u8], target: &mut [u8]) -> AnswerArray {
-        operations::run(text, device, outcome, target).into()
-    }
-
-    fn close(&self, device: &[u8], outcome: &[u8], target: &mut [u8]) -> AnswerArray {
-        operations::close(device, outcome, target).into()
-    }
-}
+use crate::request::Written;
+pub use crate::request::{AnswerArray, Engine, Reference, Request};
 
 #[derive(Clone, Copy, Debug, PartialEq, Eq, PartialOrd, Ord)]
 pub enum Operation {
@@ -64,12 +21,12 @@ pub enum Operation {
     CloseAfterRun,
 }
 
-/// What an operation gave: its answer and its whole target.
+/// What an operation gave: its answer and all that it wrote to.
 #[derive(Clone, Debug, PartialEq, Eq)]
 pub struct Reply {
     pub operation: Operation,
     pub answer: AnswerArray,
-    pub target: Vec<u8>,
+    pub written: Written,
 }
 
 impl Reply {
@@ -92,23 +49,17 @@ impl Reply {
     /// The target, cut at the used length.
     pub fn record(&self) -> &[u8] {
         let used = self.answer[3] as usize;
-        &self.target[..used.min(self.target.len())]
+        &self.written.target[..used.min(self.written.target.len())]
     }
 }
 
-const UNWRITTEN: u8 = 0xAA;
-
-fn reply(
-    operation: Operation,
-    room: usize,
-    operate: impl FnOnce(&mut [u8]) -> AnswerArray,
-) -> Reply {
-    let mut target = vec![UNWRITTEN; room];
-    let answer = operate(&mut target);
+fn reply(engine: &dyn Engine, operation: Operation, request: &Request, room: usize) -> Reply {
+    let mut written = Written::with_target(room);
+    let answer = engine.answer(request, &mut written);
     Reply {
         operation,
         answer,
-        target,
+        written,
     }
 }
 
@@ -119,13 +70,16 @@ pub fn run_reply(
     outcome: &[u8],
     room: usize,
 ) -> Reply {
-    reply(Operation::Run, room, |target| {
-        engine.run(text, device, outcome, target)
-    })
+    let request = Request::Run {
+        text,
+        device,
+        outcome,
+    };
+    reply(engine, Operation::Run, &request, room)
 }
 
-fn check_reply(engine: &dyn Engine, text: &[u8]) -> Reply {
-    reply(Operation::Check, 0, |_| engine.check(text))
+pub fn check_reply(engine: &dyn Engine, text: &[u8]) -> Reply {
+    reply(engine, Operation::Check, &Request::Check { text }, 0)
 }
 
 /// What an engine gives for all operations of a case, the check first.
@@ -137,20 +91,23 @@ pub fn replies(engine: &dyn Engine, case: &Case) -> Vec<Reply> {
         rooms,
         ..
     } = case;
+    let close_of = |operation, outcome| {
+        let request = Request::Close { device, outcome };
+        reply(engine, operation, &request, rooms.close)
+    };
     let run = run_reply(engine, text, device, outcome, rooms.run);
     let mut replies = vec![
         check_reply(engine, text),
-        reply(Operation::Fresh, rooms.fresh, |target| {
-            engine.fresh(device, target)
-        }),
-        reply(Operation::Close, rooms.close, |target| {
-            engine.close(device, outcome, target)
-        }),
+        reply(
+            engine,
+            Operation::Fresh,
+            &Request::Fresh { device },
+            rooms.fresh,
+        ),
+        close_of(Operation::Close, outcome),
     ];
     if run.number() == 0 {
-        replies.push(reply(Operation::CloseAfterRun, rooms.close, |target| {
-            engine.close(device, run.record(), target)
-        }));
+        replies.push(close_of(Operation::CloseAfterRun, run.record()));
     }
     replies.insert(2, run);
     replies
@@ -194,7 +151,7 @@ impl fmt::Display for Difference {
 pub fn first_difference(left: &[Reply], right: &[Reply]) -> Option<Difference> {
     let mut both = left.iter().zip(right);
     let (left, right) = both.find(|(left, right)| left != right)?;
-    let mut bytes = left.target.iter().zip(&right.target);
+    let mut bytes = left.written.target.iter().zip(&right.written.target);
     Some(Difference {
         operation: left.operation,
         left: left.answer,

@@ -1,6 +1,6 @@
 //! What document 01 says of joined texts, checked of an engine.
 
-use crate::compare::{run_reply, Engine, Reply};
+use crate::compare::{check_reply, run_reply, Engine, Reply};
 use crate::generate::joins::{CutText, JoinList};
 use crate::generate::{Case, Rooms};
 use crate::rules::{self, Rule};
@@ -25,7 +25,7 @@ fn runs_in_a_row(engine: &dyn Engine, list: &JoinList) -> Vec<Reply> {
 /// Checks that the join is accepted and that its run is as the runs of the texts in a row.
 pub fn check_list(engine: &dyn Engine, list: &JoinList) -> Result<(), String> {
     let join = list.texts.concat();
-    let check = engine.check(&join);
+    let check = check_reply(engine, &join).answer;
     if check != [0; 8] {
         return Err(format!("the join is refused: {check:?}"));
     }
@@ -74,7 +74,7 @@ pub fn check_cuts(engine: &dyn Engine, cut_text: &CutText) -> Result<(), String>
     let all_accepted = cut_text
         .pieces()
         .iter()
-        .all(|piece| engine.check(piece) == [0; 8]);
+        .all(|piece| check_reply(engine, piece).answer == [0; 8]);
     let crossing = crossing_jump(&rules, cut_text);
     match (all_accepted, crossing) {
         (true, Some(line)) => Err(format!(

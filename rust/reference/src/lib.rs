@@ -18,6 +18,7 @@ pub mod pattern;
 pub mod property;
 pub mod record;
 pub mod refusal;
+pub mod request;
 pub mod rules;
 pub mod run_list;
 pub mod sizes;

@@ -2,6 +2,7 @@
 
 use reference::compare::{
     compare_cases, compare_joins, first_number, read_case, replies, write_case, Engine, Reference,
+    Request,
 };
 use reference::coverage::{Coverage, Fact, PIECES};
 use reference::generate::edges::EDGES;
@@ -10,6 +11,7 @@ use reference::generate::rng::Rng;
 use reference::generate::{case, pairing_shape};
 use reference::key::{Operator, KEYS};
 use reference::refusal::Fault;
+use reference::request::Written;
 use reference::Device;
 
 const CASES: u64 = 50_000;
@@ -108,31 +110,11 @@ struct Flawed {
     flaw: fn(&mut [u32; 8], &mut [u8]),
 }
 
-impl Flawed {
-    fn spoil(&self, mut answer: [u32; 8], target: &mut [u8]) -> [u32; 8] {
-        (self.flaw)(&mut answer, target);
-        answer
-    }
-}
-
 impl Engine for Flawed {
-    fn check(&self, text: &[u8]) -> [u32; 8] {
-        self.spoil(Reference.check(text), &mut [])
-    }
-
-    fn fresh(&self, device: &[u8], target: &mut [u8]) -> [u32; 8] {
-        let answer = Reference.fresh(device, target);
-        self.spoil(answer, target)
-    }
-
-    fn run(&self, text: &[u8], device: &[u8], outcome: &[u8], target: &mut [u8]) -> [u32; 8] {
-        let answer = Reference.run(text, device, outcome, target);
-        self.spoil(answer, target)
-    }
-
-    fn close(&self, device: &[u8], outcome: &[u8], target: &mut [u8]) -> [u32; 8] {
-        let answer = Reference.close(device, outcome, target);
-        self.spoil(answer, target)
+    fn answer(&self, request: &Request, written: &mut Written) -> [u32; 8] {
+        let mut answer = Reference.answer(request, written);
+        (self.flaw)(&mut answer, &mut written.target);
+        answer
     }
 }
 

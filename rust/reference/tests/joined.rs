@@ -3,10 +3,11 @@
 mod common;
 
 use common::*;
-use reference::compare::{run_reply, Engine, Reference};
+use reference::compare::{run_reply, Engine, Reference, Request};
 use reference::generate::joins::{cut_text, join_list, CutText, JoinList};
 use reference::joined::{check_cuts, check_list, crossing_jump};
 use reference::outcome::Outcome;
+use reference::request::Written;
 use reference::rules;
 use reference::sizes::{OUTCOME_TARGET, RULES, TEXT};
 
@@ -176,23 +177,25 @@ fn cuts_by_hand() {
 struct Lenient;
 
 impl Engine for Lenient {
-    fn check(&self, _: &[u8]) -> [u32; 8] {
-        [0; 8]
-    }
-
-    fn fresh(&self, device: &[u8], target: &mut [u8]) -> [u32; 8] {
-        Reference.fresh(device, target)
-    }
-
-    fn run(&self, text: &[u8], device: &[u8], outcome: &[u8], target: &mut [u8]) -> [u32; 8] {
-        // Runs only the first line of a text.
-        let end = text.iter().position(|&byte| byte == b'\n');
-        let first_line = &text[..end.unwrap_or(text.len())];
-        Reference.run(first_line, device, outcome, target)
-    }
-
-    fn close(&self, device: &[u8], outcome: &[u8], target: &mut [u8]) -> [u32; 8] {
-        Reference.close(device, outcome, target)
+    fn answer(&self, request: &Request, written: &mut Written) -> [u32; 8] {
+        match *request {
+            Request::Check { .. } => [0; 8],
+            Request::Run {
+                text,
+                device,
+                outcome,
+            } => {
+                // Runs only the first line of a text.
+                let end = text.iter().position(|&byte| byte == b'\n');
+                let first_line = Request::Run {
+                    text: &text[..end.unwrap_or(text.len())],
+                    device,
+                    outcome,
+                };
+                Reference.answer(&first_line, written)
+            }
+            _ => Reference.answer(request, written),
+        }
     }
 }
 

@@ -9,7 +9,8 @@ use std::time::Instant;
 
 use comparison::workloads::{all_workloads, counter, family, Workload};
 use comparison::Linked;
-use reference::compare::{run_reply, Engine, Reference};
+use reference::compare::{run_reply, Engine, Reference, Request};
+use reference::request::Written;
 use reference::{generate, sizes, Outcome};
 
 const USAGE: &str = "usage: bench
@@ -55,7 +56,7 @@ fn main() -> ExitCode {
 struct Bench {
     device: Vec<u8>,
     outcome: Vec<u8>,
-    target: Vec<u8>,
+    written: Written,
 }
 
 impl Bench {
@@ -64,19 +65,19 @@ impl Bench {
         Bench {
             device: counter().encode(),
             outcome: outcome.encode(),
-            target: vec![0; sizes::OUTCOME_TARGET],
+            written: Written::with_target(sizes::OUTCOME_TARGET),
         }
     }
 
     /// Runs a text and gives the nanoseconds that it took.
     fn run(&mut self, engine: &dyn Engine, text: &[u8]) -> f64 {
+        let request = Request::Run {
+            text,
+            device: &self.device,
+            outcome: &self.outcome,
+        };
         let start = Instant::now();
-        black_box(engine.run(
-            black_box(text),
-            &self.device,
-            &self.outcome,
-            &mut self.target,
-        ));
+        black_box(engine.answer(black_box(&request), &mut self.written));
         start.elapsed().as_nanos() as f64
     }
 
@@ -89,8 +90,9 @@ impl Bench {
     }
 
     fn assert_engines_agree(&self, text: &[u8]) {
+        let room = self.written.target.len();
         let [ours, reference] = [&Linked as &dyn Engine, &Reference]
-            .map(|engine| run_reply(engine, text, &self.device, &self.outcome, self.target.len()));
+            .map(|engine| run_reply(engine, text, &self.device, &self.outcome, room));
         assert_eq!(ours, reference);
     }
 }
@@ -231,7 +233,7 @@ fn times_of_case(seed: u64, runs: usize) -> [f64; 2] {
     let mut bench = Bench {
         device: case.device,
         outcome: case.outcome,
-        target: vec![0; sizes::OUTCOME_TARGET],
+        written: Written::with_target(sizes::OUTCOME_TARGET),
     };
     bench.times_of_both(runs, &case.text)
 }

@@ -1,0 +1,80 @@
+//! What an engine is asked for, and the engine of this crate.
+
+use crate::operations::{self, Answer};
+
+/// Number, line, visited, used and tried, then three zeros.
+pub type AnswerArray = [u32; 8];
+
+/// An operation with all that it is lent.
+#[derive(Clone, Copy, Debug)]
+pub enum Request<'a> {
+    Check {
+        text: &'a [u8],
+    },
+    Fresh {
+        device: &'a [u8],
+    },
+    Run {
+        text: &'a [u8],
+        device: &'a [u8],
+        outcome: &'a [u8],
+    },
+    Close {
+        device: &'a [u8],
+        outcome: &'a [u8],
+    },
+}
+
+/// What an operation writes to beside its answer.
+#[derive(Clone, Debug, Default, PartialEq, Eq)]
+pub struct Written {
+    pub target: Vec<u8>,
+}
+
+const UNWRITTEN: u8 = 0xAA;
+
+impl Written {
+    /// A target of that length, of bytes that show where nothing is written.
+    pub fn with_target(room: usize) -> Written {
+        Written {
+            target: vec![UNWRITTEN; room],
+        }
+    }
+}
+
+pub trait Engine {
+    fn answer(&self, request: &Request, written: &mut Written) -> AnswerArray;
+}
+
+/// The engine of this crate.
+pub struct Reference;
+
+impl Engine for Reference {
+    fn answer(&self, request: &Request, written: &mut Written) -> AnswerArray {
+        let target = &mut written.target;
+        let answer = match *request {
+            Request::Check { text } => operations::check(text),
+            Request::Fresh { device } => operations::fresh(device, target),
+            Request::Run {
+                text,
+                device,
+                outcome,
+            } => operations::run(text, device, outcome, target),
+            Request::Close { device, outcome } => operations::close(device, outcome, target),
+        };
+        answer.into()
+    }
+}
+
+impl From<Answer> for AnswerArray {
+    fn from(answer: Answer) -> AnswerArray {
+        let Answer {
+            number,
+            line,
+            visited,
+            used,
+            tried,
+        } = answer;
+        [number, line, visited, used, tried, 0, 0, 0]
+    }
+}
