@@ -21,7 +21,8 @@ use Rattle.template.specs.Template as template
 use Rattle.rules.specs.Key.{Key, RUN, sameKey, Op, equal, unequal, assign, add, remove, final, Row, rows, rowIn, rowOf, allows}
 use Rattle.rules.specs.Pair.{Pair, Rule, valueOf, labelOf, gotoOf}
 use Rattle.rules.specs.Setting.{Setting, escape-none, escape-replace, priority, digitsFrom, integerOf, settingOf}
-use Rattle.rules.specs.Reading.{readKey, isType, readArgument, readOp, quoted, unescape, readValue, sound, readPair, readPairs, readLine, reader}
+use Rattle.rules.specs.Coded.{escapes, escapeIn, coded}
+use Rattle.rules.specs.Reading.{readKey, isType, readArgument, readOp, quoted, unescape, readPlain, readCoded, readValue, sound, readPair, readPairs, readLine, reader}
 use Rattle.text.specs.Lines.{numbered, lines}
 use Rattle.text.specs.Reading as text
 use Rattle.text.specs.Reading.{collect, goesTo, settle}
@@ -146,8 +147,20 @@ pub examples : List Case
 examples =
     -- M6, and other values
     valued "\"a\\\"b\"" "a\"b" 3 ∷ valued "\"\\t\\n\"" "\\t\\n" 4 ∷ valued "\"\"" "" 0 ∷ valued "\"\\\\\"x\"" "\\\"x" 3 ∷ valued "\"a\\b\"" "a\\b" 3 ∷ valued "\"\\\\a\"" "\\\\a" 3
-    ∷ valued "\"\\\"\"" "\"" 1 ∷ valued "\"a\" \"b\"" "a" 1 ∷ unvalued "\"\\\\\"" ∷ unvalued "\"\\\"" ∷ unvalued "\"a" ∷ unvalued "a\"" ∷ unvalued "" ∷ unvalued "e\"a\""
+    ∷ valued "\"\\\"\"" "\"" 1 ∷ valued "\"a\" \"b\"" "a" 1 ∷ unvalued "\"\\\\\"" ∷ unvalued "\"\\\"" ∷ unvalued "\"a" ∷ unvalued "a\"" ∷ unvalued ""
     ∷ unvalued "\""
+    -- document 02, Item 1: values behind an e
+    ∷ valued "e\"string\\n\"" "string\n" 7 ∷ valued "e\"\\a\\b\\f\\n\\r\\t\\v\\\\\\\"\\'\"" "\u{7}\u{8}\u{c}\n\r\t\u{b}\\\"'" 10 ∷ valued "e\"\"" "" 0
+    ∷ valued "e\"\\\\\"" "\\" 1 ∷ valued "e\"\\x411\"" "A1" 2 ∷ valued "e\"\\x01\\x7f\\x4A\\x4a\"" "\u{1}\u{7f}JJ" 4 ∷ valued "e\"\t\u{1}'\" \"" "\t\u{1}'" 3 ∷ valued "e\"a\\\\\" x\"" "a\\" 2
+    ∷ unvalued "e\"\\x00\"" ∷ unvalued "e\"\\q\"" ∷ unvalued "e\"\\0\"" ∷ unvalued "e\"\\101\"" ∷ unvalued "e\"\\x4\"" ∷ unvalued "e\"\\xg1\"" ∷ unvalued "e\"\\x1g\"" ∷ unvalued "e\"\\"
+    ∷ unvalued "e\"a\\\"" ∷ unvalued "e \"a\"" ∷ unvalued "E\"a\"" ∷ unvalued "e\"a" ∷ unvalued "e\"\\N\"" ∷ unvalued "e\"\\x\"" ∷ unvalued "e\"\\X41\"" ∷ unvalued "e\"\\ \"" ∷ unvalued "e" ∷ unvalued "e'a'"
+    ∷ unvalued "ee\"a\"" ∷ unvalued "e\"\\?\"" ∷ unvalued "e\"\\e\""
+    ∷ readsOf (t "ENV{a}=e\"" ∷ rep 256 "\\n" ∷ t "\"" ∷ []) 1 ∷ refusedOf (t "ENV{a}=e\"" ∷ rep 257 "\\n" ∷ t "\"" ∷ []) 14 1
+    ∷ readsOf (t "ENV{a}=e\"" ∷ rep 200 "\\x41" ∷ rep 56 "a" ∷ t "\"" ∷ []) 1 ∷ refusedOf (t "ENV{a}=e\"" ∷ rep 200 "\\x41" ∷ rep 57 "a" ∷ t "\"" ∷ []) 14 1
+    ∷ unread "KERNEL==e\"[\\q\"" 14 1 ∷ unread "KERNEL==e\"\\x5b\"" 15 1 ∷ unread "RUN=e\"\\x24x\"" 15 1 ∷ unread "LABEL=e\"\"" 15 1 ∷ unread "KERNEL==e\"a\\x00\"" 14 1 ∷ unread "KERNEL==e\"a\0\"" 10 1
+    ∷ unread "TAG=e\"a\"e" 17 1 ∷ unread "TAG=e\"a\\\"\"\"" 17 1 ∷ unread "GOTO=\"\\x61\"\nLABEL=e\"\\x61\"" 19 1
+    ∷ reads "KERNEL==e\"a\\x7cb\"" (1 ∷ []) "KERNEL==<a|b>;" ∷ reads "GOTO=\"a\"\nLABEL=e\"\\x61\"" (1 ∷ 2 ∷ []) "GOTO=<a>;LABEL=<a>;" ∷ reads "ENV{e\"a\"} = \t e\"a\\nb\" , TAG=\"e\"" (1 ∷ []) "ENV{e\"a\"}=<a\nb>TAG=<e>;"
+    ∷ reads "OPTIONS=e\"link\\x5fpriority=7\"" (1 ∷ []) "OPTIONS=<link_priority=7>;" ∷ reads "TAG=e\"a\\n\"\nTAG=\"b\"" (1 ∷ 2 ∷ []) "TAG=<a\n>;TAG=<b>;"
     -- M8, and 19
     ∷ unread "LABEL=\"x\", GOTO=\"x\"" 19 1 ∷ unread "GOTO=\"x\"" 19 1 ∷ unread "LABEL=\"x\"\nGOTO=\"x\"" 19 2 ∷ unread "\n# c\nGOTO=\"x\"\nLABEL=\"X\"\nGOTO=\"y\"" 19 3
     ∷ unread "GOTO=\"a\"\nGOTO=\"b\"\nLABEL=\"a\"\nLABEL=\"c\"" 19 2 ∷ unread "GOTO=\"x\"\nLABEL=\"x \"" 19 1 ∷ unread "GOTO=\"x*\"\nLABEL=\"xy\"" 19 1 ∷ unread "KERNEL==\"a\", GOTO=\"x\", KERNEL!=\"a\"\nLABEL=\"y\"" 19 1
@@ -187,7 +200,7 @@ examples =
     ∷ unread "KERNEL=" 13 1 ∷ unread "KERNEL,ACTION==\"a\"" 13 1 ∷ unread "KERNEL#" 13 1
     -- 14
     ∷ unread "TAG=" 14 1 ∷ unread "TAG=a" 14 1 ∷ unread "TAG= =\"\"" 14 1 ∷ unread "TAG===\"a\"" 14 1 ∷ unread "ENV{a}= =\"b\"" 14 1 ∷ unread "TAG=\"a" 14 1
-    ∷ unread "TAG=\"a\\\"" 14 1 ∷ unread "TAG=\"\\\\\"" 14 1 ∷ unread "KERNEL==e\"a\"" 14 1 ∷ unread "KERNEL== a" 14 1 ∷ unread "KERNEL==," 14 1 ∷ unread "KERNEL!='a'" 14 1
+    ∷ unread "TAG=\"a\\\"" 14 1 ∷ unread "TAG=\"\\\\\"" 14 1 ∷ unread "KERNEL==E\"a\"" 14 1 ∷ unread "KERNEL== a" 14 1 ∷ unread "KERNEL==," 14 1 ∷ unread "KERNEL!='a'" 14 1
     ∷ unread "TAG=\"" 14 1 ∷ unread "RUN+=" 14 1 ∷ unread "TAG:=:=\"a\"" 14 1 ∷ unread "TAG=!\"a\"" 14 1 ∷ unread "TAG=+=\"a\"" 14 1 ∷ unread "KERNEL==\"[" 14 1
     ∷ unread "TAG==\"a\nTAG=\"b\"" 14 1 ∷ refusedOf (t "ENV{a}=\"" ∷ rep 257 "b" ∷ t "\"" ∷ []) 14 1 ∷ readsOf (t "ENV{a}=\"" ∷ rep 256 "b" ∷ t "\"" ∷ []) 1
     ∷ readsOf (t "ENV{a}=\"" ∷ rep 256 "\\\"" ∷ t "\"" ∷ []) 1 ∷ refusedOf (t "ENV{a}=\"" ∷ rep 257 "\\\"" ∷ t "\"" ∷ []) 14 1 ∷ refusedOf (t "KERNEL==\"" ∷ rep 257 "[" ∷ t "\"" ∷ []) 14 1
@@ -227,5 +240,5 @@ examples =
     ∷ []
 
 pub shown : wrong examples ≡ []
-unfolding wrong right numbered examples bytes built many nameOf argumentText pairText ruleText rulesText sameBytes starts span splitAt items inBraces pattern.members pattern.bodyOf pattern.elements pattern.wellFormed template.names template.letters template.nameIn template.pieces template.wellFormed rows rowIn rowOf valueOf digitsFrom integerOf settingOf readKey isType readArgument readOp quoted unescape readValue sound readPair readPairs readLine lines collect goesTo settle text.readText
+unfolding wrong right numbered examples bytes built many nameOf argumentText pairText ruleText rulesText sameBytes starts span splitAt items inBraces pattern.members pattern.bodyOf pattern.elements pattern.wellFormed template.names template.letters template.nameIn template.pieces template.wellFormed rows rowIn rowOf valueOf digitsFrom integerOf settingOf readKey isType readArgument readOp quoted unescape readPlain escapes escapeIn coded readCoded readValue sound readPair readPairs readLine lines collect goesTo settle text.readText
 shown = refl

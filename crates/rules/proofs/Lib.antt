@@ -5,3 +5,4 @@ pub mod Pairs
 pub mod Escapes
 pub mod Shorter
 pub mod Lines
+pub mod Coded

@@ -11,7 +11,7 @@ use lib.ListN.{length, getD, drop, length-drop, length-append}
 use Rattle.lists.specs.Lists.{pick}
 use Rattle.lists.specs.Bytes.{isUpper, isBlank, between}
 use Rattle.lists.specs.Runs.{Part, span}
-use Rattle.lists.specs.Items.{isInBraces, closeBrace, inBraces}
+use Rattle.lists.specs.Items.{Item, isInBraces, closeBrace, inBraces}
 use Rattle.lists.specs.Checked.{Checked, refused, ok, _>>=_, _>>_, require, found, Holds}
 use Rattle.lists.specs.Refusal.{Refusal, key-bad, argument-bad, operator-bad, value-bad, content-bad}
 use Rattle.lists.specs.Sizes.{mostKey, mostValue}
@@ -20,7 +20,8 @@ use Rattle.lists.proofs.Runs.{span-whole}
 use Rattle.lists.proofs.Checked.{holds-bind, holds-at}
 use Rattle.rules.specs.Key.{Op, equal, unequal, assign, add, remove, final, Takes, takes-none, takes-one, takes-type, Row, rowOf, allows}
 use Rattle.rules.specs.Pair.{Pair}
-use Rattle.rules.specs.Reading.{unblank, readKey, absent, isType, present, argumentBy, readArgument, ifEquals, opOf, readOp, quotedStep, quoted, startsMark, unescape, readValue, sound, readPair}
+use Rattle.rules.specs.Coded.{codedByte, put, codedThen, codedStep, coded}
+use Rattle.rules.specs.Reading.{unblank, readKey, absent, isType, present, argumentBy, readArgument, ifEquals, opOf, readOp, quotedStep, quoted, startsMark, unescape, readPlain, readCoded, startsCoded, valueBy, readValue, sound, readPair}
 use Rattle.rules.proofs.Sound.{Some, pick-some, found-some, require-then}
 
 -- at most n bytes are left
@@ -115,13 +116,52 @@ quoted-left escaped (b ∷ bs) = step-left (eqb b 34 && not escaped) b bs (quote
 abbrev Less : {A : Type 0} → ℕ → Part A → Type 0
 Less n p = length (p .rest) < n
 
-value-less : (bs : List ℕ) → Holds (Less (length bs)) (readValue bs)
-unfolding readValue
-value-less [] = tt
-value-less (b ∷ bs) =
+plain-less : (bs : List ℕ) → Holds (Less (length bs)) (readPlain bs)
+unfolding readPlain
+plain-less [] = tt
+plain-less (b ∷ bs) =
     require-then (Less (suc (length bs))) (startsMark (b ∷ bs)) value-bad _
     (λ _. holds-bind (Left (length bs)) (Less (suc (length bs))) (found (quoted false bs) value-bad) _ (found-some (Left (length bs)) (quoted false bs) value-bad (quoted-left false bs))
     (λ w k. require-then (Less (suc (length bs))) (leb (length (unescape (w .value))) mostValue) value-bad _ (λ _. omega arith)))
+
+put-left : (n b : ℕ) (o : Option (Part (List ℕ))) → Some (Left n) o → Some (Left (suc n)) (put b o)
+put-left n b none h = tt
+put-left n b (some p) h = omega arith
+
+longer : (n : ℕ) (o : Option (Part (List ℕ))) → Some (Left n) o → Some (Left (suc n)) o
+longer n none h = tt
+longer n (some p) h = omega arith
+
+coded-left : (k : ℕ) (bs : List ℕ) → Some (Left (length bs)) (coded k bs)
+unfolding coded
+coded-left k [] = tt
+coded-left (suc k) (b ∷ bs) = longer (length bs) (coded k bs) (coded-left k bs)
+coded-left zero (b ∷ bs) = at (eqb b 34) (λ m. coded-left m bs)
+  where
+    on : (o : Option (Item ℕ)) → ((m : ℕ) → Some (Left (length bs)) (coded m bs)) → Some (Left (suc (length bs))) (codedThen o (λ more. coded more bs))
+    on none f = tt
+    on (some i) f = put-left (length bs) (i .value) (coded (i .more) bs) (f (i .more))
+
+    at : (t : Bool) → ((m : ℕ) → Some (Left (length bs)) (coded m bs)) → Some (Left (suc (length bs))) (codedStep t b bs (λ more. coded more bs))
+    at true f = omega arith
+    at false f = on (codedByte b bs) f
+
+-- and so are the `e` and the mark
+coded-less : (bs : List ℕ) → startsCoded bs ≡ true → Holds (Less (length bs)) (readCoded (drop 2 bs))
+unfolding readCoded
+coded-less [] e = let z : _≡_ {A = ℕ} 0 1 = cc in absurd (omega arith)
+coded-less (b ∷ bs) e =
+    holds-bind (Left (length (drop 2 (b ∷ bs)))) (Less (suc (length bs))) (found (coded 0 (drop 2 (b ∷ bs))) value-bad) _
+    (found-some (Left (length (drop 2 (b ∷ bs)))) (coded 0 (drop 2 (b ∷ bs))) value-bad (coded-left 0 (drop 2 (b ∷ bs))))
+    (λ v k. require-then (Less (suc (length bs))) (leb (length (v .value)) mostValue) value-bad _ (λ _. omega (arith, length-drop 2 (b ∷ bs))))
+
+value-less : (bs : List ℕ) → Holds (Less (length bs)) (readValue bs)
+unfolding readValue
+value-less bs = at (startsCoded bs) refl
+  where
+    at : (t : Bool) → startsCoded bs ≡ t → Holds (Less (length bs)) (valueBy t bs)
+    at true e = coded-less bs e
+    at false e = plain-less bs
 
 pair-less : (bs : List ℕ) → Holds (Less (length bs)) (readPair bs)
 unfolding readPair

@@ -10,10 +10,10 @@ use lib.ListN.{length, getD, drop}
 use lib.Dec.{leb, ltb, eqb}
 use lib.IntN.{ℤ, pos, negsuc}
 use borrow.Author.Tests.{leb-true, not-true}
-use Rattle.lists.specs.Lists.{pick}
+use Rattle.lists.specs.Lists.{pick, All}
 use Rattle.lists.specs.Bytes.{isDigit, isUpper, isBlank, between, sameBytes, holds, starts, clean, okText}
 use Rattle.lists.specs.Runs.{Part, span}
-use Rattle.lists.specs.Items.{isInBraces, closeBrace, inBraces}
+use Rattle.lists.specs.Items.{Item, isInBraces, closeBrace, inBraces}
 use Rattle.lists.specs.Refusal.{Refusal, line-bad, key-bad, argument-bad, operator-bad, value-bad, content-bad, pair-extra, comma-missing}
 use Rattle.lists.specs.Checked.{Checked, refused, ok, _>>=_, _>>_, require, found, Holds}
 use Rattle.lists.specs.Sizes.{mostKey, mostTag, mostValue, mostPairs, mostLine}
@@ -26,9 +26,10 @@ use Rattle.template.specs.Template.{wellFormed}
 use Rattle.rules.specs.Key.{Key, ACTION, DEVPATH, KERNEL, KERNELS, SUBSYSTEM, SUBSYSTEMS, DRIVER, DRIVERS, ATTR, ATTRS, ENV, SYMLINK, TAG, OWNER, GROUP, MODE, RUN, LABEL, GOTO, OPTIONS, sameKey, Op, equal, unequal, assign, add, remove, final, isMatch, Takes, takes-none, takes-one, takes-type, Row, rows, rowIn, rowOf, allows}
 use Rattle.rules.specs.Pair.{Pair, Rule}
 use Rattle.rules.specs.Setting.{Setting, escape-none, escape-replace, priority, minus, withSign, digitsFrom, integerOf, priorityOf, priorityName, settingOf}
+use Rattle.rules.specs.Coded.{Escape, escapes, escapeIn, hexDigit, hexByte, taking, escaped, codedByte, put, codedThen, codedStep, coded}
 use Rattle.rules.specs.Reading as R
 use Rattle.text.specs.Engine as T
-use Rattle.rules.specs.Reading.{unblank, readKey, absent, isType, present, argumentBy, readArgument, ifEquals, opOf, readOp, quotedStep, quoted, startsMark, unescapeStep, unescape, readValue, soundAssigned, soundBy, sound, readPair, again, commaThen, others, readPairs, ruleRead, commentOr, readUnblank, readSized, readLine}
+use Rattle.rules.specs.Reading.{unblank, readKey, absent, isType, present, argumentBy, readArgument, ifEquals, opOf, readOp, quotedStep, quoted, startsMark, unescapeStep, unescape, readPlain, readCoded, startsCoded, valueBy, readValue, soundAssigned, soundBy, sound, readPair, again, commaThen, others, readPairs, ruleRead, commentOr, readUnblank, readSized, readLine}
 
 -- ---- what reading ensures of a pair
 
@@ -290,14 +291,79 @@ unescape-clean (b ∷ bs) h =
 abbrev ValueOk : Part (List ℕ) → Type 0
 ValueOk v = (clean (v .value) ≡ true) × ((length (v .value) ≤ mostValue) × (clean (v .rest) ≡ true))
 
-value-ok : (bs : List ℕ) → clean bs ≡ true → Holds ValueOk (readValue bs)
-unfolding readValue
-value-ok bs h =
+plain-ok : (bs : List ℕ) → clean bs ≡ true → Holds ValueOk (readPlain bs)
+unfolding readPlain
+plain-ok bs h =
     require-then ValueOk (startsMark bs) value-bad _
     (λ _. holds-bind CleanPart ValueOk (found (quoted false (drop 1 bs)) value-bad) _
     (found-some CleanPart (quoted false (drop 1 bs)) value-bad (quoted-ok false (drop 1 bs) (drop-clean 1 bs h)))
     (λ w k. require-then ValueOk (leb (length (unescape (w .value))) mostValue) value-bad _
     (λ e. (unescape-clean (w .value) (k .0), (leb-true (length (unescape (w .value))) mostValue e, k .1)))))
+
+-- a byte that is not NUL
+abbrev NotNul : ℕ → Type 0
+NotNul b = not (eqb b 0) ≡ true
+
+escapeIn-clean : (es : List Escape) → All (λ (e : Escape). NotNul (e .byte)) es → (c : ℕ) → Some NotNul (escapeIn es c)
+unfolding escapeIn
+escapeIn-clean [] h c = tt
+escapeIn-clean (e ∷ es) (h, hs) c = pick-some NotNul (eqb (e .letter) c) (some (e .byte)) (escapeIn es c) h (escapeIn-clean es hs c)
+
+escapes-clean : All (λ (e : Escape). NotNul (e .byte)) escapes
+unfolding escapes
+escapes-clean = (refl, (refl, (refl, (refl, (refl, (refl, (refl, (refl, (refl, (refl, tt))))))))))
+
+hex-clean : (h l : Option ℕ) → Some NotNul (hexByte h l)
+hex-clean none l = tt
+hex-clean (some h) none = tt
+hex-clean (some h) (some l) = at (eqb (h * 16 + l) 0) refl
+  where
+    at : (t : Bool) → eqb (h * 16 + l) 0 ≡ t → Some NotNul (pick t none (some (h * 16 + l)))
+    at true e = tt
+    at false e = rw e
+
+taking-clean : (n : ℕ) (o : Option ℕ) → Some NotNul o → Some (λ (i : Item ℕ). NotNul (i .value)) (taking n o)
+taking-clean n none h = tt
+taking-clean n (some b) h = h
+
+codedByte-clean : (b : ℕ) (bs : List ℕ) → NotNul b → Some (λ (i : Item ℕ). NotNul (i .value)) (codedByte b bs)
+codedByte-clean b bs h =
+    pick-some (λ (i : Item ℕ). NotNul (i .value)) (eqb b 92) (escaped bs) (some (record { value = b; more = 0 }))
+    (pick-some (λ (i : Item ℕ). NotNul (i .value)) (eqb (getD bs 0 0) 120) _ _
+    (taking-clean 3 (hexByte (hexDigit (getD bs 1 0)) (hexDigit (getD bs 2 0))) (hex-clean (hexDigit (getD bs 1 0)) (hexDigit (getD bs 2 0))))
+    (taking-clean 1 (escapeIn escapes (getD bs 0 0)) (escapeIn-clean escapes escapes-clean (getD bs 0 0)))) h
+
+put-clean : (b : ℕ) (o : Option (Part (List ℕ))) → NotNul b → Some CleanPart o → Some CleanPart (put b o)
+put-clean b none h k = tt
+put-clean b (some p) h (k, l) = (both-and (not (eqb b 0)) (clean (p .value)) h k, l)
+
+coded-clean : (k : ℕ) (bs : List ℕ) → clean bs ≡ true → Some CleanPart (coded k bs)
+unfolding coded
+coded-clean k [] h = tt
+coded-clean (suc k) (b ∷ bs) h = coded-clean k bs (and-both (not (eqb b 0)) (clean bs) h .1)
+coded-clean zero (b ∷ bs) h = at (eqb b 34) (and-both (not (eqb b 0)) (clean bs) h) (λ m c. coded-clean m bs c)
+  where
+    on : (o : Option (Item ℕ)) → Some (λ (i : Item ℕ). NotNul (i .value)) o → ((m : ℕ) → Some CleanPart (coded m bs)) → Some CleanPart (codedThen o (λ more. coded more bs))
+    on none g f = tt
+    on (some i) g f = put-clean (i .value) (coded (i .more) bs) g (f (i .more))
+
+    at : (t : Bool) → (not (eqb b 0) ≡ true) × (clean bs ≡ true) → ((m : ℕ) → clean bs ≡ true → Some CleanPart (coded m bs)) → Some CleanPart (codedStep t b bs (λ more. coded more bs))
+    at true (p, q) f = (refl, q)
+    at false (p, q) f = on (codedByte b bs) (codedByte-clean b bs p) (λ m. f m q)
+
+coded-ok : (bs : List ℕ) → clean bs ≡ true → Holds ValueOk (readCoded bs)
+unfolding readCoded
+coded-ok bs h =
+    holds-bind CleanPart ValueOk (found (coded 0 bs) value-bad) _ (found-some CleanPart (coded 0 bs) value-bad (coded-clean 0 bs h))
+    (λ v k. require-then ValueOk (leb (length (v .value)) mostValue) value-bad _ (λ e. (k .0, (leb-true (length (v .value)) mostValue e, k .1))))
+
+value-ok : (bs : List ℕ) → clean bs ≡ true → Holds ValueOk (readValue bs)
+unfolding readValue
+value-ok bs h = at (startsCoded bs)
+  where
+    at : (t : Bool) → Holds ValueOk (valueBy t bs)
+    at true = coded-ok (drop 2 bs) (drop-clean 2 bs h)
+    at false = plain-ok bs h
 
 -- ---- a pair
 

@@ -19,6 +19,7 @@ use Rattle.template.specs.Template as template
 use Rattle.rules.specs.Key.{Key, ACTION, DEVPATH, KERNEL, KERNELS, SUBSYSTEM, SUBSYSTEMS, DRIVER, DRIVERS, ATTR, ATTRS, ENV, SYMLINK, TAG, OWNER, GROUP, MODE, RUN, LABEL, GOTO, OPTIONS, sameKey, Op, equal, unequal, assign, add, remove, final, isMatch, Takes, takes-none, takes-one, takes-type, Row, allows, rowOf}
 use Rattle.rules.specs.Pair.{Pair, Rule, labelOf, gotoOf}
 use Rattle.rules.specs.Setting.{settingOf}
+use Rattle.rules.specs.Coded.{coded}
 use Rattle.text.specs.Engine.{LineRead, skip, fault, rule, Reader}
 
 -- without the blanks at its start
@@ -106,14 +107,34 @@ unfoldable pub unescape : List ℕ → List ℕ
 unescape [] = []
 unescape (b ∷ bs) = unescapeStep (eqb b 92 && startsMark bs) b (unescape bs)
 
--- the value at the head, unescaped: opened, closed, at most 256 bytes
-unfoldable pub readValue : List ℕ → Checked Refusal (Part (List ℕ))
-readValue bs = do
+-- a plain value, unescaped: opened, closed, at most 256 bytes
+unfoldable pub readPlain : List ℕ → Checked Refusal (Part (List ℕ))
+readPlain bs = do
   require (startsMark bs) value-bad
   written ← found (quoted false (drop 1 bs)) value-bad
   let value = unescape (written .value)
   require (leb (length value) mostValue) value-bad
   ok (record { value = value; rest = written .rest })
+
+-- document 02, Item 1: a value behind an `e` and the opening mark: each escape one of those that are known, closed, at most 256 bytes
+unfoldable pub readCoded : List ℕ → Checked Refusal (Part (List ℕ))
+readCoded bs = do
+  v ← found (coded 0 bs) value-bad
+  require (leb (length (v .value)) mostValue) value-bad
+  ok v
+
+-- an `e` directly before a mark
+abbrev pub startsCoded : List ℕ → Bool
+startsCoded [] = false
+startsCoded (b ∷ bs) = eqb b 101 && startsMark bs
+
+abbrev pub valueBy : Bool → List ℕ → Checked Refusal (Part (List ℕ))
+valueBy true bs = readCoded (drop 2 bs)
+valueBy false bs = readPlain bs
+
+-- the value at the head, in either form
+unfoldable pub readValue : List ℕ → Checked Refusal (Part (List ℕ))
+readValue bs = valueBy (startsCoded bs) bs
 
 -- ---- 15: the content
 
