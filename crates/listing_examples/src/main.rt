@@ -69,6 +69,11 @@ fn main() {
         &DEVICE,
     );
     show(
+        b"a newline and a backslash at the end",
+        b"OPTIONS=\"string_escape=none\", SYMLINK+=e\"a\\nb c\\\\\", ENV{K}=e\"v\\x0aw\\\\\", TAG+=e\"t\\n\"\x0aTAG==e\"t\\n\", TAG+=\"seen\"",
+        &DEVICE,
+    );
+    show(
         b"all settings",
         b"OPTIONS+=\"link_priority=-2147483648\", OWNER=\"root\", GROUP=\"adm\", MODE=\"5\", SYMLINK=\"a b\", TAG+=\"t\"",
         &DEVICE,

@@ -9,7 +9,7 @@ use lib.ListN.{length, drop}
 use Rattle.lists.specs.Lists.{isEmpty}
 use Rattle.lists.specs.Checked.{refused}
 use Rattle.lists.specs.Refusal.{content-bad}
-use Rattle.rules.specs.Reading.{sound, unescape, readPair}
+use Rattle.rules.specs.Reading.{sound, readPair}
 use Rattle.keys.specs.Table.{keyOf, operatorOf}
 use Rattle.refusals.specs.Refusals.{refusalOf}
 use Rattle.refusals.specs.declared.Refusal as code
@@ -17,7 +17,7 @@ use Rattle.pairs.specs.declared.Pair.{Pair}
 use Rattle.pairs.specs.declared.PairRead.{PairRead}
 use Rattle.pairs.specs.declared.PairRead.the-variants.{Read, Refused}
 use Rattle.pairs.specs.Stages.{pairWritten}
-use Rattle.pairs.specs.Answers.{part, readBy}
+use Rattle.pairs.specs.Answers.{part, unescaped, readBy}
 use Rattle.pairs.proofs.Whole.{read-written}
 
 -- a list without an element
@@ -27,11 +27,11 @@ length-empty (b ∷ v) = eqb·suc-zero (length v)
 
 module _ (line : List ℕ) (at : ℕ) (r : PairRead) (written : readBy line r ≡ pairWritten (drop at line)) where
   module _ (p : Pair) (is : r ≡ Read p) where
-    pub pair-sound : sound (keyOf (p .key)) (operatorOf (p .operator)) (unescape (part line (p .start) (p .end))) ≡ true
+    pub pair-sound : sound (keyOf (p .key)) (operatorOf (p .operator)) (unescaped (p .coded) (part line (p .start) (p .end))) ≡ true
         → readBy line (Read p) ≡ readPair (drop at line)
     pair-sound s = sym (rw (read-written (drop at line), ← written, is, s))
 
-    pub pair-unsound : sound (keyOf (p .key)) (operatorOf (p .operator)) (unescape (part line (p .start) (p .end))) ≡ false
+    pub pair-unsound : sound (keyOf (p .key)) (operatorOf (p .operator)) (unescaped (p .coded) (part line (p .start) (p .end))) ≡ false
         → refused content-bad ≡ readPair (drop at line)
     pair-unsound s = sym (rw (read-written (drop at line), ← written, is, s))
 

@@ -8,8 +8,8 @@ ghost use Rattle.rules.specs.Key.{isMatch};
 ghost use Rattle.rules.specs.Setting.{settingOf};
 ghost use Rattle.rules.specs.Reading as reading;
 ghost use Rattle.keys.specs.Table.{keyOf, operatorOf};
-ghost use Rattle.pairs.specs.Answers.{part, readBy};
-ghost use Rattle.pairs.specs.Bounds.{ValueAt, ReadIn};
+ghost use Rattle.pairs.specs.Answers.{part, unescaped, readBy};
+ghost use Rattle.pairs.specs.Bounds.{WrittenAt, ValueAt, ReadIn};
 use keys::Key;
 use keys::Operator;
 use pairs::PairRead;
@@ -83,12 +83,19 @@ pub fn value_sound(key: Key, operator: Operator, value: &[u8]) -> bool
 }
 
 // The same of a value with escapes, as written from start to end.
-fn escaped_sound(key: Key, operator: Operator, line: &[u8], start: usize, end: usize) -> bool
-    requires { ⌜ (start ≤ end) × (end ≤ length (now line)) × (length (reading.unescape (part (now line) start end)) ≤ 256) ⌝ }
-    ensures { λ r. ⌜ r ≡ reading.sound (keyOf key) (operatorOf operator) (reading.unescape (part (now (line .entry)) start end)) ⌝ }
+fn escaped_sound(
+    key: Key,
+    operator: Operator,
+    line: &[u8],
+    coded: bool,
+    start: usize,
+    end: usize,
+) -> bool
+    requires { ⌜ WrittenAt (now line) coded start end × (length (unescaped coded (part (now line) start end)) ≤ 256) ⌝ }
+    ensures { λ r. ⌜ r ≡ reading.sound (keyOf key) (operatorOf operator) (unescaped coded (part (now (line .entry)) start end)) ⌝ }
 {
     let mut value = [0u8; 256];
-    let n = pairs::value_into(line, start, end, &mut value);
+    let n = pairs::value_into(line, coded, start, end, &mut value);
     value_sound(key, operator, &value[..n])
 }
 
@@ -97,17 +104,18 @@ fn written_sound(
     key: Key,
     operator: Operator,
     line: &[u8],
+    coded: bool,
     start: usize,
     end: usize,
     len: usize,
 ) -> bool
-    requires { ⌜ ValueAt (now line) start end len ⌝ }
-    ensures { λ r. ⌜ r ≡ reading.sound (keyOf key) (operatorOf operator) (reading.unescape (part (now (line .entry)) start end)) ⌝ }
+    requires { ⌜ ValueAt (now line) coded start end len ⌝ }
+    ensures { λ r. ⌜ r ≡ reading.sound (keyOf key) (operatorOf operator) (unescaped coded (part (now (line .entry)) start end)) ⌝ }
 {
     if len == end - start {
         return value_sound(key, operator, &line[start..end]);
     }
-    escaped_sound(key, operator, line, start, end)
+    escaped_sound(key, operator, line, coded, start, end)
 }
 
 // ---- a pair
@@ -121,7 +129,7 @@ pub fn read_pair(line: &[u8], at: usize) -> PairRead
         PairRead::Read(p) => {
             let key = p.key;
             let operator = p.operator;
-            if written_sound(key, operator, line, p.start, p.end, p.len) {
+            if written_sound(key, operator, line, p.coded, p.start, p.end, p.len) {
                 PairRead::Read(p)
             } else {
                 PairRead::Refused(Refusal::ContentBad)

@@ -13,7 +13,8 @@ use Rattle.rules.specs.Places.{weights}
 use Rattle.lists.specs.Runs.{Part}
 use Rattle.rules.specs.Reading.{startsMark, unescape}
 use Rattle.rules.proofs.Values.{value-length}
-use Rattle.pairs.specs.Answers.{part}
+use Rattle.escapes.proofs.Values.{plain-written}
+use Rattle.pairs.specs.Answers.{part, unescaped}
 use Rattle.pairs.specs.Bounds.{ValueAt}
 use Rattle.pairs.proofs.Parts.{part-length}
 
@@ -50,10 +51,13 @@ plain-value (b ∷ s) h =
     rest true n e = absurd (omega (arith, weights-le s))
     rest false n e = omega arith
 
--- a value whose length is the number of its places
-pub plain-part : (line : List ℕ) (s e n : ℕ) → ValueAt line s e n → n ≡ e - s → unescape (part line s e) ≡ part line s e
-plain-part line s e n v h =
+-- a value whose length is the number of its places, in either form
+pub plain-part : (line : List ℕ) (c : Bool) (s e n : ℕ) → ValueAt line c s e n → n ≡ e - s → unescaped c (part line s e) ≡ part line s e
+plain-part line true s e n v h =
+    let w = v .written in
+    plain-written line s e (record { from = w .from; within = w .within; closed = w .closed }) (omega (arith, v .size))
+plain-part line false s e n v h =
     let p : Part (List ℕ) = record { value = part line s e; rest = drop (e + 1) line } in
-    let l = value-length false (drop s line) p (v .closed) in
-    let w = v .within in
-    plain-value (part line s e) (omega (arith, v .size, part-length line s e (v .from) (omega arith)))
+    let l = value-length false (drop s line) p (v .written .closed) in
+    let w = v .written .within in
+    plain-value (part line s e) (omega (arith, v .size, part-length line s e (v .written .from) (omega arith)))

@@ -2,7 +2,7 @@
 -- Assumes nothing.
 use Prim.Native.Nat.{ℕ, _+_, _-_, _≤_, _<_}
 use mathlib.Core.Path.{_≡_, refl, _∙_}
-use mathlib.Core.Bool.{Bool, true, false}
+use mathlib.Core.Bool.{Bool, true, false, _&&_}
 use mathlib.Core.List.{List}
 use mathlib.Core.Option.{Option, none, some}
 use native.Mathlib.Nat.{add-zero}
@@ -20,7 +20,8 @@ use Rattle.lists.specs.Sizes.{mostKey, mostValue}
 use Rattle.lists.proofs.Rest.{rest-at, byte-in}
 use Rattle.lists.proofs.Runs.{run-at, rest-of}
 use Rattle.rules.specs.Key.{Takes, takes-none, takes-one, takes-type, Op, allows, Row, rowOf}
-use Rattle.rules.specs.Reading.{unblank, readKey, absent, present, readArgument, opOf, readOp, quoted, startsMark, unescape, readValue}
+use Rattle.rules.specs.Coded.{coded}
+use Rattle.rules.specs.Reading.{unblank, readKey, absent, present, readArgument, opOf, readOp, quoted, startsMark, unescape, readPlain, readCoded, startsCoded, readValue}
 use Rattle.pairs.specs.declared.OperatorRead.{OperatorRead}
 use Rattle.pairs.specs.Stages.{typeAllowed}
 use Rattle.pairs.specs.Answers.{part, operatorBy}
@@ -105,11 +106,41 @@ marks-at s at = go (leb (length s) at) refl
 abbrev pub sized : Option (Part (List ℕ)) → Checked Refusal (Part (List ℕ))
 sized o = found o value-bad >>= λ w. require (leb (length (unescape (w .value))) mostValue) value-bad >> ok (record { value = unescape (w .value); rest = w .rest })
 
-module _ (s : List ℕ) (at : ℕ) where
-  pub no-mark : (getD s at 0 ≡ 34 → ⊥) → readValue (drop at s) ≡ refused value-bad
-  unfolding readValue
-  no-mark n = rw (marks-at s at, ne-eqb (getD s at 0) 34 n)
+coded-at : (s : List ℕ) (at : ℕ) → startsCoded (drop at s) ≡ (eqb (getD s at 0) 101 && eqb (getD s (at + 1) 0) 34)
+coded-at s at = go (leb (length s) at) refl
+  where
+    go : (x : Bool) → leb (length s) at ≡ x → startsCoded (drop at s) ≡ (eqb (getD s at 0) 101 && eqb (getD s (at + 1) 0) 34)
+    go true h = let l = leb-true (length s) at h in rw (drop-of-length-le s l, List·getD-eq-default s 0 l)
+    go false h = rw (rest-at s at (leb-false (length s) at h), marks-at s (at + 1))
 
-  pub mark : getD s at 0 ≡ 34 → readValue (drop at s) ≡ sized (quoted false (drop (at + 1) s))
-  unfolding readValue
+module _ (s : List ℕ) (at : ℕ) where
+  pub mark : getD s at 0 ≡ 34 → readPlain (drop at s) ≡ sized (quoted false (drop (at + 1) s))
+  unfolding readPlain
   mark e = rw (marks-at s at, eq-eqb (getD s at 0) 34 e, drop-drop 1 at s)
+
+  pub value-plain : getD s at 0 ≡ 34 → readValue (drop at s) ≡ readPlain (drop at s)
+  unfolding readValue
+  value-plain e = rw (coded-at s at, e)
+
+  pub no-mark : (getD s at 0 ≡ 34 → ⊥) → (getD s at 0 ≡ 101 → ⊥) → readValue (drop at s) ≡ refused value-bad
+  unfolding readValue readPlain
+  no-mark n m = rw (coded-at s at, ne-eqb (getD s at 0) 101 m, marks-at s at, ne-eqb (getD s at 0) 34 n)
+
+  module _ (e : getD s at 0 ≡ 101) where
+    pub no-mark-behind : (getD s (at + 1) 0 ≡ 34 → ⊥) → readValue (drop at s) ≡ refused value-bad
+    unfolding readValue readPlain
+    no-mark-behind n = rw (coded-at s at, e, ne-eqb (getD s (at + 1) 0) 34 n, marks-at s at, e)
+
+    pub value-coded : getD s (at + 1) 0 ≡ 34 → readValue (drop at s) ≡ readCoded (drop (at + 2) s)
+    unfolding readValue
+    value-coded m = rw (coded-at s at, e, m, drop-drop 2 at s)
+
+-- behind an `e` and a mark
+module _ (bs : List ℕ) where
+  pub coded-faulty : coded 0 bs ≡ none → readCoded bs ≡ refused value-bad
+  unfolding readCoded
+  coded-faulty e = rw e
+
+  pub coded-closed : (p : Part (List ℕ)) → coded 0 bs ≡ some p → readCoded bs ≡ (require (leb (length (p .value)) mostValue) value-bad >> ok p)
+  unfolding readCoded
+  coded-closed p e = rw e

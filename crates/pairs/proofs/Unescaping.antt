@@ -4,14 +4,20 @@ use Prim.Native.Nat.{ℕ, _+_, _≤_, _<_}
 use mathlib.Core.Path.{_≡_, refl, sym, ap, _∙_}
 use mathlib.Core.Bool.{Bool, true, false, _&&_}
 use mathlib.Core.List.{List, [], _∷_, _++_, append-assoc, append-nil}
+use mathlib.Core.Option.{none, Option·none-ne-some, Option·some-injective}
 use native.Mathlib.Numerals.{add-one}
 use native.Mathlib.Omega.{arith}
 use lib.Dec.{eqb}
-use lib.ListN.{length, getD, take, set, length-set, length-append}
+use lib.ListN.{length, getD, take, drop, set, length-set, length-append}
 use lib.Seq.{length-take-le, take-suc-set}
+use Rattle.lists.specs.Runs.{Part}
+use Rattle.rules.specs.Coded.{coded}
 use Rattle.rules.specs.Reading.{startsMark, unescape, unescapeStep}
+use Rattle.escapes.specs.declared.Closed.the-variants.{At}
+use Rattle.escapes.specs.Values.{decoded}
+use Rattle.escapes.specs.Answers.{ClosedIs}
 use Rattle.pairs.specs.Answers.{part}
-use Rattle.pairs.specs.Bounds.{Put}
+use Rattle.pairs.specs.Bounds.{WrittenAt, Put}
 use Rattle.pairs.proofs.Parts.{part-cons, part-empty}
 
 pub starts-at : (s : List ℕ) (a e : ℕ) → a < e → e ≤ length s → startsMark (part s a e) ≡ eqb (getD s a 0) 34
@@ -72,3 +78,16 @@ module _ (s : List ℕ) (start e : ℕ) (out₀ : List ℕ) (h : e ≤ length s)
     put-ends l =
         let w : take n out ≡ unescape (part s start e) = sym (append-nil (take n out)) ∙ ap (λ (x : List ℕ). take n out ++ unescape x) (sym (part-empty s i e l)) ∙ p .whole in
         record { is = w; size = sym (length-take-le n out (omega arith)) ∙ ap length w }
+
+-- ---- a value behind an `e`
+
+module _ (line : List ℕ) (start end : ℕ) (w : WrittenAt line true start end) where
+  pub decoded-put : (e n : ℕ) (out out′ : List ℕ) → ClosedIs line start out out′ (At e n) → length (decoded (part line start end)) ≤ length out → Put (decoded (part line start end)) out′ n
+  decoded-put e n out out′ c h =
+      let v : decoded (part line start e) ≡ decoded (part line start end) =
+      ap (λ (p : Part (List ℕ)). p .value) (Option·some-injective _ _ (sym (c .0 .closed) ∙ w .closed)) in
+      let l = ap length v in
+      record { is = c .2 (omega (arith, c .1)) ∙ v; size = c .1 ∙ l }
+
+  pub never-faulty : coded 0 (drop start line) ≡ none → ⊥
+  never-faulty e = Option·none-ne-some _ (sym e ∙ w .closed)

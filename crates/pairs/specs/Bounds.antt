@@ -2,7 +2,7 @@
 -- Assumes nothing.
 use Prim.Native.Nat.{ℕ, _+_, _-_, _≤_, _<_}
 use mathlib.Core.Path.{_≡_}
-use mathlib.Core.Bool.{false}
+use mathlib.Core.Bool.{Bool, true, false}
 use mathlib.Core.List.{List}
 use mathlib.Core.Option.{none, some}
 use lib.Dec.{ltb}
@@ -10,10 +10,15 @@ use lib.ListN.{length, take, drop}
 use Rattle.lists.specs.Lists.{pick}
 use Rattle.lists.specs.Sizes.{mostValue}
 use Rattle.rules.specs.Places.{closeEnd, weights}
-use Rattle.rules.specs.Reading.{quoted, unescape}
+use Rattle.rules.specs.Coded.{coded}
+use Rattle.rules.specs.Reading.{quoted}
+use Rattle.escapes.specs.Values.{decoded}
 use Rattle.pairs.specs.declared.Pair.{Pair}
 use Rattle.pairs.specs.declared.PairRead.{PairRead}
 use Rattle.pairs.specs.declared.PairRead.the-variants.{Read, Refused}
+use Rattle.pairs.specs.declared.Head.{Head}
+use Rattle.pairs.specs.declared.PairBegun.{PairBegun}
+use Rattle.pairs.specs.declared.PairBegun.the-variants as begun
 use Rattle.pairs.specs.declared.ArgumentRead.{ArgumentRead}
 use Rattle.pairs.specs.declared.ArgumentRead.the-variants as argument
 use Rattle.pairs.specs.declared.OperatorRead.{OperatorRead}
@@ -21,7 +26,8 @@ use Rattle.pairs.specs.declared.OperatorRead.the-variants.{Found, Missin
 use Rattle.pairs.specs.declared.ValueRead.{ValueRead}
 use Rattle.pairs.specs.declared.ValueRead.the-variants as value
 use Rattle.pairs.specs.declared.Close.{Close}
-use Rattle.pairs.specs.Answers.{part}
+use Rattle.pairs.specs.Answers.{part, unescaped}
+pub use Rattle.escapes.specs.Values.{Put}
 
 abbrev pub ArgumentIn : List ℕ → ArgumentRead → Type 0
 ArgumentIn line argument.Absent = Unit {0}
@@ -40,30 +46,38 @@ pub record Closes (line : List ℕ) (start : ℕ) (c : Close) : Type 0 where
   pub within : c .end ≤ length line
   pub marks : c .marks + weights (part line start (c .end)) ≡ c .end - start
 
--- a value as written from s to e, of n bytes after unescaping, between two marks
-pub record ValueAt (line : List ℕ) (s e n : ℕ) : Type 0 where
-  pub opened : 0 < s
+-- a value as written from s to e, closed by the mark behind it
+abbrev pub ClosedAt : List ℕ → Bool → ℕ → ℕ → Type 0
+ClosedAt line true s e = coded 0 (drop s line) ≡ some (record { value = decoded (part line s e); rest = drop (e + 1) line })
+ClosedAt line false s e = quoted false (drop s line) ≡ some (record { value = part line s e; rest = drop (e + 1) line })
+
+pub record WrittenAt (line : List ℕ) (c : Bool) (s e : ℕ) : Type 0 where
   pub from : s ≤ e
   pub within : e < length line
-  pub closed : quoted false (drop s line) ≡ some (record { value = part line s e; rest = drop (e + 1) line })
-  pub size : n ≡ length (unescape (part line s e))
+  pub closed : ClosedAt line c s e
+
+-- of n bytes after unescaping
+pub record ValueAt (line : List ℕ) (c : Bool) (s e n : ℕ) : Type 0 where
+  pub written : WrittenAt line c s e
+  pub size : n ≡ length (unescaped c (part line s e))
   pub short : n ≤ mostValue
 
--- the first n bytes of an array are a text
-pub record Put (text out : List ℕ) (n : ℕ) : Type 0 where
-  pub is : take n out ≡ text
-  pub size : n ≡ length text
-
 abbrev pub ValueIn : List ℕ → ValueRead → Type 0
-ValueIn line (value.Value s e n) = ValueAt line s e n
+ValueIn line (value.Value s e n) = ValueAt line false s e n
+ValueIn line (value.Coded s) = Unit {0}
 ValueIn line value.Faulty = Unit {0}
 
 pub record PairIn (line : List ℕ) (p : Pair) : Type 0 where
   pub argument : p .«arg_start» ≤ p .«arg_end»
   pub argument-in : p .«arg_end» ≤ length line
-  pub value : ValueAt line (p .start) (p .end) (p .len)
+  pub value : ValueAt line (p .coded) (p .start) (p .end) (p .len)
   pub behind : p .end < p .next
   pub next-in : p .next ≤ length line
+
+abbrev pub BegunIn : List ℕ → PairBegun → Type 0
+BegunIn line (begun.Plain p) = PairIn line p
+BegunIn line (begun.Coded h) = (h .«arg_start» ≤ h .«arg_end») × (h .«arg_end» ≤ length line)
+BegunIn line (begun.Refused f) = Unit {0}
 
 abbrev pub ReadIn : List ℕ → PairRead → Type 0
 ReadIn line (Read p) = PairIn line p

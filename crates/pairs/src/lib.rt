@@ -7,9 +7,11 @@ ghost use lib.Dec.{eqb};
 ghost use lib.ListN.{length, getD, drop};
 ghost use Rattle.rules.specs.Reading as reading;
 ghost use Rattle.keys.specs.Table.{keyOf, operatorOf, takesOf, allowedOf};
+ghost use Rattle.pairs.specs.declared.PairBegun.the-variants.{Coded};
 ghost use Rattle.pairs.specs.Stages.{typeAllowed, valueThen, operatorThen, argumentThen, pairWritten};
-ghost use Rattle.pairs.specs.Answers.{part, argumentBy, operatorBy, valueBy, readBy};
-ghost use Rattle.pairs.specs.Bounds.{ArgumentIn, WidthIn, Closes, ValueIn, Put, ReadIn};
+ghost use Rattle.pairs.specs.Answers.{part, unescaped, argumentBy, operatorBy, valueBy, begunBy, readBy};
+ghost use Rattle.pairs.specs.Bounds.{ArgumentIn, WidthIn, Closes, WrittenAt, ValueIn, Put, BegunIn, ReadIn};
+use escapes::Closed;
 use keys::Key;
 use keys::KeyFound;
 use keys::Operator;
@@ -17,10 +19,12 @@ use keys::Takes;
 use refusals::Refusal;
 
 // A pair that was read: the argument is the bytes from arg_start to arg_end, the value as written those from start to
-// end, of which len are left after unescaping; next is the place behind the pair and the blanks that follow it.
+// end, of which len are left after unescaping, coded where an `e` stands before it; next is the place behind the pair
+// and the blanks that follow it.
 pub struct Pair {
     pub key: Key,
     pub operator: Operator,
+    pub coded: bool,
     pub arg_start: usize,
     pub arg_end: usize,
     pub start: usize,
@@ -31,6 +35,22 @@ pub struct Pair {
 
 pub enum PairRead {
     Read(Pair),
+    Refused(Refusal),
+}
+
+// A pair whose value stands behind an `e` and a mark, from start on, and is still to be read.
+pub struct Head {
+    pub key: Key,
+    pub operator: Operator,
+    pub arg_start: usize,
+    pub arg_end: usize,
+    pub start: usize,
+}
+
+// A plain pair is read in one go; nothing that only other pairs need is called on the way.
+pub enum PairBegun {
+    Plain(Pair),
+    Coded(Head),
     Refused(Refusal),
 }
 
@@ -176,16 +196,15 @@ pub enum ValueRead {
         end: usize,
         len: usize,
     },
+    Coded(usize),
     Faulty,
 }
 
-pub fn read_value(line: &[u8], at: usize) -> ValueRead
-    ensures { λ r. ⌜ (valueBy (now (line .entry)) r ≡ reading.readValue (drop at (now (line .entry)))) × ValueIn (now (line .entry)) r ⌝ }
+// The value whose mark stands at a place.
+fn read_plain(line: &[u8], at: usize) -> ValueRead
+    requires { ⌜ getD (now line) at 0 ≡ 34 ⌝ }
+    ensures { λ r. ⌜ (valueBy (now (line .entry)) r ≡ reading.readPlain (drop at (now (line .entry)))) × ValueIn (now (line .entry)) r ⌝ }
 {
-    let b = scan::byte_at(line, at);
-    if b != b'"' {
-        return ValueRead::Faulty;
-    }
     let start = at + 1;
     let close = close_of(line, start);
     let end = close.end;
@@ -197,6 +216,23 @@ pub fn read_value(line: &[u8], at: usize) -> ValueRead
         return ValueRead::Faulty;
     }
     ValueRead::Value { start, end, len }
+}
+
+// The value at a place; behind an `e` and its mark it is still to be read.
+fn read_value(line: &[u8], at: usize) -> ValueRead
+    ensures { λ r. ⌜ (valueBy (now (line .entry)) r ≡ reading.readValue (drop at (now (line .entry)))) × ValueIn (now (line .entry)) r ⌝ }
+{
+    let b = scan::byte_at(line, at);
+    if b == b'"' {
+        return read_plain(line, at);
+    }
+    if b != b'e' {
+        return ValueRead::Faulty;
+    }
+    if scan::byte_at(line, at + 1) != b'"' {
+        return ValueRead::Faulty;
+    }
+    ValueRead::Coded(at + 2)
 }
 
 // A backslash directly before a mark of the value that ends at a place.
@@ -214,8 +250,8 @@ fn is_escape(line: &[u8], i: usize, end: usize) -> bool
     line[next] == b'"'
 }
 
-// Puts the value that is written from start to end into out, unescaped, and answers its length.
-pub fn value_into(line: &[u8], start: usize, end: usize, out: &mut [u8]) -> usize
+// Puts the plain value that is written from start to end into out, unescaped, and answers its length.
+fn unescape_into(line: &[u8], start: usize, end: usize, out: &mut [u8]) -> usize
     requires { ⌜ (start ≤ end) × (end ≤ length (now line)) × (length (reading.unescape (part (now line) start end)) ≤ length (now out)) ⌝ }
     ensures { λ r. ⌜ Put (reading.unescape (part (now (line .entry)) start end)) (now (out .exit)) r ⌝ }
 {
@@ -233,6 +269,21 @@ pub fn value_into(line: &[u8], start: usize, end: usize, out: &mut [u8]) -> usiz
     n
 }
 
+// Puts the value that is written from start to end into out, and answers its length.
+pub fn value_into(line: &[u8], coded: bool, start: usize, end: usize, out: &mut [u8]) -> usize
+    requires { ⌜ WrittenAt (now line) coded start end × (length (unescaped coded (part (now line) start end)) ≤ length (now out)) ⌝ }
+    ensures { λ r. ⌜ Put (unescaped coded (part (now (line .entry)) start end)) (now (out .exit)) r ⌝ }
+{
+    if coded {
+        match escapes::decode(line, start, out) {
+            Closed::At { end: _, len } => len,
+            Closed::Faulty => 0,
+        }
+    } else {
+        unescape_into(line, start, end, out)
+    }
+}
+
 // ---- a pair, part by part
 
 fn pair_value(
@@ -242,17 +293,18 @@ fn pair_value(
     operator: Operator,
     arg_start: usize,
     arg_end: usize,
-) -> PairRead
+) -> PairBegun
     requires { ⌜ («arg_start» ≤ «arg_end») × («arg_end» ≤ length (now line)) ⌝ }
-    ensures { λ r. ⌜ (readBy (now (line .entry)) r ≡ valueThen (keyOf key) (part (now (line .entry)) «arg_start» «arg_end») (operatorOf operator) (drop at (now (line .entry)))) × ReadIn (now (line .entry)) r ⌝ }
+    ensures { λ r. ⌜ (begunBy (now (line .entry)) r ≡ valueThen (keyOf key) (part (now (line .entry)) «arg_start» «arg_end») (operatorOf operator) (drop at (now (line .entry)))) × BegunIn (now (line .entry)) r ⌝ }
 {
     let b = scan::blank_end(line, at);
     match read_value(line, b) {
         ValueRead::Value { start, end, len } => {
             let next = scan::blank_end(line, end + 1);
-            PairRead::Read(Pair {
+            PairBegun::Plain(Pair {
                 key,
                 operator,
+                coded: false,
                 arg_start,
                 arg_end,
                 start,
@@ -261,7 +313,14 @@ fn pair_value(
                 next,
             })
         }
-        ValueRead::Faulty => PairRead::Refused(Refusal::ValueBad),
+        ValueRead::Coded(start) => PairBegun::Coded(Head {
+            key,
+            operator,
+            arg_start,
+            arg_end,
+            start,
+        }),
+        ValueRead::Faulty => PairBegun::Refused(Refusal::ValueBad),
     }
 }
 
@@ -272,25 +331,25 @@ fn pair_operator(
     operators: u8,
     arg_start: usize,
     arg_end: usize,
-) -> PairRead
+) -> PairBegun
     requires { ⌜ (at ≤ length (now line)) × («arg_start» ≤ «arg_end») × («arg_end» ≤ length (now line)) ⌝ }
-    ensures { λ r. ⌜ (readBy (now (line .entry)) r ≡ operatorThen (keyOf key) (allowedOf operators) (part (now (line .entry)) «arg_start» «arg_end») (drop at (now (line .entry)))) × ReadIn (now (line .entry)) r ⌝ }
+    ensures { λ r. ⌜ (begunBy (now (line .entry)) r ≡ operatorThen (keyOf key) (allowedOf operators) (part (now (line .entry)) «arg_start» «arg_end») (drop at (now (line .entry)))) × BegunIn (now (line .entry)) r ⌝ }
 {
     let b = scan::blank_end(line, at);
     match operator_of(scan::byte_at(line, b), scan::byte_at(line, b + 1)) {
         OperatorRead::Found(operator, width) => if keys::allowed(operators, operator) {
             pair_value(line, b + width, key, operator, arg_start, arg_end)
         } else {
-            PairRead::Refused(Refusal::OperatorBad)
+            PairBegun::Refused(Refusal::OperatorBad)
         },
-        OperatorRead::Missing => PairRead::Refused(Refusal::OperatorBad),
+        OperatorRead::Missing => PairBegun::Refused(Refusal::OperatorBad),
     }
 }
 
-fn pair_argument(line: &[u8], at: usize, key: Key, takes: Takes, operators: u8) -> PairRead
+fn pair_argument(line: &[u8], at: usize, key: Key, takes: Takes, operators: u8) -> PairBegun
     requires { ⌜ at ≤ length (now line) ⌝ }
-    ensures { λ r. ⌜ ((name : List ℕ) → readBy (now (line .entry)) r ≡ argumentThen (record { name = name; key = keyOf key; takes = takesOf takes; allowed = allowedOf operators }) (drop at (now (line .entry)))) ⌝ }
-    ensures { λ r. ⌜ ReadIn (now (line .entry)) r ⌝ }
+    ensures { λ r. ⌜ ((name : List ℕ) → begunBy (now (line .entry)) r ≡ argumentThen (record { name = name; key = keyOf key; takes = takesOf takes; allowed = allowedOf operators }) (drop at (now (line .entry)))) ⌝ }
+    ensures { λ r. ⌜ BegunIn (now (line .entry)) r ⌝ }
 {
     match read_argument(line, at, takes) {
         ArgumentRead::Absent => pair_operator(line, at, key, operators, 0, 0),
@@ -302,7 +361,51 @@ fn pair_argument(line: &[u8], at: usize, key: Key, takes: Takes, operators: u8) 
             start,
             end,
         ),
-        ArgumentRead::Faulty => PairRead::Refused(Refusal::ArgumentBad),
+        ArgumentRead::Faulty => PairBegun::Refused(Refusal::ArgumentBad),
+    }
+}
+
+// The value of a pair that is still to be read.
+fn coded_pair(line: &[u8], head: Head) -> PairRead
+    requires { ⌜ (head .«arg_start» ≤ head .«arg_end») × (head .«arg_end» ≤ length (now line)) ⌝ }
+    ensures { λ r. ⌜ (readBy (now (line .entry)) r ≡ begunBy (now (line .entry)) (Coded head)) × ReadIn (now (line .entry)) r ⌝ }
+{
+    let key = head.key;
+    let operator = head.operator;
+    let arg_start = head.arg_start;
+    let arg_end = head.arg_end;
+    let start = head.start;
+    let mut room = [0u8; 1];
+    match escapes::decode(line, start, &mut room) {
+        Closed::At { end, len } => {
+            if 256 < len {
+                return PairRead::Refused(Refusal::ValueBad);
+            }
+            let next = scan::blank_end(line, end + 1);
+            PairRead::Read(Pair {
+                key,
+                operator,
+                coded: true,
+                arg_start,
+                arg_end,
+                start,
+                end,
+                len,
+                next,
+            })
+        }
+        Closed::Faulty => PairRead::Refused(Refusal::ValueBad),
+    }
+}
+
+fn whole_pair(line: &[u8], begun: PairBegun) -> PairRead
+    requires { ⌜ BegunIn (now line) begun ⌝ }
+    ensures { λ r. ⌜ (readBy (now (line .entry)) r ≡ begunBy (now (line .entry)) begun) × ReadIn (now (line .entry)) r ⌝ }
+{
+    match begun {
+        PairBegun::Plain(p) => PairRead::Read(p),
+        PairBegun::Coded(head) => coded_pair(line, head),
+        PairBegun::Refused(f) => PairRead::Refused(f),
     }
 }
 
@@ -314,7 +417,9 @@ pub fn read_pair(line: &[u8], at: usize) -> PairRead
     let start = scan::blank_end(line, at);
     let end = scan::upper_end(line, start);
     match keys::find_key(&line[start..end]) {
-        KeyFound::Known(key, takes, operators) => pair_argument(line, end, key, takes, operators),
+        KeyFound::Known(key, takes, operators) => {
+            whole_pair(line, pair_argument(line, end, key, takes, operators))
+        }
         KeyFound::Unknown => PairRead::Refused(Refusal::KeyBad),
     }
 }

@@ -3,8 +3,7 @@
 ghost use mathlib.Core.Path.{_≡_};
 ghost use Prim.Native.Nat.{_+_, _-_, _*_, _≤_, _<_};
 ghost use lib.ListN.{length, getD};
-ghost use Rattle.rules.specs.Reading.{unescape};
-ghost use Rattle.pairs.specs.Answers.{part, pairOf};
+ghost use Rattle.pairs.specs.Answers.{part, unescaped, pairOf};
 ghost use Rattle.pairs.specs.Bounds.{ValueAt, PairIn};
 ghost use Rattle.splice.specs.Moves.{stored};
 ghost use Rattle.table.specs.Table.{Got};
@@ -169,14 +168,22 @@ fn put_bytes(values: &mut [u8], at: usize, line: &[u8], start: usize, end: usize
 }
 
 // Puts a value as written, of which len bytes are left after unescaping.
-fn put_value(values: &mut [u8], at: usize, line: &[u8], start: usize, end: usize, len: usize)
-    requires { ⌜ ValueAt (now line) start end len × (at + len ≤ length (now values)) ⌝ }
-    ensures { λ _. ⌜ Added (unescape (part (now (line .entry)) start end)) at (now (values .entry)) (now (values .exit)) ⌝ }
+fn put_value(
+    values: &mut [u8],
+    at: usize,
+    line: &[u8],
+    coded: bool,
+    start: usize,
+    end: usize,
+    len: usize,
+)
+    requires { ⌜ ValueAt (now line) coded start end len × (at + len ≤ length (now values)) ⌝ }
+    ensures { λ _. ⌜ Added (unescaped coded (part (now (line .entry)) start end)) at (now (values .entry)) (now (values .exit)) ⌝ }
 {
     if len == end - start {
         put_bytes(values, at, line, start, end);
     } else {
-        pairs::value_into(line, start, end, &mut values[at..]);
+        pairs::value_into(line, coded, start, end, &mut values[at..]);
     }
 }
 
@@ -199,7 +206,15 @@ pub fn put_pair(
     let middle = used + (arg_end - arg_start);
     let end = middle + pair.len;
     put_bytes(values, used, line, arg_start, arg_end);
-    put_value(values, middle, line, pair.start, pair.end, pair.len);
+    put_value(
+        values,
+        middle,
+        line,
+        pair.coded,
+        pair.start,
+        pair.end,
+        pair.len,
+    );
     put_four(
         rows,
         n * 4,

@@ -21,7 +21,7 @@ value-sound-requires : tie.Need-value-sound-requires
 value-sound-requires c κs = search needs
 
 returns : tie.Need-returns
-returns c = rw (plain-part (c .before .before .before .before .args .line .now) (c .before .before .before .before .args .start) (c .before .before .before .before .args .end) (c .before .before .before .before .args .len) (c .before .before .before .before .pre) (c .before .before .if1 .taken)) (c .value-sound .ensures)
+returns c = rw (plain-part (c .before .before .before .before .args .line .now) (c .before .before .before .before .args .coded) (c .before .before .before .before .args .start) (c .before .before .before .before .args .end) (c .before .before .before .before .args .len) (c .before .before .before .before .pre) (c .before .before .if1 .taken)) (c .value-sound .ensures)
 
 escaped-sound-requires : tie.Need-escaped-sound-requires
 escaped-sound-requires c κs = search needs

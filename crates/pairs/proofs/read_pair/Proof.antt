@@ -1,9 +1,10 @@
 -- `pairs::read_pair` meets its contract.
 -- Assumes nothing.
-use native.Mathlib.Omega.{arith}
-use borrow.Author.Needs.{needs}
+use mathlib.Core.Path.{_∙_}
 use Rattle.pairs.specs.Stages.{pairWritten}
 use Rattle.pairs.proofs.Reading.{unblank-at, key-at}
+use native.Mathlib.Omega.{arith}
+use borrow.Author.Needs.{needs}
 use Rattle.pairs.proofs.read_pair.Statement.{statement}
 use Rattle.pairs.proofs.read_pair.Tie as tie
 
@@ -31,16 +32,32 @@ enum-known-key c = search needs
 pair-argument-requires : tie.Need-pair-argument-requires
 pair-argument-requires c κs = omega (arith, c .before .before .before .before .before .upper-end .ensures .within, c .before .before .before .before .before .before .blank-end .ensures .within)
 
+whole-pair-requires : tie.Need-whole-pair-requires
+whole-pair-requires c κs = c .pair-argument .ensures .1
+
 enum-told : tie.Need-enum-told
 enum-told c = search needs
 
 returns : tie.Need-returns
 unfolding pairWritten
-returns c = (rw (unblank-at (c .before .before .before .before .before .before .before .before .before .args .line .now) (c .before .before .before .before .before .before .before .before .before .args .at) (c .before .before .before .before .before .before .before .blank-end .result) (c .before .before .before .before .before .before .before .blank-end .ensures .place), key-at (c .before .before .before .before .before .before .before .before .before .args .line .now) (c .before .before .before .before .before .before .before .blank-end .result) (c .before .before .before .before .before .before .upper-end .result) (c .before .before .before .before .before .before .upper-end .ensures .place), ← c .before .before .before .before .find-key .ensures, c .before .before .key .given .1) (c .pair-argument .ensures .0 _), c .pair-argument .ensures .1)
+returns c =
+    let entry = c .before .before .before .before .before .before .before .before .before .before in
+    let s = entry .args .line .now in
+    let blank = c .before .before .before .before .before .before .before .before .blank-end in
+    let upper = c .before .before .before .before .before .before .before .upper-end in (
+      c .whole-pair .ensures .0
+          ∙ rw (unblank-at s (entry .args .at) (blank .result) (blank .ensures .place), key-at s (blank .result) (upper .result) (upper .ensures .place), ← c .before .before .before .before .before .find-key .ensures, c .before .before .before .key .given .1) (c .before .pair-argument .ensures .0 _),
+      c .whole-pair .ensures .1,
+    )
 
 returns-2 : tie.Need-returns-2
 unfolding pairWritten
-returns-2 c = (rw (unblank-at (c .before .before .before .before .before .before .before .args .line .now) (c .before .before .before .before .before .before .before .args .at) (c .before .before .before .before .before .blank-end .result) (c .before .before .before .before .before .blank-end .ensures .place), key-at (c .before .before .before .before .before .before .before .args .line .now) (c .before .before .before .before .before .blank-end .result) (c .before .before .before .before .upper-end .result) (c .before .before .before .before .upper-end .ensures .place), ← c .before .before .find-key .ensures, c .enum-told .given .1), tt)
+returns-2 c =
+    let entry = c .before .before .before .before .before .before .before in
+    let s = entry .args .line .now in
+    let blank = c .before .before .before .before .before .blank-end in
+    let upper = c .before .before .before .before .upper-end in
+    (rw (unblank-at s (entry .args .at) (blank .result) (blank .ensures .place), key-at s (blank .result) (upper .result) (upper .ensures .place), ← c .before .before .find-key .ensures, c .enum-told .given .1), tt)
 
 pub read-pair-spec : {M : Type 1} → statement M
 read-pair-spec =
@@ -54,6 +71,7 @@ read-pair-spec =
     find-key-requires
     enum-known-key
     pair-argument-requires
+    whole-pair-requires
     enum-told
     returns
     returns-2)

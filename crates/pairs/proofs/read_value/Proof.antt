@@ -1,53 +1,63 @@
 -- `pairs::read_value` meets its contract.
 -- Assumes nothing.
-use Prim.Native.Nat.{_+_, _-_}
 use mathlib.Core.Path.{sym, _∙_}
-use native.Mathlib.Omega.{arith}
-use borrow.Author.Tests.{le-leb, lt-leb}
-use borrow.Author.Needs.{needs}
 use Rattle.lists.proofs.Rest.{byte-in}
-use Rattle.pairs.proofs.Closing.{value-unclosed, value-closed, value-size}
-use Rattle.pairs.proofs.Reading.{mark, no-mark}
+use Rattle.pairs.proofs.Reading.{value-plain, no-mark, no-mark-behind, value-coded}
+use native.Mathlib.Omega.{arith}
+use borrow.Author.Needs.{needs}
 use Rattle.pairs.proofs.read_value.Statement.{statement}
 use Rattle.pairs.proofs.read_value.Tie as tie
 
 byte-at-requires : tie.Need-byte-at-requires
 byte-at-requires c κs = search needs
 
+read-plain-requires : tie.Need-read-plain-requires
+read-plain-requires c κs = search needs
+
 returns : tie.Need-returns
-returns c = (sym (no-mark (c .before .before .before .args .line .now) (c .before .before .before .args .at) (rw (← c .before .byte-at .ensures) (c .if1 .taken))), tt)
-
-add-start : tie.Need-add-start
-add-start c = omega (arith, byte-in (c .before .before .before .args .line .now) (c .before .before .before .args .at) 34 (sym (c .before .byte-at .ensures) ∙ c .if1 .left) (omega arith))
-
-close-of-requires : tie.Need-close-of-requires
-close-of-requires c κs = omega (arith, byte-in (c .before .before .before .args .line .now) (c .before .before .before .args .at) 34 (sym (c .before .byte-at .ensures) ∙ c .if1 .left) (omega arith))
+returns c =
+    let entry = c .before .before .before .before in
+    (c .read-plain .ensures .0 ∙ sym (value-plain (entry .args .line .now) (entry .args .at) (sym (c .before .before .byte-at .ensures) ∙ c .before .if1 .taken)), c .read-plain .ensures .1)
 
 returns-2 : tie.Need-returns-2
-returns-2 c = let s = c .before .before .before .before .before .args .line .now in let a = c .before .before .before .before .before .args .at in let k = c .before .close-of .result in let h = c .before .close-of .ensures in (sym ((mark s a (sym (c .before .before .before .byte-at .ensures) ∙ c .before .before .if1 .left)) ∙ rw (value-unclosed s (a + 1) k h (c .if2 .taken))), tt)
+returns-2 c =
+    let entry = c .before .before .before .before in
+    let byte = c .before .before .byte-at .ensures in
+    (sym (no-mark (entry .args .line .now) (entry .args .at) (λ e. c .before .if1 .left (byte ∙ e)) (λ e. c .if2 .taken (byte ∙ e))), tt)
 
-sub-len : tie.Need-sub-len
-sub-len c = omega (arith, c .before .close-of .ensures .from)
+add-byte-at : tie.Need-add-byte-at
+add-byte-at c =
+    let entry = c .before .before .before .before in
+    omega (arith, byte-in (entry .args .line .now) (entry .args .at) 101 (sym (c .before .before .byte-at .ensures) ∙ c .if2 .left) (omega arith))
 
-sub-len-2 : tie.Need-sub-len-2
-sub-len-2 c = omega (arith, c .before .before .close-of .ensures .marks)
+byte-at-requires-2 : tie.Need-byte-at-requires-2
+byte-at-requires-2 c κs = search needs
 
 returns-3 : tie.Need-returns-3
-returns-3 c = let s = c .before .before .before .before .before .before .before .args .line .now in let a = c .before .before .before .before .before .before .before .args .at in let k = c .before .before .before .close-of .result in let h = c .before .before .before .close-of .ensures in (sym ((mark s a (sym (c .before .before .before .before .before .byte-at .ensures) ∙ c .before .before .before .before .if1 .left)) ∙ rw (value-closed s (a + 1) k h (c .before .before .if2 .left), ← value-size s (a + 1) k h (c .before .before .if2 .left), lt-leb (k .end - (a + 1) - k .marks) 256 (c .if3 .taken))), tt)
+returns-3 c =
+    let entry = c .before .before .before .before .before .before in
+    (sym (no-mark-behind (entry .args .line .now) (entry .args .at) (sym (c .before .before .before .before .byte-at .ensures) ∙ c .before .before .if2 .left) (λ e. c .if3 .taken (c .before .byte-at2 .ensures ∙ e))), tt)
+
+add-t6 : tie.Need-add-t6
+add-t6 c =
+    let entry = c .before .before .before .before .before .before in
+    omega (arith, byte-in (entry .args .line .now) (entry .args .at) 101 (sym (c .before .before .before .before .byte-at .ensures) ∙ c .before .before .if2 .left) (omega arith))
 
 returns-4 : tie.Need-returns-4
-returns-4 c = let s = c .before .before .before .before .before .before .before .args .line .now in let a = c .before .before .before .before .before .before .before .args .at in let k = c .before .before .before .close-of .result in let h = c .before .before .before .close-of .ensures in (sym ((mark s a (sym (c .before .before .before .before .before .byte-at .ensures) ∙ c .before .before .before .before .if1 .left)) ∙ rw (value-closed s (a + 1) k h (c .before .before .if2 .left), ← value-size s (a + 1) k h (c .before .before .if2 .left), le-leb (k .end - (a + 1) - k .marks) 256 (c .if3 .left))), record { opened = omega arith; from = h .from; within = c .before .before .if2 .left; closed = value-closed s (a + 1) k h (c .before .before .if2 .left); size = value-size s (a + 1) k h (c .before .before .if2 .left); short = c .if3 .left })
+returns-4 c =
+    let entry = c .before .before .before .before .before .before in
+    (sym (value-coded (entry .args .line .now) (entry .args .at) (sym (c .before .before .before .before .byte-at .ensures) ∙ c .before .before .if2 .left) (sym (c .before .byte-at2 .ensures) ∙ c .if3 .left)), tt)
 
 pub read-value-spec : {M : Type 1} → statement M
 read-value-spec =
     tie.close
     (tie.spec
     byte-at-requires
+    read-plain-requires
     returns
-    add-start
-    close-of-requires
     returns-2
-    sub-len
-    sub-len-2
+    add-byte-at
+    byte-at-requires-2
     returns-3
+    add-t6
     returns-4)

@@ -1,76 +1,70 @@
 -- `pairs::value_into` meets its contract.
 -- Assumes nothing.
-use Prim.Native.Nat.{_-_}
-use mathlib.Core.Path.{sym, _∙_}
+use mathlib.Core.Bool.{true, false}
+use Rattle.escapes.specs.declared.Closed.the-variants.{At, Faulty}
+use Rattle.escapes.specs.Answers.{ClosedIs}
+use Rattle.pairs.specs.Bounds.{WrittenAt}
+use Rattle.pairs.proofs.Unescaping.{decoded-put, never-faulty}
 use native.Mathlib.Omega.{arith}
-use Rattle.pairs.proofs.Unescaping.{Puts, put-begins, put-escape, put-room, put-byte, put-ends}
+use borrow.Author.Needs.{needs}
 use Rattle.pairs.proofs.value_into.Statement.{statement}
 use Rattle.pairs.proofs.value_into.Tie as tie
 
--- `pairs::value_into` meets its contract.
--- Assumes nothing.
+decode-requires : tie.Need-decode-requires
+decode-requires c κs = search needs
 
-abbrev Inv-loop : tie.InvT-loop
-Inv-loop line start end out₀ i₀ n₀ out i n = Puts line start end out₀ out i n
+enum-known-len : tie.Need-enum-known-len
+enum-known-len c = search needs
 
-abbrev μ-loop : tie.MeasureT-loop
-μ-loop line start end out₀ i₀ n₀ out i n = end - i
+enum-told : tie.Need-enum-told
+enum-told c = search needs
 
-loop-holds : tie.Need-loop-holds Inv-loop μ-loop
-loop-holds c = put-begins (c .before .before .args .line .now) (c .before .before .args .start) (c .before .before .args .end) (c .before .before .args .out .now) (c .before .before .pre .1) (c .before .before .pre .2) (c .before .before .pre .0)
+unescape-into-requires : tie.Need-unescape-into-requires
+unescape-into-requires c κs =
+    let entry = c .before .before .before .before in
+    let w : WrittenAt (entry .args .line .now) false (entry .args .start) (entry .args .end) = rw (c .before .if1 .left) at (entry .pre .0) in
+    (w .from, omega (arith, w .within), rw (c .before .if1 .left) at (entry .pre .1))
 
-is-escape-requires : tie.Need-is-escape-requires Inv-loop μ-loop
-is-escape-requires c κs = omega arith
+same-length : tie.Need-same-length
+same-length c = search needs
 
-add-i : tie.Need-add-i Inv-loop μ-loop
-add-i c = omega arith
+returns : tie.Need-returns
+returns c =
+    let entry = c .before .before .before .before .before .before .before .before .before .before in
+    let w : WrittenAt (entry .args .line .now) true (entry .args .start) (entry .args .end) = rw (c .before .before .before .before .before .before .before .if1 .taken) at (entry .pre .0) in
+    let d = c .before .before .before .before .before .decode in
+    let at = c .before .len .given in
+    let closed : ClosedIs (entry .args .line .now) (entry .args .start) (entry .args .out .now) (d .last .1 .1 .0) (At (at .0 .0) (at .0 .1 .0)) = rw (at .1) at (d .ensures) in
+    rw (c .before .before .before .before .before .before .before .if1 .taken)
+    (decoded-put (entry .args .line .now) (entry .args .start) (entry .args .end) w (at .0 .0) (at .0 .1 .0) (entry .args .out .now) (d .last .1 .1 .0) closed (rw (c .before .before .before .before .before .before .before .if1 .taken) at (entry .pre .1)))
 
-loop-less : tie.Need-loop-less Inv-loop μ-loop
-loop-less c = omega arith
+same-length-2 : tie.Need-same-length-2
+same-length-2 c = search needs
 
-loop-again : tie.Need-loop-again Inv-loop μ-loop
-loop-again c = put-escape (c .before .before .before .before .before .before .args .line .now) (c .before .before .before .before .before .before .args .start) (c .before .before .before .before .before .before .args .end) (c .before .before .before .before .before .before .args .out .now) (c .before .before .before .before .before .before .pre .1) (c .before .before .before .before .before .before .pre .2) (c .before .before .before .loop .out) (c .before .before .before .loop .i) (c .before .before .before .loop .n) (c .before .before .before .loop .inv) (omega arith) (sym (c .before .is-escape .ensures) ∙ c .if1 .taken)
+returns-2 : tie.Need-returns-2
+returns-2 c =
+    let entry = c .before .before .before .before .before .before .before .before .before in
+    let w : WrittenAt (entry .args .line .now) true (entry .args .start) (entry .args .end) = rw (c .before .before .before .before .before .before .if1 .taken) at (entry .pre .0) in
+    let faulty : ClosedIs (entry .args .line .now) (entry .args .start) (entry .args .out .now) (c .before .before .before .before .decode .last .1 .1 .0) Faulty = rw (c .enum-told .given .1) at (c .before .before .before .before .decode .ensures) in
+    absurd (never-faulty (entry .args .line .now) (entry .args .start) (entry .args .end) w faulty)
 
-shared-slice-read-out : tie.Need-shared-slice-read-out Inv-loop μ-loop
-shared-slice-read-out c = omega arith
+same-length-3 : tie.Need-same-length-3
+same-length-3 c = search needs
 
-slice-write-out : tie.Need-slice-write-out Inv-loop μ-loop
-slice-write-out c = put-room (c .before .before .before .before .before .before .before .args .line .now) (c .before .before .before .before .before .before .before .args .start) (c .before .before .before .before .before .before .before .args .end) (c .before .before .before .before .before .before .before .args .out .now) (c .before .before .before .before .before .before .before .pre .1) (c .before .before .before .before .before .before .before .pre .2) (c .before .before .before .before .loop .out) (c .before .before .before .before .loop .i) (c .before .before .before .before .loop .n) (c .before .before .before .before .loop .inv) (omega arith) (sym (c .before .before .is-escape .ensures) ∙ c .before .if1 .left)
-
-add-n : tie.Need-add-n Inv-loop μ-loop
-add-n c = omega (arith, put-room (c .before .before .before .before .before .before .before .args .line .now) (c .before .before .before .before .before .before .before .args .start) (c .before .before .before .before .before .before .before .args .end) (c .before .before .before .before .before .before .before .args .out .now) (c .before .before .before .before .before .before .before .pre .1) (c .before .before .before .before .before .before .before .pre .2) (c .before .before .before .before .loop .out) (c .before .before .before .before .loop .i) (c .before .before .before .before .loop .n) (c .before .before .before .before .loop .inv) (omega arith) (sym (c .before .before .is-escape .ensures) ∙ c .before .if1 .left))
-
-add-i-2 : tie.Need-add-i-2 Inv-loop μ-loop
-add-i-2 c = omega arith
-
-loop-less-2 : tie.Need-loop-less-2 Inv-loop μ-loop
-loop-less-2 c = omega arith
-
-loop-again-2 : tie.Need-loop-again-2 Inv-loop μ-loop
-loop-again-2 c = put-byte (c .before .before .before .before .before .before .before .args .line .now) (c .before .before .before .before .before .before .before .args .start) (c .before .before .before .before .before .before .before .args .end) (c .before .before .before .before .before .before .before .args .out .now) (c .before .before .before .before .before .before .before .pre .1) (c .before .before .before .before .before .before .before .pre .2) (c .before .before .before .before .loop .out) (c .before .before .before .before .loop .i) (c .before .before .before .before .loop .n) (c .before .before .before .before .loop .inv) (omega arith) (sym (c .before .before .is-escape .ensures) ∙ c .before .if1 .left)
-
-same-length : tie.Need-same-length Inv-loop μ-loop
-same-length c = c .before .loop .inv .kept
-
-returns : tie.Need-returns Inv-loop μ-loop
-returns c = put-ends (c .before .before .before .before .args .line .now) (c .before .before .before .before .args .start) (c .before .before .before .before .args .end) (c .before .before .before .before .args .out .now) (c .before .before .before .before .pre .1) (c .before .before .before .before .pre .2) (c .before .loop .out) (c .before .loop .i) (c .before .loop .n) (c .before .loop .inv) (omega arith)
+returns-3 : tie.Need-returns-3
+returns-3 c = rw (c .before .before .before .before .if1 .left) (c .before .before .unescape-into .ensures)
 
 pub value-into-spec : {M : Type 1} → statement M
 value-into-spec =
     tie.close
     (tie.spec
-    Inv-loop
-    μ-loop
-    loop-holds
-    is-escape-requires
-    add-i
-    loop-less
-    loop-again
-    shared-slice-read-out
-    slice-write-out
-    add-n
-    add-i-2
-    loop-less-2
-    loop-again-2
+    decode-requires
+    enum-known-len
+    enum-told
+    unescape-into-requires
     same-length
-    returns)
+    returns
+    same-length-2
+    returns-2
+    same-length-3
+    returns-3)

@@ -1,10 +1,9 @@
 -- `table::put_pair` meets its contract.
 -- Assumes nothing.
 use native.Mathlib.Omega.{arith}
-use Rattle.rules.specs.Reading.{unescape}
 use Rattle.keys.specs.Table.{keyOf, operatorOf}
 use Rattle.lists.proofs.Moves.{length-part}
-use Rattle.pairs.specs.Answers.{part}
+use Rattle.pairs.specs.Answers.{part, unescaped}
 use Rattle.kinds.proofs.Numbers.{key-few, op-few}
 use Rattle.table.proofs.Pairs.{pair-put}
 use borrow.Author.Needs.{needs}
@@ -44,7 +43,7 @@ same-length-2 c = search needs
 returns : tie.Need-returns
 returns c = let p = c .before .before .before .before .before .before .before .before .before .before .before .before .before .before .before .before .before .args .pair in
     let n = length-part (c .before .before .before .before .before .before .before .before .before .before .before .before .before .before .before .before .before .args .line .now) (p .«arg_start») (p .«arg_end») (c .before .before .before .before .before .before .before .before .before .before .before .before .before .before .before .before .before .pre .0 .argument-in) in
-    pair-put (part (c .before .before .before .before .before .before .before .before .before .before .before .before .before .before .before .before .before .args .line .now) (p .«arg_start») (p .«arg_end»)) (unescape (part (c .before .before .before .before .before .before .before .before .before .before .before .before .before .before .before .before .before .args .line .now) (p .start) (p .end))) (keyOf (p .key)) (operatorOf (p .operator))
+    pair-put (part (c .before .before .before .before .before .before .before .before .before .before .before .before .before .before .before .before .before .args .line .now) (p .«arg_start») (p .«arg_end»)) (unescaped (p .coded) (part (c .before .before .before .before .before .before .before .before .before .before .before .before .before .before .before .before .before .args .line .now) (p .start) (p .end))) (keyOf (p .key)) (operatorOf (p .operator))
     (c .before .before .before .before .before .before .before .before .before .before .before .before .before .before .before .before .before .args .values .now) (c .before .before .before .before .before .before .before .before .before .before .before .put-bytes .last .0) (c .before .before .before .before .before .before .before .put-value .last .0) (c .before .before .before .before .before .before .before .before .before .before .before .before .before .before .before .before .before .args .rows .now) (c .before .before .put-four .last .0) (c .before .before .before .before .before .before .before .before .before .before .before .before .before .before .before .before .before .args .n) (c .before .before .before .before .before .before .before .before .before .before .before .before .before .before .before .before .before .args .used) _ _
     (omega (arith, n)) (omega (arith, c .before .before .before .before .before .before .before .before .before .before .before .before .before .before .before .before .before .pre .0 .value .size)) (c .before .before .before .before .before .before .before .before .before .before .before .before .before .before .before .before .before .pre .1) (c .before .before .before .before .before .before .before .before .before .before .before .put-bytes .ensures) (c .before .before .before .before .before .before .before .put-value .ensures) (rw (c .before .before .before .kind-of .ensures) at (c .before .before .put-four .ensures))
 
