@@ -28,7 +28,7 @@ five.rules:3: fault 17: neither a comma nor the end of the line
 3 | KERNEL=="ttyUSB*" SYMLINK+="a"
   |                   ^ a comma is missing here
 
-five.rules:4: fault 14: value not in quotation marks, or longer than 256 bytes
+five.rules:4: fault 14: value not in quotation marks, with an unknown escape, or longer than 256 bytes
   --> five.rules:4:25
   |
 4 | KERNEL=="ttyUSB*", MODE=0660

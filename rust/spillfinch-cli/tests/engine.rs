@@ -132,3 +132,60 @@ fn quoted_pairs_hold() {
     }
     assert!(written > 10_000, "{written} pairs");
 }
+
+/// Every value of up to three parts behind an `e`, whole and damaged: refused as the engine
+/// refuses it, or with the bytes that the engine stores.
+#[test]
+fn values_behind_an_e_are_read_as_the_engine_reads_them() {
+    const PARTS: [&str; 15] = [
+        "\\", "\"", "x", "0", "4", "1a", "n", "\\x41", "\\\\", "\\\"", "\\n", "[", "$", " ", "\t",
+    ];
+    let record = packed_device();
+    let start = spillfinch::fresh(&record).expect("a sound record");
+    for seed in 0..PARTS.len().pow(3) {
+        let places = [seed, seed / PARTS.len(), seed / PARTS.len().pow(2)];
+        let written: String = places.map(|place| PARTS[place % PARTS.len()]).concat();
+        for pair in ["ENV{a}=", "KERNEL==", "SYMLINK=", "LABEL="] {
+            let line = format!("{pair}e\"{written}\"");
+            let read = read_line(line.as_bytes());
+            let found = read.fault.map(|fault| fault.refusal);
+            assert_eq!(found, of_engine(line.as_bytes()), "{line}");
+        }
+        let line = format!("ENV{{a}}=e\"{written}\"");
+        if let Ok(ran) = spillfinch::run(line.as_bytes(), &record, &start) {
+            let outcome = recordings::Outcome::decode(&ran.record).expect("a record");
+            let value = &read_line(line.as_bytes()).pairs[0].value.bytes;
+            assert_eq!(&outcome.properties[0].value, value, "{line}");
+        }
+    }
+}
+
+/// The device /a of no subsystem, without properties.
+fn packed_device() -> Vec<u8> {
+    let device = recordings::Device {
+        action: recordings::Action::of_name(b"add").expect("an action"),
+        node: None,
+        properties: Vec::new(),
+        chain: vec![recordings::ChainDevice {
+            path: b"/a".to_vec(),
+            subsystem: Vec::new(),
+            driver: Vec::new(),
+            attributes: Vec::new(),
+        }],
+    };
+    device.encode().expect("a small record")
+}
+
+#[test]
+fn places_of_faults_in_a_value_behind_an_e() {
+    for (line, span) in [
+        ("KERNEL==e\"\\x41[z-a]\"", 15..18),
+        ("KERNEL==e\"ab\\q\"", 12..14),
+        ("KERNEL==e\"\\x00\"", 10..14),
+        ("KERNEL==e\"a", 9..10),
+        ("KERNEL==e \"a\"", 8..9),
+    ] {
+        let fault = read_line(line.as_bytes()).fault.expect("a fault");
+        assert_eq!(fault.span, span, "{line}");
+    }
+}

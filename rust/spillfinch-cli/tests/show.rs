@@ -42,10 +42,10 @@ fn values_that_no_plain_string_holds() {
     folder.file("a.device", form);
     let expected =
         "# /a, the device of the event\nACTION==\"add\"\nDEVPATH==\"/a\"\nKERNEL==\"a\"\n\
-        # ATTR{x} cannot be written here: it holds a newline\n\
-        # ENV{A} cannot be written here: it holds a newline\n\
+        ATTR{x}==e\"1\\n2\"\n\
+        ENV{A}==e\"b\\n\"\n\
         # ENV{B} cannot be written here: it holds a `|`, which separates alternatives\n\
-        # ENV{C} cannot be written here: it ends in a backslash\n\
+        ENV{C}==e\"d\\\\\"\n\
         # ENV{D} cannot be written here: it is longer than a value of a rule\n\
         # ENV{E}} cannot be written here: its name holds a `}` or a newline\n\
         # ENV{G\\x0a} cannot be written here: its name holds a `}` or a newline\n";

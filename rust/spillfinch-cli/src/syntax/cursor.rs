@@ -4,7 +4,7 @@ use spillfinch::{sizes, Refusal};
 
 use super::key::{Argument, Key, Operator};
 use super::line::{fault, Pair, Value};
-use super::{content, hints, is_blank, Fault, Span};
+use super::{content, escape, hints, is_blank, Fault, Span};
 
 const ARGUMENT_MOST: usize = 64;
 
@@ -161,38 +161,33 @@ impl<'a> Cursor<'a> {
     }
 
     fn value(&mut self) -> Result<Value, Fault> {
+        let start = self.place;
+        let is_coded = self.rest().starts_with(b"e\"");
+        self.place += usize::from(is_coded);
         let open = self.place;
         if self.next() != Some(b'"') {
             let hint = hints::unopened(self.rest());
             return fault(Refusal::ValueBad, self.here(), hint);
         }
-        let (mut bytes, mut escaped) = (Vec::new(), Vec::new());
         self.place += 1;
+        let (mut bytes, mut places) = (Vec::new(), vec![self.place]);
         loop {
-            let is_special = |byte: &u8| matches!(byte, b'"' | b'\\');
-            let plain = self.rest().iter().position(is_special);
-            let (before, special) = self.rest().split_at(plain.unwrap_or(self.rest().len()));
-            bytes.extend_from_slice(before);
-            self.place += before.len();
-            match special {
-                [] => {
+            let (byte, width) = match self.rest() {
+                [] | [b'\\'] => {
                     let hint = hints::unclosed(&self.line[open..]);
                     return fault(Refusal::ValueBad, open..open + 1, hint);
                 }
                 [b'"', ..] => break,
-                [_, b'"', ..] => {
-                    escaped.push(bytes.len());
-                    bytes.push(b'"');
-                    self.place += 2;
-                }
-                _ => {
-                    bytes.push(b'\\');
-                    self.place += 1;
-                }
-            }
+                [b'\\', behind @ ..] if is_coded => self.escape(behind)?,
+                [b'\\', b'"', ..] => (b'"', 2),
+                [byte, ..] => (*byte, 1),
+            };
+            bytes.push(byte);
+            self.place += width;
+            places.push(self.place);
         }
         self.place += 1;
-        let span = open..self.place;
+        let span = start..self.place;
         if bytes.len() > sizes::VALUE_MOST {
             let most = sizes::VALUE_MOST;
             let hint = format!("the value has {} bytes; {most} are taken", bytes.len());
@@ -201,7 +196,16 @@ impl<'a> Cursor<'a> {
         Ok(Value {
             bytes,
             span,
-            escaped,
+            places,
+        })
+    }
+
+    /// The byte that the backslash here and what stands behind it stand for, and how many bytes
+    /// are written for it.
+    fn escape(&self, behind: &[u8]) -> Result<(u8, usize), Fault> {
+        escape::read(behind).or_else(|(width, hint)| {
+            let span = self.place..self.place + width;
+            fault(Refusal::ValueBad, span, String::from(hint))
         })
     }
 }

@@ -53,7 +53,8 @@ pub fn operator(key: Key) -> String {
 pub fn unopened(rest: &[u8]) -> Option<String> {
     let hint = match rest {
         [b'\'', ..] => "a value stands in double quotation marks",
-        [b'e', b'"', ..] => "strings of the form e\"...\" are not read here",
+        [b'e', b' ' | b'\t', ..] => "the mark stands directly behind the e",
+        [b'E', b'"', ..] => "the e before a mark is a small letter",
         [b'=', ..] => "an equals sign too many",
         [] => "a value in quotation marks is missing",
         _ => "a value stands in quotation marks",

@@ -35,22 +35,17 @@ impl Pair {
 #[derive(Clone, Debug, PartialEq, Eq)]
 pub struct Value {
     pub bytes: Vec<u8>,
-    /// With the marks.
+    /// With the marks, and the `e` before them.
     pub span: Span,
-    /// Which bytes are written with a backslash before them.
-    pub(super) escaped: Vec<usize>,
+    /// Where each byte is written in the line, and the closing mark.
+    pub(super) places: Vec<usize>,
 }
 
 impl Value {
     /// The place in the line of a part of the value.
     pub fn place(&self, part: &Span) -> Span {
-        let start = self.place_of(part.start);
-        start..self.place_of(part.end).max(start + 1)
-    }
-
-    fn place_of(&self, byte: usize) -> usize {
-        let before = self.escaped.iter().filter(|&&escaped| escaped < byte);
-        self.span.start + 1 + byte + before.count()
+        let start = self.places[part.start];
+        start..self.places[part.end].max(start + 1)
     }
 }
 

@@ -5,6 +5,7 @@
 
 pub mod content;
 mod cursor;
+mod escape;
 mod hints;
 pub mod key;
 pub mod line;

@@ -2,6 +2,7 @@
 
 use spillfinch::sizes;
 
+use super::escape;
 use super::key::{Argument, Key};
 
 /// Why a pair cannot be written for a value.
@@ -23,14 +24,8 @@ pub fn pair(key: Key, argument: &[u8], value: &[u8]) -> Result<Vec<u8>, Unwritab
         pair.extend_from_slice(argument);
         pair.push(b'}');
     }
-    pair.extend_from_slice(b"==\"");
-    for byte in pattern(value)? {
-        if byte == b'"' {
-            pair.push(b'\\');
-        }
-        pair.push(byte);
-    }
-    pair.push(b'"');
+    pair.extend_from_slice(b"==");
+    pair.extend_from_slice(&escape::written(&pattern(value)?));
     Ok(pair)
 }
 
@@ -46,14 +41,10 @@ fn pattern(value: &[u8]) -> Result<Vec<u8>, Unwritable> {
     let mut pattern = Vec::with_capacity(value.len());
     for &byte in value {
         match byte {
-            b'\n' => return Err("it holds a newline"),
             b'|' => return Err("it holds a `|`, which separates alternatives"),
             b'*' | b'?' | b'[' => pattern.extend_from_slice(&[b'[', byte, b']']),
             _ => pattern.push(byte),
         }
-    }
-    if pattern.ends_with(b"\\") {
-        return Err("it ends in a backslash");
     }
     if pattern.len() > sizes::VALUE_MOST {
         return Err("it is longer than a value of a rule");
