@@ -36,7 +36,7 @@ extern "C" {
 #define SPILLFINCH_TEXT_MOST 32768
 #define SPILLFINCH_DEVICE_MOST 16384
 
-/* Limits of a rules text: bytes of a line, bytes of a value, pairs of a line, rules. */
+/* Limits of a rules text: bytes of a line, bytes of a value after unescaping, pairs of a line, rules. */
 #define SPILLFINCH_LINE_MOST 1024
 #define SPILLFINCH_VALUE_MOST 256
 #define SPILLFINCH_PAIRS_MOST 32
@@ -72,7 +72,7 @@ enum spillfinch_refusal {
     SPILLFINCH_KEY_BAD = 11,           /* a key that is unknown or missing */
     SPILLFINCH_ARGUMENT_BAD = 12,      /* an argument in braces that is missing, faulty or not taken by the key */
     SPILLFINCH_OPERATOR_BAD = 13,      /* an operator that is missing or not one of the key's */
-    SPILLFINCH_VALUE_BAD = 14,         /* a value without its quotation marks, or too long */
+    SPILLFINCH_VALUE_BAD = 14,         /* a value without its quotation marks, with an escape that is not known, or too long */
     SPILLFINCH_CONTENT_BAD = 15,       /* a value that is no pattern, template, setting, label or tag, as its key asks */
     SPILLFINCH_PAIR_EXTRA = 16,        /* a pair too many, or a second LABEL or GOTO */
     SPILLFINCH_COMMA_MISSING = 17,     /* neither a comma nor the line's end behind a pair */
