@@ -54,10 +54,12 @@ pub enum Fact {
     TriedSomeDevices,
     TriedAllDevicesInVain,
     TriedNoneForAnotherKey,
+    ValueHoldsNewline,
+    ValueEndsInBackslash,
 }
 
 impl Fact {
-    pub const ALL: [Fact; 16] = [
+    pub const ALL: [Fact; 18] = [
         Fact::AcceptedRunVisitsRules,
         Fact::AcceptedRunSkipsRules,
         Fact::AcceptedRunChangesRecord,
@@ -74,6 +76,8 @@ impl Fact {
         Fact::TriedSomeDevices,
         Fact::TriedAllDevicesInVain,
         Fact::TriedNoneForAnotherKey,
+        Fact::ValueHoldsNewline,
+        Fact::ValueEndsInBackslash,
     ];
 }
 
@@ -175,6 +179,8 @@ impl Coverage {
             self.see_features(content, device);
         }
         for pair in &rule.pairs {
+            self.fact_if(pair.value.contains(&b'\n'), Fact::ValueHoldsNewline);
+            self.fact_if(pair.value.ends_with(b"\\"), Fact::ValueEndsInBackslash);
             let takes_effect = match &pair.content {
                 Content::Match(_) => pair_holds(pair, device, outcome),
                 _ if matched.is_none() => false,

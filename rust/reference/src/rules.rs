@@ -18,6 +18,8 @@ pub struct Rule {
 pub struct Pair {
     pub key: Key,
     pub operator: Operator,
+    /// What the text between the quotation marks stands for.
+    pub value: Vec<u8>,
     pub content: Content,
 }
 
@@ -125,6 +127,7 @@ fn read_pair(cursor: &mut Cursor) -> Result<Pair, Fault> {
     Ok(Pair {
         key: row.key,
         operator,
+        value,
         content,
     })
 }
@@ -157,9 +160,18 @@ fn read_operator(cursor: &mut Cursor) -> Option<Operator> {
 }
 
 fn read_value(cursor: &mut Cursor) -> Option<Vec<u8>> {
-    if !cursor.take(b"\"") {
+    let value = if cursor.take(b"e\"") {
+        read_escaped_value(cursor)?
+    } else if cursor.take(b"\"") {
+        read_plain_value(cursor)?
+    } else {
         return None;
-    }
+    };
+    (value.len() <= sizes::VALUE).then_some(value)
+}
+
+/// Reads a value after its `"`, and takes the one that closes it.
+fn read_plain_value(cursor: &mut Cursor) -> Option<Vec<u8>> {
     let mut value = Vec::new();
     while !cursor.take(b"\"") {
         if cursor.take(b"\\\"") {
@@ -168,7 +180,44 @@ fn read_value(cursor: &mut Cursor) -> Option<Vec<u8>> {
             value.push(cursor.next()?);
         }
     }
-    (value.len() <= sizes::VALUE).then_some(value)
+    Some(value)
+}
+
+/// Reads a value after its `e"`, in which every backslash begins an escape.
+fn read_escaped_value(cursor: &mut Cursor) -> Option<Vec<u8>> {
+    let mut value = Vec::new();
+    while !cursor.take(b"\"") {
+        if cursor.take(b"\\") {
+            value.push(read_escape(cursor)?);
+        } else {
+            value.push(cursor.next()?);
+        }
+    }
+    Some(value)
+}
+
+/// The byte of an escape, after its backslash.
+fn read_escape(cursor: &mut Cursor) -> Option<u8> {
+    Some(match cursor.next()? {
+        b'a' => 7,
+        b'b' => 8,
+        b't' => 9,
+        b'n' => 10,
+        b'v' => 11,
+        b'f' => 12,
+        b'r' => 13,
+        byte @ (b'\\' | b'"' | b'\'') => byte,
+        b'x' => {
+            let byte = 16 * hexadecimal_digit(cursor.next()?)? + hexadecimal_digit(cursor.next()?)?;
+            return (byte != 0).then_some(byte);
+        }
+        _ => return None,
+    })
+}
+
+fn hexadecimal_digit(digit: u8) -> Option<u8> {
+    let number = char::from(digit).to_digit(16)?;
+    u8::try_from(number).ok()
 }
 
 fn find_jumps(rules: &mut [Rule]) -> Result<(), Refusal> {

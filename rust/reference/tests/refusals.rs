@@ -232,7 +232,6 @@ fn refusal_14_value() {
             "KERNEL==\"x",
             "KERNEL==\"x\\\"",
             "KERNEL==\"\\\\\"",
-            "KERNEL==e\"x\"",
             "KERNEL==='x'",
             "KERNEL===\"x\"",
             "TAG= =\"x\"",

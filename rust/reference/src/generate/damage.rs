@@ -42,7 +42,7 @@ fn duplicate_span(rng: &mut Rng, bytes: &mut Vec<u8>) {
 
 /// Puts bytes that mean something in a rule at some places of a text.
 pub fn damage_text(rng: &mut Rng, text: &mut Vec<u8>) {
-    const MEANINGFUL: &[u8] = b"\"\"\\,{}$%[]|-!+:= \t\n#\r\0AZaze09";
+    const MEANINGFUL: &[u8] = b"\"\"\\,{}$%[]|-!+:= \t\n#\r\0AZazeexn\'09";
     if rng.percent(30) {
         damage(rng, text);
         return;

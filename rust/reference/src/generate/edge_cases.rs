@@ -89,6 +89,11 @@ pub fn env_line(quoted: Vec<u8>) -> Vec<u8> {
     [&b"ENV{A}=\""[..], &quoted, b"\""].concat()
 }
 
+/// The escape so many times.
+pub fn escaped_env_line(escape: &str, count: usize) -> String {
+    format!("ENV{{A}}=e\"{}\"", escape.repeat(count))
+}
+
 pub fn env_argument(length: usize) -> Vec<u8> {
     [&b"ENV{"[..], &vec![b'k'; length], b"}=\"v\""].concat()
 }

@@ -33,6 +33,24 @@ pub const TEXT_EDGES: &[Edge] = &[
     edge("value of 257", 14, |rng| {
         of_line(env_line(marks(rng, 257)), rng)
     }),
+    edge("escaped value of 256", 0, |rng| {
+        of_line(escaped_env_line("\\n", 256), rng)
+    }),
+    edge("escaped value of 257", 14, |rng| {
+        of_line(escaped_env_line("\\n", 257), rng)
+    }),
+    edge("escaped value longer than a line", 10, |rng| {
+        of_line(escaped_env_line("\\x41", 256), rng)
+    }),
+    edge("escaped backslash at the end", 0, |rng| {
+        of_line(b"ENV{A}=e\"a\\\\\", TAG+=\"b\"", rng)
+    }),
+    edge("label found by its escape", 0, |rng| {
+        of_line(b"GOTO=\"a\"\nMODE=\"8\"\nLABEL=e\"\\x61\"", rng)
+    }),
+    edge("newline and bad escape", 14, |rng| {
+        of_line(b"ENV{A}=e\"\\n\\q\"", rng)
+    }),
     edge("argument of 64", 0, |rng| of_line(env_argument(64), rng)),
     edge("argument of 65", 12, |rng| of_line(env_argument(65), rng)),
     edge("template argument of 64", 0, |rng| {

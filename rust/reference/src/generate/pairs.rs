@@ -26,7 +26,7 @@ pub fn pair(rng: &mut Rng, key: &[u8], operator: Operator, value: &[u8]) -> Vec<
         rng.pick(blanks),
         operator.symbol().as_bytes(),
         rng.pick(blanks),
-        &quoted(value),
+        &written_value(rng, value),
     ]
     .concat()
 }
@@ -35,21 +35,63 @@ pub fn with_argument(key: &[u8], argument: &[u8]) -> Vec<u8> {
     [key, b"{", argument, b"}"].concat()
 }
 
-/// The value in quotation marks; what cannot be written in them is changed.
-pub fn quoted(value: &[u8]) -> Vec<u8> {
+/// The value with its quotation marks, and escapes where it needs them or now and then.
+fn written_value(rng: &mut Rng, value: &[u8]) -> Vec<u8> {
+    let needs_escapes = value.contains(&b'\n') || value.ends_with(b"\\");
+    if needs_escapes || rng.percent(10) {
+        escaped(rng, value)
+    } else {
+        quoted(value)
+    }
+}
+
+fn quoted(value: &[u8]) -> Vec<u8> {
     let mut quoted = vec![b'"'];
     for &byte in value {
-        match byte {
-            b'"' => quoted.extend_from_slice(b"\\\""),
-            b'\n' => quoted.push(b' '),
-            _ => quoted.push(byte),
+        if byte == b'"' {
+            quoted.push(b'\\');
         }
-    }
-    while quoted.ends_with(b"\\") {
-        quoted.pop();
+        quoted.push(byte);
     }
     quoted.push(b'"');
     quoted
+}
+
+fn escaped(rng: &mut Rng, value: &[u8]) -> Vec<u8> {
+    let most = if value.len() > 60 { 10 } else { 100 };
+    let escapes_in_100 = rng.pick(&[0, 10, most]);
+    let mut escaped = b"e\"".to_vec();
+    for &byte in value {
+        if matches!(byte, b'\n' | b'"' | b'\\') || rng.percent(escapes_in_100) {
+            escaped.extend(escape(rng, byte));
+        } else {
+            escaped.push(byte);
+        }
+    }
+    escaped.push(b'"');
+    escaped
+}
+
+/// An escape for the byte, by its letter where it has one, or by its number.
+fn escape(rng: &mut Rng, byte: u8) -> Vec<u8> {
+    let letter = match byte {
+        7 => b'a',
+        8 => b'b',
+        9 => b't',
+        10 => b'n',
+        11 => b'v',
+        12 => b'f',
+        13 => b'r',
+        b'"' | b'\'' | b'\\' => byte,
+        _ => b'x',
+    };
+    if letter != b'x' && rng.percent(80) {
+        vec![b'\\', letter]
+    } else if rng.percent(50) {
+        format!("\\x{byte:02x}").into_bytes()
+    } else {
+        format!("\\x{byte:02X}").into_bytes()
+    }
 }
 
 /// A match key that is no parent key, and that mostly holds.

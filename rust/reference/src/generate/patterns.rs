@@ -131,9 +131,9 @@ fn text_before_specials(text: &[u8]) -> &[u8] {
     &text[..end.unwrap_or(text.len())]
 }
 
-/// Bytes that cannot stand for themselves in a pattern, or not in a line.
+/// Bytes that cannot stand for themselves in a pattern.
 fn is_special(byte: u8) -> bool {
-    matches!(byte, b'*' | b'?' | b'[' | b'|' | b'\n' | 0)
+    matches!(byte, b'*' | b'?' | b'[' | b'|')
 }
 
 /// Bytes that can be the member of a set and the end of a range without further thought.
@@ -145,13 +145,10 @@ fn safe_byte(rng: &mut Rng) -> u8 {
     rng.pick(b"abcxyz059 ._/:R\xff")
 }
 
-/// Keeps the pattern within a value, and lets it not end in a backslash.
-fn writable(mut pattern: Vec<u8>) -> Vec<u8> {
+/// Keeps the pattern within a value.
+fn writable(pattern: Vec<u8>) -> Vec<u8> {
     if pattern.len() > sizes::VALUE {
         return b"*".to_vec();
-    }
-    if let Some(last @ b'\\') = pattern.last_mut() {
-        *last = b'?';
     }
     pattern
 }

@@ -87,6 +87,10 @@ pub const VALUES: &[&[u8]] = &[
     b"%k",
     b"\\x20",
     b"say \"hi\"",
+    b"bridge\x01",
+    b"it's\x07\r",
+    b"tail\\",
+    b"\\\"",
     b"]",
     b"-",
     b"!",
@@ -114,6 +118,8 @@ pub const LINK_PARTS: &[&[u8]] = &[
     b".",
     b"#+-.:=@_",
     b"\xe4!",
+    b"n\nl",
+    b"\\",
 ];
 
 /// Whole link names.
@@ -131,7 +137,7 @@ pub const LINKS: &[&[u8]] = &[
 ];
 
 pub const TAGS: &[&[u8]] = &[
-    b"seat", b"uaccess", b"systemd", b"a", b"b", b"%k", b"a b", b"*",
+    b"seat", b"uaccess", b"systemd", b"a", b"b", b"%k", b"a b", b"*", b"t\t\n", b"\\",
 ];
 
 pub const OWNERS: &[&[u8]] = &[b"root", b"dialout", b"disk", b"u-1_x.y", b"0"];
@@ -140,7 +146,7 @@ pub const MODES: &[&[u8]] = &[b"0660", b"660", b"0", b"7775", b"0600", b"44"];
 
 pub const WORLD_WRITABLE_MODES: &[&[u8]] = &[b"0666", b"2", b"003", b"7777"];
 
-pub const LABELS: &[&[u8]] = &[b"end", b"skip", b"next", b"a b", b"*"];
+pub const LABELS: &[&[u8]] = &[b"end", b"skip", b"next", b"a b", b"*", b"e\n", b"\\"];
 
 /// Well formed patterns that are easily read wrongly.
 pub const ODD_PATTERNS: &[&[u8]] = &[
