@@ -208,6 +208,8 @@ examples =
     ∷ tries "close" (operations.close bare empty 8225) 0
     ∷ lists "Item 1: a newline at the end of a match value" (alone [] "/a" (("s", "v\n") ∷ [])) "ATTR{s}==e\"v\\n\", TAG+=\"1\"\nATTR{s}==\"v\", TAG+=\"2\"\nATTR{s}==e\"v\\n\\n\", TAG+=\"3\"" "visited 3\ntried 0\npriority 0\ntag 1\ntag 2\n"
     ∷ lists "Item 1: a written newline in a link" tty "SYMLINK=e\"a\\nb c\\\\\", ENV{k}=e\"\\\\\"" "visited 1\ntried 0\npriority 0\nlink a_b\nlink c_\nenv k=\\x5c\n"
+    ∷ lists "Item 10: a refusal names the first physical line" tty "TAG+=\"a\"\n\\\nSYMLINK+=\\\n\"/x\"" "refused 31 line 2\n"
+    ∷ lists "Item 10: a joined rule is one rule" tty "KERNEL==\"tty\\\nUSB?\", \\\n TAG+=\"a\\\nb\"\n# c \\\nTAG+=\"c\"" "visited 2\ntried 0\npriority 0\ntag ab\ntag c\n"
     ∷ []
 
 pub shown : wrong examples ≡ []

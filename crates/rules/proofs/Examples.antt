@@ -1,4 +1,4 @@
--- Worked examples of reading, as one computed claim: each refusal 2, 10 to 19 with its neighbours, and the order of the checks.
+-- Worked examples of reading, as one computed claim: each refusal 2, 10 to 20 with its neighbours, and the order of the checks.
 -- Assumes nothing.
 use Prim.Native.Nat.{ℕ, zero, suc}
 use Prim.Native.String.{String}
@@ -23,9 +23,9 @@ use Rattle.rules.specs.Pair.{Pair, Rule, valueOf, labelOf, gotoOf}
 use Rattle.rules.specs.Setting.{Setting, escape-none, escape-replace, priority, digitsFrom, integerOf, settingOf}
 use Rattle.rules.specs.Coded.{escapes, escapeIn, coded}
 use Rattle.rules.specs.Reading.{readKey, isType, readArgument, readOp, quoted, unescape, readPlain, readCoded, readValue, sound, readPair, readPairs, readLine, reader}
-use Rattle.text.specs.Lines.{numbered, lines}
+use Rattle.text.specs.Lines.{newlines, stageOf, linesIn, numbered, lines, unjoined}
 use Rattle.text.specs.Reading as text
-use Rattle.text.specs.Reading.{collect, goesTo, settle}
+use Rattle.text.specs.Reading.{collect, goesTo, settle, readLent}
 
 -- ---- a read rule as text, for comparing: NAME{argument}op<value>, each pair and each rule with an end mark
 
@@ -233,12 +233,26 @@ examples =
     ∷ refusedOf (rep 35 "TAG=\"a\"," ∷ t "FOO" ∷ []) 16 1
     -- 17
     ∷ unread "KERNEL==\"a\" x" 17 1 ∷ unread "KERNEL==\"a\"x" 17 1 ∷ unread "KERNEL==\"a\" # c" 17 1 ∷ unread "KERNEL==\"a\"\r" 17 1 ∷ unread "KERNEL==\"a\" ACTION==\"b\"" 17 1
-    ∷ unread "KERNEL==\"a\"\"b\"" 17 1 ∷ unread "KERNEL==\"a\";" 17 1 ∷ unread "KERNEL==\"a\" \"" 17 1 ∷ unread "KERNEL==\"a\"\\" 17 1 ∷ unread "LABEL=\"a\"LABEL=\"a\"" 17 1
+    ∷ unread "KERNEL==\"a\"\"b\"" 17 1 ∷ unread "KERNEL==\"a\";" 17 1 ∷ unread "KERNEL==\"a\" \"" 17 1 ∷ unread "KERNEL==\"a\"\\ " 17 1 ∷ unread "LABEL=\"a\"LABEL=\"a\"" 17 1
     -- 18, and the order of the lines
     ∷ refusedOf (t "GOTO=\"x\"\n" ∷ rep 511 "TAG=\"a\"\n" ∷ t "\n#\n" ∷ t "TAG=\"a\"\n\0" ∷ []) 18 515 ∷ refusedOf (rep 512 "TAG=\"a\"\n" ∷ t "TAG=\"a" ∷ []) 14 513
     ∷ unread "KERNEL==\"a\"\nTAG=b\nFOO" 14 2 ∷ unread "KERNEL==\"a\"\n\n  FOO=\nTAG=b" 11 3 ∷ unread "KERNEL==\"[\", FOO" 15 1 ∷ unread "KERNEL==\"a\" x, FOO" 17 1
+    -- document 02, Item 10: joined lines, and 20
+    ∷ reads "TAG+=\\\n\"a\"\nTAG+=\"b\"" (1 ∷ 3 ∷ []) "TAG+=<a>;TAG+=<b>;" ∷ reads "TAG+=\"a\\\nb\"" (1 ∷ []) "TAG+=<ab>;" ∷ reads "TA\\\nG+\\\n=\"a\\\n\\\nb\"" (1 ∷ []) "TAG+=<ab>;" ∷ reads "TAG+=\"a\\\\\nb\"" (1 ∷ []) "TAG+=<a\\b>;"
+    ∷ reads "TAG+=\"a\\\\\n\"b\"" (1 ∷ []) "TAG+=<a\"b>;"
+    ∷ reads "# c\\\nTAG+=\"a\"" (2 ∷ []) "TAG+=<a>;" ∷ reads "\t # c\\\nTAG+=\"a\"" (2 ∷ []) "TAG+=<a>;" ∷ reads " \t\nTAG+=\"a\"" (2 ∷ []) "TAG+=<a>;" ∷ reads "\\\n# c\\\nTAG+=\"a\"\nTAG+=\"b\"" (4 ∷ []) "TAG+=<b>;"
+    ∷ reads " \\\n\t\\\n \nTAG+=\"b\"" (4 ∷ []) "TAG+=<b>;" ∷ reads "\\\n\nTAG+=\"b\"" (3 ∷ []) "TAG+=<b>;" ∷ reads "TAG+=\"a\"\\\n\nTAG+=\"b\"" (1 ∷ 3 ∷ []) "TAG+=<a>;TAG+=<b>;" ∷ unread "\n\\\n \\\nTAG+=\"a\"\\\n" 20 2
+    ∷ reads "# c\\" ([]) "" ∷ reads "# c\\\n" ([]) "" ∷ reads "\\\n " ([]) "" ∷ reads "TAG+=\"a\"\\\n\n" (1 ∷ []) "TAG+=<a>;"
+    ∷ reads "\\\n\n" ([]) "" ∷ reads "#\\\n#\\" ([]) "" ∷ reads "GOTO=\"a\"\n\\\n\\\nLABEL=\"a\"" (1 ∷ 2 ∷ []) "GOTO=<a>;LABEL=<a>;" ∷ unread "\\" 20 1
+    ∷ unread "\\\n" 20 1 ∷ unread "TAG+=\"a\"\\" 20 1 ∷ unread "TAG+=\"a\"\\\n" 20 1 ∷ unread "x\\" 20 1
+    ∷ unread "\0\\" 20 1 ∷ unread "\\\\" 20 1 ∷ unread "\\\n\\\n" 20 1 ∷ unread "\\\n# c\\" 20 1
+    ∷ unread " \\\n" 20 1 ∷ unread "TAG+=\"a\"\\\n# c" 17 1 ∷ unread "\n#\\\nTAG+=\"a\",\\\nTAG+=\"b\"\\" 20 3 ∷ unread "x\n\\" 11 1
+    ∷ unread "GOTO=\"a\"\n\\" 20 2 ∷ unread "TAG+=\"a\"\\\nx\0" 10 1 ∷ unread "\nTAG+=\\\n\\\n\"a\" x\n" 17 2 ∷ unread "TAG+=\\\n\\\n\"a\"\nx" 11 4
+    ∷ unread "TAG+=\"a\"\\\r\n" 17 1 ∷ unread "\\\nGOTO=\"a\"" 19 1 ∷ unread "#\0\\" 10 1 ∷ refusedOf (rep 2000 "x" ∷ t "\\" ∷ []) 20 1
+    ∷ refusedOf (rep 512 "TAG+=\"a\"\n" ∷ t "TAG+=\"a\"\\\n" ∷ []) 20 513 ∷ readsOf (t "TAG+=\\\n\"a\"" ∷ rep 1016 " " ∷ []) 1 ∷ readsOf (t "TAG+=\"a\"" ∷ rep 1016 " " ∷ rep 3 "\\\n" ∷ t "\n" ∷ []) 1 ∷ refusedOf (t "\nTAG+=\"a\"" ∷ rep 1016 " " ∷ t "\\\n " ∷ []) 10 2
+    ∷ readsOf (t "# " ∷ rep 1021 "x" ∷ t "\\\n" ∷ []) 0 ∷ refusedOf (t "# " ∷ rep 1022 "x" ∷ t "\\\n" ∷ []) 10 1 ∷ refusedOf (rep 31 "TAG=\"a\",\\\n" ∷ t "TAG=\"a\",\\\nTAG=\"a\"" ∷ []) 16 1
     ∷ []
 
 pub shown : wrong examples ≡ []
-unfolding wrong right numbered examples bytes built many nameOf argumentText pairText ruleText rulesText sameBytes starts span splitAt items inBraces pattern.members pattern.bodyOf pattern.elements pattern.wellFormed template.names template.letters template.nameIn template.pieces template.wellFormed rows rowIn rowOf valueOf digitsFrom integerOf settingOf readKey isType readArgument readOp quoted unescape readPlain escapes escapeIn coded readCoded readValue sound readPair readPairs readLine lines collect goesTo settle text.readText
+unfolding wrong right newlines stageOf linesIn numbered unjoined readLent examples bytes built many nameOf argumentText pairText ruleText rulesText sameBytes starts span splitAt items inBraces pattern.members pattern.bodyOf pattern.elements pattern.wellFormed template.names template.letters template.nameIn template.pieces template.wellFormed rows rowIn rowOf valueOf digitsFrom integerOf settingOf readKey isType readArgument readOp quoted unescape readPlain escapes escapeIn coded readCoded readValue sound readPair readPairs readLine lines collect goesTo settle text.readText
 shown = refl

@@ -1,4 +1,4 @@
--- Where an accepted text is cut after newlines, the pieces are all accepted exactly when no jump crosses a cut.
+-- Where an accepted text is cut after newlines that join nothing, the pieces are all accepted exactly when no jump crosses a cut.
 -- Assumes nothing.
 use Prim.Native.Nat.{ℕ, _+_, _≤_, _<_}
 use mathlib.Core.Path.{_≡_}
@@ -11,7 +11,7 @@ use Rattle.lists.specs.Lists.{All}
 use Rattle.lists.specs.Checked.{ok, Placed, lineOf, moved}
 use Rattle.text.specs.Engine.{Engine}
 use Rattle.text.specs.Reading.{readText}
-use Rattle.text.specs.Joined.{join, EndsLine, Joinable, Accepted, Jump, Crosses, NoCrossing, cuts, jumps}
+use Rattle.text.specs.Joined.{join, EndsWhole, Cuttable, Accepted, Jump, Crosses, NoCrossing, cuts, jumps}
 use Rattle.text.specs.Rules.{rulesOf}
 use Rattle.text.specs.Laws.{Laws}
 use Rattle.lists.proofs.Lists.{All-map, All-append, All-split, All-each}
@@ -38,7 +38,7 @@ fewer-cuts c cs [] k = tt
 fewer-cuts c cs (j ∷ js) (k, ks) = (k .1, fewer-cuts c cs js ks)
 
 module _ (E : Engine) (L : Laws E) where
-  module _ (p v : List ℕ) (e : EndsLine p) where
+  module _ (p v : List ℕ) (e : EndsWhole p) where
     -- what follows the first piece of an accepted text is accepted
     rest-parts : Parts E (p ++ v) → Parts E v
     rest-parts h = record {
@@ -93,7 +93,7 @@ module _ (E : Engine) (L : Laws E) where
           (not-before (n + newlines p) cs (jumps E ys) (jumps-above E (n + newlines p) ys above) k))
 
   -- n lines further down
-  cut-parts : (ps : List (List ℕ)) → Joinable ps → (n : ℕ) → Parts E (join ps) → All (Parts E) ps ↔ NoCrossing (cuts n ps) (jumps E (shift n (rulesOf (E .reader) (join ps))))
+  cut-parts : (ps : List (List ℕ)) → Cuttable ps → (n : ℕ) → Parts E (join ps) → All (Parts E) ps ↔ NoCrossing (cuts n ps) (jumps E (shift n (rulesOf (E .reader) (join ps))))
   unfolding join
   cut-parts [] j n h = absurd j
   cut-parts (p ∷ []) j n h = (
@@ -109,8 +109,8 @@ module _ (E : Engine) (L : Laws E) where
         (λ k. let s = first-settled p v e n cs late h k in (first-parts p v e h (s .0), rest .1 (s .1))),
       )
 
-  -- Where an accepted text is cut after newlines, the pieces are all accepted exactly when no jump crosses a cut.
-  pub cut-accepted : (t : List ℕ) (rs : List (Placed (E .reader .Rule))) → readText (E .reader) t ≡ ok rs → (ps : List (List ℕ)) → Joinable ps → join ps ≡ t
+  -- Where an accepted text is cut after newlines that join nothing, the pieces are all accepted exactly when no jump crosses a cut.
+  pub cut-accepted : (t : List ℕ) (rs : List (Placed (E .reader .Rule))) → readText (E .reader) t ≡ ok rs → (ps : List (List ℕ)) → Cuttable ps → join ps ≡ t
       → All (Accepted E) ps ↔ NoCrossing (cuts 0 ps) (jumps E rs)
   cut-accepted t rs a ps j e =
       let r = read E (join ps) rs (rw (← e) at a) in

@@ -13,3 +13,4 @@ pub mod Pieces
 pub mod Demand
 pub mod Sanity
 pub mod Places
+pub mod Unjoined

@@ -17,13 +17,13 @@ use Rattle.text.specs.Engine.{Reader, Engine}
 use Rattle.text.specs.Reading.{ruleCount, reads}
 use Rattle.text.specs.Running.{next, Halt, Ran, more, runFrom}
 use Rattle.text.specs.Run.{answer, runChecked, run}
-use Rattle.text.specs.Joined.{join, EndsLine, Joinable, Accepted, Job, texts, Given, given, runAll}
+use Rattle.text.specs.Joined.{join, EndsWhole, Joinable, Cuttable, Accepted, Job, texts, Given, given, runAll}
 use Rattle.text.specs.Rules.{rulesOf}
 use Rattle.text.specs.Laws.{Laws}
 use Rattle.lists.proofs.Lists.{All-map}
 use Rattle.text.proofs.Lines.{shift}
 use Rattle.text.proofs.Texts.{Parts, read-ok, rules-join}
-use Rattle.text.proofs.Accept.{to-parts, join-accepted}
+use Rattle.text.proofs.Accept.{to-parts, to-cuttable, join-accepted}
 use Rattle.text.proofs.Running.{lower, more-zero, lower-zero, more-lower, run-append, run-shift}
 use Rattle.text.proofs.Sound.{Sound, run-sound, lines-read}
 
@@ -81,7 +81,7 @@ module _ (E : Engine) where
     text-sound t s h g = run-sound E L d (rulesOf (E .reader) t) next s tt (h .settled) (lines-read E (lines t)) g
 
     -- the join of a text with another, by what running the text gave
-    run-join : (t v : List ℕ) (s : State) → EndsLine t → (c : Ran State) → runFrom E d next s (rulesOf (E .reader) t) ≡ c → Holds (Sound E L d) c
+    run-join : (t v : List ℕ) (s : State) → EndsWhole t → (c : Ran State) → runFrom E d next s (rulesOf (E .reader) t) ≡ c → Holds (Sound E L d) c
         → runFrom E d next s (rulesOf (E .reader) (t ++ v)) ≡ (c >>= λ h. more (h .visited) (h .tried) (lower (newlines t) (runFrom E d next (h .state) (rulesOf (E .reader) v))))
     run-join t v s e (refused (line n f)) q h =
         rw (rules-join E L t e v, run-append E d (shift (newlines t) (rulesOf (E .reader) v)) (rulesOf (E .reader) t) next s, q)
@@ -106,7 +106,7 @@ module _ (E : Engine) where
     unfolding run
     run-is t out room s h f r c q = ap (answer E room) (run-accepted t dev out room h is f r ∙ q)
 
-    pub runs : (j : Job) (js : List Job) → Joinable (texts (j ∷ js)) → All (Parts E) (texts (j ∷ js)) → All (λ (k : Job). fullestOutcome ≤ k .room) (j ∷ js)
+    pub runs : (j : Job) (js : List Job) → Cuttable (texts (j ∷ js)) → All (Parts E) (texts (j ∷ js)) → All (λ (k : Job). fullestOutcome ≤ k .room) (j ∷ js)
         → (v w n : ℕ) (out : List ℕ) (s : State) → decode d out ≡ some s → L .Good d s
         → runAll E dev v w n out (j ∷ js) ≡ summary (more v w (lower n (runFrom E d next s (rulesOf (E .reader) (join (texts (j ∷ js)))))))
     unfolding join runAll
@@ -144,4 +144,4 @@ module _ (E : Engine) where
       ap given (run-is L dev d is (join (texts (j ∷ js))) out room s (to-parts E (join (texts (j ∷ js))) (join-accepted E L (texts (j ∷ js)) e h short few)) f r (runFrom E d next s (rulesOf (E .reader) (join (texts (j ∷ js))))) refl)
       ∙ (given-answer room (runFrom E d next s (rulesOf (E .reader) (join (texts (j ∷ js)))))
       ∙ (ap summary (sym (ap (more 0 0) (lower-zero (runFrom E d next s (rulesOf (E .reader) (join (texts (j ∷ js)))))) ∙ more-zero (runFrom E d next s (rulesOf (E .reader) (join (texts (j ∷ js)))))))
-      ∙ sym (runs L dev d is j js e (All-map (Accepted E) (Parts E) (to-parts E) (texts (j ∷ js)) h) rs 0 0 0 out s f (L .starts by is f))))
+      ∙ sym (runs L dev d is j js (to-cuttable E (texts (j ∷ js)) e (All-map (Accepted E) (Parts E) (to-parts E) (texts (j ∷ js)) h)) (All-map (Accepted E) (Parts E) (to-parts E) (texts (j ∷ js)) h) rs 0 0 0 out s f (L .starts by is f))))

@@ -9,7 +9,8 @@ use Rattle.lists.specs.Lists.{All}
 use Rattle.lists.specs.Checked.{Checked, refused, ok, Holds, Placed, line, inPlace}
 use Rattle.lists.specs.Refusal.{Refusal}
 use Rattle.text.specs.Engine.{Reader, Engine, LineRead, skip, fault, rule, Stepped, went}
-use Rattle.text.specs.Reading.{goesTo}
+use Rattle.text.specs.Lines.{isOpen, unjoined}
+use Rattle.text.specs.Reading.{goesTo, lentBy, readLent}
 use Rattle.text.specs.Running.{Mode, next, seek, Halt, Ran, more, begins, after, started, visit, runFrom}
 use Rattle.text.specs.Rules.{rulesIn}
 use Rattle.text.specs.Laws.{Laws}
@@ -35,10 +36,15 @@ module _ (E : Engine) where
   line-read n l ls (fault f) e h = h
   line-read n l ls (rule r) e h = ((l, e), h)
 
-  pub lines-read : (ls : List (Placed (List ℕ))) → All FromLine (rulesIn (map (inPlace (E .reader .readLine)) ls))
+  lent-read : (n : ℕ) (l : List ℕ) (ls : List (Placed (LineRead Rule))) (t : Bool) → All FromLine (rulesIn ls) → All FromLine (rulesIn (line n (lentBy (E .reader) t l) ∷ ls))
   unfolding rulesIn
+  lent-read n l ls true h = h
+  lent-read n l ls false h = line-read n (unjoined l) ls (E .reader .readLine (unjoined l)) refl h
+
+  pub lines-read : (ls : List (Placed (List ℕ))) → All FromLine (rulesIn (map (inPlace (readLent (E .reader))) ls))
+  unfolding rulesIn readLent
   lines-read [] = tt
-  lines-read (line n l ∷ ls) = line-read n l (map (inPlace (E .reader .readLine)) ls) (E .reader .readLine l) refl (lines-read ls)
+  lines-read (line n l ∷ ls) = lent-read n l (map (inPlace (readLent (E .reader))) ls) (isOpen l) (lines-read ls)
 
   aimed-after : (held : Bool) (g : Option (List ℕ)) (ps : List (Placed Rule)) → Aimed E g ps → Aimed E (sought (after held g)) ps
   aimed-after false g ps a = tt

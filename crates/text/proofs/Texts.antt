@@ -15,11 +15,11 @@ use Rattle.lists.specs.Refusal.{text-long}
 use Rattle.lists.specs.Sizes.{mostText, mostRules}
 use Rattle.lists.proofs.Lists.{All-map}
 use Rattle.lists.proofs.Checked.{holds-bind, holds-at, holds-seq}
-use Rattle.text.specs.Lines.{numbered, lines, newlines}
+use Rattle.text.specs.Lines.{stageOf, unjoined, numbered, lines, newlines}
 use Rattle.text.specs.Engine.{Engine, LineRead, skip}
-use Rattle.text.specs.Reading.{collect, ruleCount, settle, reads, readText}
+use Rattle.text.specs.Reading.{collect, ruleCount, settle, readLent, reads, readText}
 use Rattle.text.specs.Rules.{rulesIn, rulesOf}
-use Rattle.text.specs.Joined.{EndsLine}
+use Rattle.text.specs.Joined.{EndsWhole}
 use Rattle.text.specs.Laws.{Laws}
 use Rattle.text.proofs.Lines.{shift, numbered-lines, whole, lines-alone, lines-before}
 use Rattle.text.proofs.Collect.{Faultless, collect-ok, Collected, collected, faultless-append, faultless-split, faultless-shift, faultless-unshift, count-append, count-shift, rules-append, rules-shift, rules-lines}
@@ -73,6 +73,11 @@ module _ (E : Engine) where
 
   -- ---- a text that others may follow: what its whole lines read, and a skipped line
 
+  -- an empty line joins nothing
+  empty-lent : readLent (E .reader) [] ≡ E .reader .readLine []
+  unfolding readLent stageOf unjoined
+  empty-lent = refl
+
   record Front (t : List ℕ) : Type 0 where
     front : List (Placed (LineRead (E .reader .Rule)))
     last : ℕ
@@ -80,17 +85,17 @@ module _ (E : Engine) where
     before : (v : List ℕ) → reads (E .reader) (t ++ v) ≡ front ++ shift (newlines t) (reads (E .reader) v)
     above : All (λ (p : Placed (LineRead (E .reader .Rule))). lineOf p ≤ newlines t) front
 
-  module _ (L : Laws E) (t : List ℕ) (h : EndsLine t) where
+  module _ (L : Laws E) (t : List ℕ) (h : EndsWhole t) where
     front-of : Front t
     front-of =
         let f = numbered 1 (whole t h .front) in
         record {
-          front = map (inPlace (E .reader .readLine)) f;
+          front = map (inPlace (readLent (E .reader))) f;
           last = newlines t + 1;
-          alone = rw (lines-alone t h, map-append (inPlace (E .reader .readLine)) f (line (newlines t + 1) [] ∷ []), L .empty-line);
-          before = λ v. rw (lines-before t h v, map-append (inPlace (E .reader .readLine)) f (shift (newlines t) (lines v)), inPlace-shift (E .reader .readLine) (newlines t) (lines v));
+          alone = rw (lines-alone t h, map-append (inPlace (readLent (E .reader))) f (line (newlines t + 1) [] ∷ []), empty-lent, L .empty-line);
+          before = λ v. rw (lines-before t h v, map-append (inPlace (readLent (E .reader))) f (shift (newlines t) (lines v)), inPlace-shift (readLent (E .reader)) (newlines t) (lines v));
           above =
-              inPlace-lines (E .reader .readLine) (λ (n : ℕ). n ≤ newlines t) f
+              inPlace-lines (readLent (E .reader)) (λ (n : ℕ). n ≤ newlines t) f
               (All-map _ (λ (p : Placed (List ℕ)). lineOf p ≤ newlines t) (λ p k. omega (arith, whole t h .size)) f (numbered-lines 1 (whole t h .front)));
         }
 
@@ -130,4 +135,4 @@ module _ (E : Engine) where
   unfolding rulesOf lines
   rules-from t =
       rules-lines (λ (n : ℕ). 1 ≤ n) (reads (E .reader) t)
-      (inPlace-lines (E .reader .readLine) (λ (n : ℕ). 1 ≤ n) (lines t) (All-map _ (λ (p : Placed (List ℕ)). 1 ≤ lineOf p) (λ p k. k .0) (lines t) (numbered-lines 1 _)))
+      (inPlace-lines (readLent (E .reader)) (λ (n : ℕ). 1 ≤ n) (lines t) (All-map _ (λ (p : Placed (List ℕ)). 1 ≤ lineOf p) (λ p k. k .0) (lines t) (numbered-lines 1 _)))

@@ -13,7 +13,7 @@ use Rattle.lists.specs.Sizes.{mostText, mostRules, fullestOutcome}
 use Rattle.text.specs.Engine.{Engine}
 use Rattle.text.specs.Reading.{ruleCount, reads, readText}
 use Rattle.text.specs.Run.{run}
-use Rattle.text.specs.Joined.{join, Joinable, Accepted, Job, texts, given, runAll, cuts, NoCrossing, jumps}
+use Rattle.text.specs.Joined.{join, Joinable, Cuttable, Accepted, Job, texts, given, runAll, cuts, NoCrossing, jumps}
 
 -- texts that may be joined ("Joined texts"): each accepted by itself, line ends where they meet, and the join within the sizes of a text
 pub record Fit (E : Engine) (ts : List (List ℕ)) : Type 0 where
@@ -30,13 +30,13 @@ pub record Demand3 (E : Engine) : Type 0 where
       → (dev out : List ℕ) {d : E .Device} {s : E .State} → Bytes out → E .device dev ≡ some d → E .decode d out ≡ some s
       → All (λ (j : Job). fullestOutcome ≤ j .room) js → (room : ℕ) → fullestOutcome ≤ room
       → given (run E (join (texts js)) dev out room) ≡ runAll E dev 0 0 0 out js
-  -- an accepted text cut behind newlines, whatever the list of its pieces, has only accepted pieces if and only if no jump, taken or not,
+  -- an accepted text cut behind newlines that join nothing, whatever the list of its pieces, has only accepted pieces if and only if no jump, taken or not,
   -- crosses a cut
   pub cut-accepted : (t : List ℕ) (rs : List (Placed (E .reader .Rule))) → readText (E .reader) t ≡ ok rs
-      → (ps : List (List ℕ)) → Joinable ps → join ps ≡ t → All (Accepted E) ps ↔ NoCrossing (cuts 0 ps) (jumps E rs)
+      → (ps : List (List ℕ)) → Cuttable ps → join ps ≡ t → All (Accepted E) ps ↔ NoCrossing (cuts 0 ps) (jumps E rs)
   -- and then running its pieces one after another gives what its own run gives
   pub cut-run : (t : List ℕ) (rs : List (Placed (E .reader .Rule))) → readText (E .reader) t ≡ ok rs
-      → (js : List Job) → Joinable (texts js) → join (texts js) ≡ t → NoCrossing (cuts 0 (texts js)) (jumps E rs)
+      → (js : List Job) → Cuttable (texts js) → join (texts js) ≡ t → NoCrossing (cuts 0 (texts js)) (jumps E rs)
       → (dev out : List ℕ) {d : E .Device} {s : E .State} → Bytes out → E .device dev ≡ some d → E .decode d out ≡ some s
       → All (λ (j : Job). fullestOutcome ≤ j .room) js → (room : ℕ) → fullestOutcome ≤ room
       → given (run E t dev out room) ≡ runAll E dev 0 0 0 out js

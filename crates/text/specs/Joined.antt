@@ -10,7 +10,7 @@ use lib.Dec.{eqb}
 use lib.ListN.{length, take}
 use Rattle.lists.specs.Lists.{All}
 use Rattle.lists.specs.Checked.{ok, Placed, line}
-use Rattle.text.specs.Lines.{newlines}
+use Rattle.text.specs.Lines.{newlines, blank, stageOf, isSlash}
 use Rattle.text.specs.Engine.{Reader, Engine}
 use Rattle.text.specs.Reading.{goesTo, readText}
 use Rattle.text.specs.Run.{Answer, run}
@@ -24,11 +24,27 @@ join (t ∷ ts) = t ++ join ts
 abbrev pub EndsLine : List ℕ → Type 0
 EndsLine t = (t ≡ []) ⊎ ((u : List ℕ) × (t ≡ u ++ (10 ∷ [])))
 
--- one or more texts, each but the last empty or ending in a newline
+-- document 02, Item 10: a newline behind these bytes of a text joins the next line
+abbrev pub joinsNext : List ℕ → Bool
+joinsNext u = isSlash (stageOf blank u)
+
+-- empty or ending in a newline that joins nothing
+abbrev pub EndsWhole : List ℕ → Type 0
+EndsWhole t = (t ≡ []) ⊎ ((u : List ℕ) × (t ≡ u ++ (10 ∷ [])) × (joinsNext u ≡ false))
+
+-- one or more texts, each but the last with an end of this kind
+abbrev pub Each : (List ℕ → Type 0) → List (List ℕ) → Type 0
+Each End [] = ⊥
+Each End (t ∷ []) = Unit {0}
+Each End (t ∷ u ∷ ts) = End t × Each End (u ∷ ts)
+
+-- texts that may follow each other: each but the last empty or ending in a newline. Where they are accepted, that newline joins nothing
 abbrev pub Joinable : List (List ℕ) → Type 0
-Joinable [] = ⊥
-Joinable (t ∷ []) = Unit {0}
-Joinable (t ∷ u ∷ ts) = EndsLine t × Joinable (u ∷ ts)
+Joinable ts = Each EndsLine ts
+
+-- the pieces of a text that is cut only behind newlines that join nothing
+abbrev pub Cuttable : List (List ℕ) → Type 0
+Cuttable ps = Each EndsWhole ps
 
 -- a text and the room of the target that its run writes
 pub record Job : Type 0 where

@@ -1,4 +1,4 @@
--- Document 01, Numbers given back: reading a text, refused by 2, then by 10 to 18 line by line, then by 19.
+-- Document 01, Numbers given back: reading a text, refused by 2, then by 10 to 18 (and 20 of document 02, Item 10) line by line, then by 19.
 -- Assumes nothing.
 use Prim.Native.Nat.{ℕ, zero, suc}
 use mathlib.Core.Bool.{Bool, true, false}
@@ -9,12 +9,12 @@ use lib.ListN.{length}
 use Rattle.lists.specs.Lists.{pick}
 use Rattle.lists.specs.Bytes.{sameBytes}
 use Rattle.lists.specs.Checked.{Checked, refused, ok, _>>=_, _>>_, require, found, Placed, line, inPlace}
-use Rattle.lists.specs.Refusal.{Refusal, text-long, rule-extra, label-missing}
+use Rattle.lists.specs.Refusal.{Refusal, text-long, rule-extra, label-missing, line-open}
 use Rattle.lists.specs.Sizes.{mostText, mostRules}
-use Rattle.text.specs.Lines.{lines}
+use Rattle.text.specs.Lines.{isOpen, unjoined, lines}
 use Rattle.text.specs.Engine.{Reader, LineRead, skip, fault, rule}
 
--- the rules of lines that were read, with k rules still allowed: 10 to 18 at the first line that has one
+-- the rules of lines that were read, with k rules still allowed: 20, or 10 to 18, at the first line that has one
 unfoldable pub collect : {Rule : Type 0} → ℕ → List (Placed (LineRead Rule)) → Checked (Placed Refusal) (List (Placed Rule))
 collect k [] = ok []
 collect k (line n skip ∷ ls) = collect k ls
@@ -52,9 +52,17 @@ module _ (R : Reader) where
   settle [] = ok 0
   settle (line n r ∷ ps) = resolved n (goto r) ps >> settle ps
 
+  abbrev pub lentBy : Bool → List ℕ → LineRead Rule
+  lentBy true l = fault line-open
+  lentBy false l = readLine (unjoined l)
+
+  -- document 02, Item 10: a line as lent has a fault if its join is open, whatever it holds; else its joined bytes are read
+  unfoldable pub readLent : List ℕ → LineRead Rule
+  readLent l = lentBy (isOpen l) l
+
   -- each line of a text, as it is read
   abbrev pub reads : List ℕ → List (Placed (LineRead Rule))
-  reads text = map (inPlace readLine) (lines text)
+  reads text = map (inPlace readLent) (lines text)
 
   unfoldable pub readText : List ℕ → Checked (Placed Refusal) (List (Placed Rule))
   readText text = do

@@ -37,7 +37,7 @@ module _ (E : Engine) where
   answer room (refused f) = refusal room f
   answer room (ok h) = acceptance room (h .visited) (h .tried) (encode (h .state))
 
-  -- the checks in the table's order: 1; 2 and 10 to 19; 3; 4; then 30 and up as the rules run
+  -- the checks in the table's order: 1; 2 and 10 to 20; 3; 4; then 30 and up as the rules run
   unfoldable pub runChecked : List ℕ → List ℕ → List ℕ → ℕ → Ran State
   runChecked text dev out room = do
     require (leb fullestOutcome room) (line 0 target-short)
