@@ -2,10 +2,10 @@
 -- Assumes nothing.
 use Prim.Native.Nat.{ℕ, _+_, _≤_, _<_}
 use mathlib.Core.Path.{_≡_, refl, sym, ap, _∙_}
-use mathlib.Core.Bool.{Bool, true, false, _||_}
+use mathlib.Core.Bool.{false, _||_}
 use mathlib.Core.List.{List}
 use native.Mathlib.Omega.{arith}
-use borrow.Author.Tests.{eq-eqb, ne-eqb}
+use borrow.Author.Tests.{ne-eqb}
 use lib.Dec.{eqb}
 use lib.ListN.{length, getD}
 use Rattle.lists.specs.Bytes.{holds}
@@ -68,11 +68,6 @@ module _ (t : List ℕ) (at i : ℕ) (s : Scans t at i) where
         place = onward;
         nul = sym (byte-first ∙ rw (ne-eqb (getD t i 0) 0 z)) ∙ s .nul;
       }
-
-    pub scan-nul : getD t i 0 ≡ 0 → holds 0 (part t at (endOf t at)) ≡ true
-    scan-nul e =
-        let n : getD t i 0 ≡ 10 → ⊥ = λ q. omega arith in
-        sym (s .nul) ∙ byte-first n ∙ rw e
 
 -- whole groups of bytes above newline
 pub scan-groups : (t : List ℕ) (at i : ℕ) → at ≤ i → i ≤ length t → AboveFrom t at i → Scans t at i

@@ -1,1 +1,5 @@
 pub mod Ends
+pub mod Stages
+pub mod Walk
+pub mod Copy
+pub mod Held

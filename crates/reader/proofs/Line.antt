@@ -10,11 +10,13 @@ use lib.Dec.{leb}
 use lib.ListN.{length, getD, drop, drop-of-length-le}
 use Rattle.lists.specs.Bytes.{isBlank, holds}
 use Rattle.lists.specs.Runs.{spanAt}
-use Rattle.lists.specs.Refusal.{line-bad}
+use Rattle.lists.specs.Refusal.{line-bad, line-open}
 use Rattle.lists.proofs.Rest.{rest-at}
 use Rattle.lists.proofs.Tests.{and-false}
 use Rattle.text.specs.Engine as text
-use Rattle.rules.specs.Reading.{readUnblank, readLine, readPairs, ruleRead}
+use Rattle.text.specs.Lines.{isOpen, unjoined}
+use Rattle.text.specs.Reading.{readLent}
+use Rattle.rules.specs.Reading.{readUnblank, readLine, readPairs, ruleRead, reader}
 use Rattle.pairs.proofs.Reading.{unblank-at}
 use Rattle.rule_lines.specs.declared.Fill.{Fill}
 use Rattle.rule_lines.specs.Filling.{Room}
@@ -44,6 +46,19 @@ module _ (line : List ℕ) where
 
       pub line-rule : (getD line at 0 ≡ 35 → ⊥) → readLine line ≡ ruleRead (readPairs 32 false false (drop at line))
       line-rule n = rw (from-unblank, rest-at line at l, ne-eqb (getD line at 0) 35 n)
+
+-- ---- a line as lent
+
+module _ (l : List ℕ) where
+  pub lent-open : isOpen l ≡ true → readLent reader l ≡ text.fault line-open
+  unfolding readLent
+  lent-open h = rw h
+
+  pub lent-joined : isOpen l ≡ false → readLent reader l ≡ readLine (unjoined l)
+  unfolding readLent
+  lent-joined h = rw h
+
+-- ---- room
 
 -- room for more is room for less
 pub room-less : (m k : ℕ) (v r : List ℕ) (s : Fill) → k ≤ m → Room m v r s → Room k v r s

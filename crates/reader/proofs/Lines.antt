@@ -4,22 +4,21 @@ use Prim.Native.Nat.{ℕ, suc, _+_, _-_, _*_, _≤_, _<_}
 use mathlib.Core.Path.{_≡_, refl, sym, ap, _∙_}
 use mathlib.Core.Bool.{Bool, true, false}
 use mathlib.Core.List.{List, [], _∷_, _++_, map, append-assoc, append-nil}
-use native.Mathlib.Numerals.{add-one}
 use native.Mathlib.Omega.{arith}
 use borrow.Author.Tests.{ltb-true, ltb-false}
 use lib.Dec.{ltb}
 use lib.ListN.{length, getD}
 use Rattle.lists.specs.Checked.{Checked, refused, ok, _>>=_, Placed, line, inPlace}
 use Rattle.lists.specs.Refusal.{Refusal, rule-extra}
-use Rattle.lists.specs.Runs.{spanAt}
 use Rattle.lists.specs.Sizes.{mostRules}
-use Rattle.scan.specs.Ends.{isNot}
+use Rattle.text.specs.Lines.{newlines}
 use Rattle.text.specs.Engine as text
-use Rattle.text.specs.Reading.{collect}
+use Rattle.text.specs.Reading.{readLent, collect}
 use Rattle.text.proofs.Places.{linesAt, lines-start, lines-step, lines-end}
 use Rattle.rules.specs.Pair.{Rule}
-use Rattle.rules.specs.Reading.{readLine}
+use Rattle.rules.specs.Reading.{reader}
 use Rattle.pairs.specs.Answers.{part}
+use Rattle.lines.specs.Ends.{endFrom}
 use Rattle.table.specs.Table.{ruleAt, rulesFrom, Rows}
 use Rattle.table.specs.Rules.{RuleIn}
 use Rattle.rule_lines.specs.declared.Fill.{Fill}
@@ -58,20 +57,25 @@ behind-rule : (rs : List (Placed Rule)) (p : Placed Rule) (c : Checked (Placed R
 behind-rule rs p (refused f) = refl
 behind-rule rs p (ok qs) = ap ok (sym (append-assoc rs (p ∷ []) qs))
 
-module _ (x v r t l : List ℕ) (at end n : ℕ) (c : Counts) (u : UpTo x v r t l at n c) (h : at ≤ length x) (e : end ≡ spanAt (isNot 10) x at) where
+module _ (x v r t l : List ℕ) (at end n : ℕ) (c : Counts) (u : UpTo x v r t l at n c) (h : at ≤ length x) (e : end ≡ endFrom x at) where
   abbrev here : text.LineRead Rule
-  here = readLine (part x at end)
+  here = readLent reader (part x at end)
+
+  abbrev following : ℕ
+  following = n + newlines (part x at end) + 1
 
   abbrev after : List (Placed (text.LineRead Rule))
-  after = readsAt x (end + 1) (n + 1)
+  after = readsAt x (end + 1) following
 
   first : readsAt x at n ≡ line n here ∷ after
-  first = rw (add-one n) (ap (λ (ls : List (Placed (List ℕ))). map (inPlace readLine) ls) (lines-step x at end n h e))
+  first =
+      let q : n + newlines (part x at end) + 1 ≡ suc (newlines (part x at end) + n) = omega arith in
+      rw q (ap (λ (ls : List (Placed (List ℕ))). map (inPlace (readLent reader)) ls) (lines-step x at end n h e))
 
   whole : collected x ≡ (collect (mostRules - c .rules) (line n here ∷ after) >>= λ (qs : List (Placed Rule)). ok (rulesFrom v r t 0 (c .rules) ++ qs))
   whole = rw first at (u .whole)
 
-  pub upto-skip : here ≡ text.skip → UpTo x v r t l (end + 1) (n + 1) c
+  pub upto-skip : here ≡ text.skip → UpTo x v r t l (end + 1) following c
   unfolding collect
   upto-skip y = record { few = u .few; rules-room = u .rules-room; labels-room = u .labels-room; rows = u .rows; rules = u .rules; whole = whole ∙ rw y }
 
@@ -91,7 +95,7 @@ module _ (x v r t l : List ℕ) (at end n : ℕ) (c : Counts) (u : UpTo x v r t 
         ∙ (λ i. rules-kept v r v′ r′ (c .rows) (c .used) (u .rows) (g .kept) t l t′ l′ (c .rules) (put .four .before) (put .before) (u .rules) i
         ++ (rule-new v′ r′ t l t′ l′ (c .rules) n (c .rows) s put (g .held) i ∷ []))
 
-    pub upto-rule : UpTo x v′ r′ t′ l′ (end + 1) (n + 1) (record { rules = c .rules + 1; rows = s .rows; used = s .used })
+    pub upto-rule : UpTo x v′ r′ t′ l′ (end + 1) following (record { rules = c .rules + 1; rows = s .rows; used = s .used })
     unfolding collect
     upto-rule =
         let z : mostRules - c .rules ≡ suc (mostRules - (c .rules + 1)) = omega arith in

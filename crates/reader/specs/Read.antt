@@ -6,9 +6,9 @@ use mathlib.Core.List.{List, _++_, map}
 use lib.ListN.{length, getD}
 use Rattle.lists.specs.Checked.{Checked, refused, ok, _>>=_, Placed, line, inPlace}
 use Rattle.lists.specs.Refusal.{Refusal}
-use Rattle.lists.specs.Sizes.{mostRules}
+use Rattle.lists.specs.Sizes.{mostRules, mostText}
 use Rattle.text.specs.Engine as text
-use Rattle.text.specs.Reading.{collect, reads}
+use Rattle.text.specs.Reading.{readLent, collect, reads}
 use Rattle.text.proofs.Places.{linesAt}
 use Rattle.rules.specs.Pair.{Rule}
 use Rattle.refusals.specs.Refusals.{refusalOf}
@@ -46,7 +46,7 @@ collected t = collect mostRules (reads reader t)
 
 -- the lines from a place on, numbered from n, as they are read
 abbrev pub readsAt : List ℕ → ℕ → ℕ → List (Placed (text.LineRead Rule))
-readsAt t at n = map (inPlace readLine) (linesAt t at n)
+readsAt t at n = map (inPlace (readLent reader)) (linesAt t at n)
 
 -- ---- the rules so far
 
@@ -75,10 +75,20 @@ pub record RulePut (i number from : ℕ) (s : Fill) (t l t′ l′ : List ℕ) :
   pub before : (k : ℕ) → k < i → getD l′ k 0 ≡ getD l k 0
   pub size : length l′ ≡ length l
 
+-- before line number is read, at a place
+pub record Reads (x : List ℕ) (at number : ℕ) (bs v r t l : List ℕ) (c : Counts) : Type 0 where
+  pub short : length x ≤ mostText
+  pub starts : at ≤ length x
+  pub number-at : number ≤ at + 1
+  pub copy-room : length bs ≡ 1024
+  pub upto : UpTo x v r t l at number c
+  pub fits : Fits (length x + 1 - at) v r c
+
 -- line number, at a place
 abbrev pub TakenIs : List ℕ → ℕ → ℕ → List ℕ → List ℕ → List ℕ → List ℕ → Taken → Type 0
 TakenIs x at number v r t l (taken.Refused f) = collected x ≡ refused (line number (refusalOf f))
-TakenIs x at number v r t l (taken.Next next c) = (at < next) × (next ≤ length x + 1) × UpTo x v r t l next (number + 1) c × Fits (length x + 1 - next) v r c
+TakenIs x at number v r t l (taken.Next next n c) =
+    (at < next) × (next ≤ length x + 1) × (n ≤ next + 1) × UpTo x v r t l next n c × Fits (length x + 1 - next) v r c
 
 abbrev pub LinesAre : List ℕ → List ℕ → List ℕ → List ℕ → List ℕ → LinesRead → Type 0
 LinesAre x v r t l (all.Refused f n) = (n < 65536) × (collected x ≡ refused (line n (refusalOf f)))

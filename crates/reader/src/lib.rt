@@ -1,17 +1,18 @@
-// A rules text, read into a table: 2, then 10 to 18 line by line, then 19.
+// A rules text, read into a table: 2, then 20 and 10 to 18 line by line, then 19.
 ghost use mathlib.Core.Path.{_≡_};
 ghost use mathlib.Core.Bool.{false};
 ghost use Prim.Native.Nat.{ℕ, _+_, _-_, _*_, _≤_, _<_};
 ghost use lib.ListN.{length};
 ghost use Rattle.lists.specs.Bytes.{holds};
 ghost use Rattle.lists.specs.Sizes.{mostRules, mostText};
-ghost use Rattle.lines.specs.Ends.{CleanLine};
+ghost use Rattle.lines.specs.Ends.{Found};
 ghost use Rattle.table.specs.Table.{Rows};
 ghost use Rattle.rule_lines.specs.Filling.{Room};
 ghost use Rattle.reader.specs.Texts.{TextIs};
-ghost use Rattle.reader.specs.Read.{start, LineIs, UpTo, Fits, RulePut, TakenIs, LinesAre, Lends};
+ghost use Rattle.reader.specs.Read.{start, LineIs, UpTo, Fits, RulePut, Reads, TakenIs, LinesAre, Lends};
 use jumps::Settled;
-use lines::LineEnd;
+use lines::Line;
+use lines::LineFound;
 use refusals::Refusal;
 use rule_lines::Fill;
 use rule_lines::PairsRead;
@@ -63,15 +64,16 @@ fn put_rule(rules: &mut [u16], labels: &mut [u16], i: usize, number: usize, from
 
 pub enum Taken {
     Refused(Refusal),
-    // the place of the next line
-    Next(usize, Counts),
+    // the place and the number of the next line
+    Next(usize, usize, Counts),
 }
 
-// Reads the line from a place to another into the table, behind those before it.
-fn take_clean(
-    text: &[u8],
+// Reads a line into the table, behind those before it.
+fn take_held<'a>(
+    text: &'a [u8],
+    copy: &'a [u8],
     at: usize,
-    end: usize,
+    line: Line,
     number: usize,
     values: &mut [u8],
     rows: &mut [u16],
@@ -79,13 +81,21 @@ fn take_clean(
     labels: &mut [u16],
     counts: Counts,
 ) -> Taken
-    requires { ⌜ (length (now text) ≤ mostText) × (at ≤ length (now text)) × CleanLine (now text) at end × (number ≤ at + 1) × UpTo (now text) (now values) (now rows) (now rules) (now labels) at number counts × Fits (length (now text) + 1 - at) (now values) (now rows) counts ⌝ }
+    requires { ⌜ Reads (now text) at number (now copy) (now values) (now rows) (now rules) (now labels) counts × Found (now text) (now copy) at line ⌝ }
     ensures { λ r. ⌜ TakenIs (now (text .entry)) at number (now (values .exit)) (now (rows .exit)) (now (rules .exit)) (now (labels .exit)) r ⌝ }
 {
     let count = counts.rules;
     let n = counts.rows;
-    match read_line(&text[at..end], values, rows, n, counts.used) {
-        LineRead::Skipped => Taken::Next(end + 1, counts),
+    let next = line.end + 1;
+    let following = number + line.newlines + 1;
+    match read_line(
+        lines::bytes_of(text, copy, at, line),
+        values,
+        rows,
+        n,
+        counts.used,
+    ) {
+        LineRead::Skipped => Taken::Next(next, following, counts),
         LineRead::Fault(f) => Taken::Refused(f),
         LineRead::Rule(fill) => {
             if 512 <= count {
@@ -97,28 +107,41 @@ fn take_clean(
                 rows: fill.rows,
                 used: fill.used,
             };
-            Taken::Next(end + 1, after)
+            Taken::Next(next, following, after)
         }
     }
 }
 
-// Reads the line at a place.
+// Reads the line at a place: 20, then 10 to 18.
 fn take_line(
     text: &[u8],
     at: usize,
     number: usize,
+    copy: &mut [u8],
     values: &mut [u8],
     rows: &mut [u16],
     rules: &mut [u16],
     labels: &mut [u16],
     counts: Counts,
 ) -> Taken
-    requires { ⌜ (length (now text) ≤ mostText) × (at ≤ length (now text)) × (number ≤ at + 1) × UpTo (now text) (now values) (now rows) (now rules) (now labels) at number counts × Fits (length (now text) + 1 - at) (now values) (now rows) counts ⌝ }
+    requires { ⌜ Reads (now text) at number (now copy) (now values) (now rows) (now rules) (now labels) counts ⌝ }
     ensures { λ r. ⌜ TakenIs (now (text .entry)) at number (now (values .exit)) (now (rows .exit)) (now (rules .exit)) (now (labels .exit)) r ⌝ }
 {
-    match lines::line_end(text, at) {
-        LineEnd::At(end) => take_clean(text, at, end, number, values, rows, rules, labels, counts),
-        LineEnd::Nul => Taken::Refused(Refusal::LineBad),
+    match lines::find_line(text, at, copy) {
+        LineFound::At(line) => take_held(
+            text,
+            copy,
+            at,
+            line,
+            number,
+            values,
+            rows,
+            rules,
+            labels,
+            counts,
+        ),
+        LineFound::Open(_, _) => Taken::Refused(Refusal::LineOpen),
+        LineFound::Bad(_, _) => Taken::Refused(Refusal::LineBad),
     }
 }
 
@@ -140,19 +163,30 @@ pub fn read_lines(
 {
     let mut at: usize = 0;
     let mut number: usize = 1;
+    let mut copy = [0u8; 1024];
     let mut counts = Counts {
         rules: 0,
         rows: 0,
         used: 0,
     };
     while at <= text.len() {
-        match take_line(text, at, number, values, rows, rules, labels, counts) {
+        match take_line(
+            text,
+            at,
+            number,
+            &mut copy,
+            values,
+            rows,
+            rules,
+            labels,
+            counts,
+        ) {
             Taken::Refused(f) => {
                 return LinesRead::Refused(f, number);
             }
-            Taken::Next(next, after) => {
+            Taken::Next(next, following, after) => {
                 at = next;
-                number += 1;
+                number = following;
                 counts = after;
             }
         }

@@ -1,78 +1,67 @@
 -- `reader::take_line` meets its contract.
 -- Assumes nothing.
-use mathlib.Core.Path.{_≡_, refl, sym, ap, _∙_}
-use native.Mathlib.Omega.{arith}
-use Rattle.lists.specs.Refusal.{line-bad}
-use Rattle.lines.specs.Ends.{CleanLine, EndsAt}
-use Rattle.lines.specs.declared.LineEnd.the-variants as end′
-use Rattle.reader.proofs.Line.{nul-fault}
-use Rattle.reader.proofs.Lines.{upto-fault}
+use mathlib.Core.Path.{_≡_}
 use borrow.Author.Needs.{needs}
+use Rattle.lines.specs.declared.LineFound.{LineFound}
+use Rattle.lines.specs.declared.LineFound.the-variants as found
+use Rattle.lines.specs.Ends.{FoundIs}
+use Rattle.reader.specs.Read.{Reads}
+use Rattle.reader.proofs.Places.{reads-with, taken-open, taken-bad}
 use Rattle.reader.proofs.take_line.Statement.{statement}
 use Rattle.reader.proofs.take_line.Tie as tie
-use Rattle.reader.proofs.take_line.Reads as reads
-use Rattle.reader.proofs.take_line.Lts as lts
-use Rattle.lines.proofs.line_end.Reads as line-end-reads
-use Rattle.reader.proofs.take_clean.Reads as take-clean-reads
 
--- src/lib.rt:124:11
-line-end-requires : tie.Need-line-end-requires
-line-end-requires c κs = search needs
+found-is : (w : tie.After-find-line) (o : LineFound) → w .find-line .result ≡ o
+    → let a = w .before .before .before .before .before .before .before .before .args in
+    FoundIs (a .text .now) (w .find-line .last .1 .1 .0) (a .at) o
+found-is w o e = rw (← e) (w .find-line .ensures)
 
--- src/lib.rt:125:21
-enum-known-end : tie.Need-enum-known-end
-enum-known-end c = search needs
+reads : (w : tie.After-find-line)
+    → let a = w .before .before .before .before .before .before .before .before .args in
+    Reads (a .text .now) (a .at) (a .number) (w .find-line .last .1 .1 .0) (a .values .now) (a .rows .now) (a .rules .now) (a .labels .now) (a .counts)
+reads w =
+    let entry = w .before .before .before .before .before .before .before .before in
+    let a = entry .args in
+    reads-with (a .text .now) (a .copy .now) (w .find-line .last .1 .1 .0) (a .at) (a .number) (a .values .now) (a .rows .now) (a .rules .now) (a .labels .now) (a .counts) (entry .pre)
+    (w .find-line .kept .1 .1 .0)
 
--- src/lib.rt:125:29
-take-clean-requires : tie.Need-take-clean-requires
-take-clean-requires c κs =
-    let s = c .before .before .before .before .before .before .before .before .before .before .before .before .before in
-    let e : EndsAt (s .args .text .now) (s .args .at) (end′.At (c .before .before .before .before .before .end .given .0 .0)) = rw (c .before .before .before .before .before .end .given .1) at (c .before .before .before .before .before .before .before .line-end .ensures) in
-    (s .pre .0, s .pre .1, e, s .pre .2, s .pre .3, s .pre .4)
+take-held-requires : tie.Need-take-held-requires
+take-held-requires c κs =
+    let find-line = c .before .before .before .before .before .before .before .before .before .before in
+    let line = c .before .before .before .before .before .before .line .given in
+    (reads find-line, found-is find-line (found.At (line .0 .0)) (line .1))
 
--- src/lib.rt:126:40
-enum-told : tie.Need-enum-told
-enum-told c = search needs
-
--- src/lib.rt:111:1
-same-length : tie.Need-same-length
-same-length c = search needs
-
--- src/lib.rt:111:1
-same-length-2 : tie.Need-same-length-2
-same-length-2 c = search needs
-
--- src/lib.rt:111:1
-same-length-3 : tie.Need-same-length-3
-same-length-3 c = search needs
-
--- src/lib.rt:111:1
-same-length-4 : tie.Need-same-length-4
-same-length-4 c = search needs
-
--- src/lib.rt:111:1
-returns : tie.Need-returns
-returns c = search needs
-
--- src/lib.rt:111:1
 returns-2 : tie.Need-returns-2
 returns-2 c =
-    let s = c .before .before .before .before .before .before .before .before in
-    let a = s .args in
-    let e : EndsAt (a .text .now) (a .at) end′.Nul = rw (c .enum-told .given .1) at (c .before .before .line-end .ensures) in
-    upto-fault (a .text .now) (a .values .now) (a .rows .now) (a .rules .now) (a .labels .now) (a .at) _ (a .number) (a .counts) (s .pre .3) (s .pre .1) refl line-bad (nul-fault _ e)
+    let a = c .before .before .before .before .before .before .before .before .before .before .before .before .args in
+    let find-line = c .before .before .before .before in
+    let told = c .enum-told .given in
+    taken-open (a .text .now) _ (a .at) (a .number) (a .values .now) (a .rows .now) (a .rules .now) (a .labels .now) (a .counts) (reads find-line) _ _
+    (found-is find-line (found.Open (told .0 .0) (told .0 .1 .0)) (told .1))
+
+returns-3 : tie.Need-returns-3
+returns-3 c =
+    let a = c .before .before .before .before .before .before .before .before .before .before .before .before .args in
+    let find-line = c .before .before .before .before in
+    let told = c .enum-told2 .given in
+    taken-bad (a .text .now) _ (a .at) (a .number) (a .values .now) (a .rows .now) (a .rules .now) (a .labels .now) (a .counts) (reads find-line) _ _
+    (found-is find-line (found.Bad (told .0 .0) (told .0 .1 .0)) (told .1))
 
 pub take-line-spec : {M : Type 1} → statement M
 take-line-spec =
     tie.close
     (tie.spec
-    line-end-requires
-    enum-known-end
-    take-clean-requires
-    enum-told
-    same-length
-    same-length-2
-    same-length-3
-    same-length-4
-    returns
-    returns-2)
+    (λ c κs. search needs)
+    (λ c. search needs)
+    take-held-requires
+    (λ c. search needs)
+    (λ c. search needs)
+    (λ c. search needs)
+    (λ c. search needs)
+    (λ c. search needs)
+    (λ c. search needs)
+    (λ c. search needs)
+    (λ c. search needs)
+    (λ c. search needs)
+    returns-2
+    (λ c. search needs)
+    returns-3)
