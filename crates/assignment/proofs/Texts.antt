@@ -2,8 +2,9 @@
 -- Assumes nothing.
 use Prim.Native.Nat.{ℕ, zero, suc}
 use mathlib.Core.Path.{_≡_, refl}
-use mathlib.Core.Bool.{true}
+use mathlib.Core.Bool.{Bool, true, false}
 use mathlib.Core.List.{List, [], _∷_, map}
+use native.Mathlib.Omega.{arith}
 use lib.Dec.{leb}
 use lib.ListN.{length}
 use Rattle.lists.specs.Checked.{Checked, ok, Holds, require, Placed, line, inPlace}
@@ -11,8 +12,8 @@ use Rattle.lists.specs.Refusal.{text-long}
 use Rattle.lists.specs.Sizes.{mostText, mostRules}
 use Rattle.lists.proofs.Checked.{holds-bind, holds-seq, holds-at, holds-require}
 use Rattle.text.specs.Engine as text
-use Rattle.text.specs.Lines.{lines}
-use Rattle.text.specs.Reading.{collect, settle, reads, readText}
+use Rattle.text.specs.Lines.{isOpen, unjoined, lines}
+use Rattle.text.specs.Reading.{collect, settle, lentBy, readLent, reads, readText}
 use Rattle.rules.specs.Pair.{Rule}
 use Rattle.rules.specs.Reading.{unblank, readLine, reader}
 use Rattle.rules.proofs.Pairs.{line-pairs}
@@ -24,17 +25,29 @@ abbrev pub AllSound : List (Placed Rule) → Type 0
 AllSound [] = Unit {0}
 AllSound (line n r ∷ rs) = Assignables r × AllSound rs
 
-collect-sound : (k : ℕ) (ls : List (Placed (List ℕ))) → Holds AllSound (collect k (map (inPlace readLine) ls))
+lent-rule : (l : List ℕ) (r : Rule) → readLent reader l ≡ text.rule r → readLine (unjoined l) ≡ text.rule r
+unfolding readLent
+lent-rule l r e = at (isOpen l) e
+  where
+    at : (t : Bool) → lentBy reader t l ≡ text.rule r → readLine (unjoined l) ≡ text.rule r
+    at true q = let z : _≡_ {A = ℕ} 0 1 = cc in absurd (omega arith)
+    at false q = q
+
+abbrev readAs : List (Placed (List ℕ)) → List (Placed (text.LineRead Rule))
+readAs ls = map (inPlace (readLent reader)) ls
+
+collect-sound : (k : ℕ) (ls : List (Placed (List ℕ))) → Holds AllSound (collect k (readAs ls))
 unfolding collect
 collect-sound k [] = tt
-collect-sound k (line n l ∷ ls) = go (λ j. collect-sound j ls) k (readLine l) refl
+collect-sound k (line n l ∷ ls) = go (λ j. collect-sound j ls) k (readLent reader l) refl
   where
-    go : ((j : ℕ) → Holds AllSound (collect j (map (inPlace readLine) ls))) → (k : ℕ) (x : text.LineRead Rule) → readLine l ≡ x → Holds AllSound (collect k (line n x ∷ map (inPlace readLine) ls))
+    go : ((j : ℕ) → Holds AllSound (collect j (readAs ls))) → (k : ℕ) (x : text.LineRead Rule) → readLent reader l ≡ x → Holds AllSound (collect k (line n x ∷ readAs ls))
     go b k text.skip e = b k
     go b k (text.fault f) e = tt
     go b zero (text.rule r) e = tt
     go b (suc k) (text.rule r) e =
-        holds-bind AllSound AllSound (collect k (map (inPlace readLine) ls)) _ (b k) (λ rs h. (assignables (unblank l) r (line-pairs l r e) (rule-sound l r e), h))
+        let q = lent-rule l r e in
+        holds-bind AllSound AllSound (collect k (readAs ls)) _ (b k) (λ rs h. (assignables (unblank (unjoined l)) r (line-pairs (unjoined l) r q) (rule-sound (unjoined l) r q), h))
 
 pub text-sound : (x : List ℕ) (rs : List (Placed Rule)) → readText reader x ≡ ok rs → AllSound rs
 unfolding readText
