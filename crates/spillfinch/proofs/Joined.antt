@@ -15,7 +15,7 @@ use Rattle.text.specs.Lines.{newlines}
 use Rattle.text.specs.Reading.{readText}
 use Rattle.text.specs.Run.{Answer}
 use Rattle.text.specs.Joined as joined
-use Rattle.text.specs.Joined.{join, Joinable, Accepted, Given, Job, texts, given, onward, runAll, cuts, NoCrossing, jumps}
+use Rattle.text.specs.Joined.{join, Cuttable, Accepted, Given, Job, texts, given, onward, runAll, cuts, NoCrossing, jumps}
 use Rattle.text.specs.Demand as text
 use Rattle.text.proofs.Runs.{refusal-number}
 use Rattle.rules.specs.Pair.{Rule}
@@ -126,13 +126,13 @@ join-run ts f dev out s cs i c e r =
     (jobs-roomy dev out ts cs i) (length (c .target)) (r .room)
     ∙ calls-together dev 0 0 0 out ts cs i
 
-cut-run : (t : List ℕ) (rs : List (Placed Rule)) → readText reader t ≡ ok rs → (ps : List (List ℕ)) → Joinable ps → join ps ≡ t
+cut-run : (t : List ℕ) (rs : List (Placed Rule)) → readText reader t ≡ ok rs → (ps : List (List ℕ)) → Cuttable ps → join ps ≡ t
     → NoCrossing (cuts 0 ps) (jumps engine rs) → (dev out : List ℕ) → Sound dev out → (cs : List Call) → InTurn dev out ps cs
     → (c : Call) → c .text ≡ t → Ran dev out c → back c ≡ together 0 0 0 out cs
 cut-run t rs g ps j p k dev out s cs i c e r =
     let q : texts (jobsOf ps cs) ≡ ps = jobs-texts ps cs in
     call-back dev out c t e r
-    ∙ engine-demand3 .cut-run t rs g (jobsOf ps cs) (subst Joinable (sym q) j) (ap join q ∙ p)
+    ∙ engine-demand3 .cut-run t rs g (jobsOf ps cs) (subst Cuttable (sym q) j) (ap join q ∙ p)
     (subst (λ (xs : List (List ℕ)). NoCrossing (cuts 0 xs) (jumps engine rs)) (sym q) k) dev out (s .bytes) (s .read) (s .held)
     (jobs-roomy dev out ps cs i) (length (c .target)) (r .room)
     ∙ calls-together dev 0 0 0 out ps cs i

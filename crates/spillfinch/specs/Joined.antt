@@ -12,7 +12,7 @@ use Rattle.lists.specs.Checked.{ok, Placed}
 use Rattle.lists.specs.Sizes.{mostText, mostRules, fullestOutcome}
 use Rattle.text.specs.Lines.{newlines}
 use Rattle.text.specs.Reading.{ruleCount, reads, readText}
-use Rattle.text.specs.Joined.{join, Joinable, Given, onward, cuts, NoCrossing, jumps}
+use Rattle.text.specs.Joined.{join, Joinable, Cuttable, Given, onward, cuts, NoCrossing, jumps}
 use Rattle.rules.specs.Pair.{Rule}
 use Rattle.rules.specs.Reading.{reader}
 use Rattle.device.specs.Device as D
@@ -113,11 +113,12 @@ pub record Demand3 : Type 0 where
   -- one call for the join gives what the calls for its texts one after another give together
   pub join-run : (ts : List (List ℕ)) → Fit ts → (dev out : List ℕ) → Sound dev out → (cs : List Call) → InTurn dev out ts cs
       → (c : Call) → c .text ≡ join ts → Ran dev out c → back c ≡ together 0 0 0 out cs
-  -- the check accepts all pieces of an accepted text if and only if no jump, taken or not, crosses a cut
+  -- the check accepts all pieces of an accepted text, cut only behind newlines that join nothing, if and only if no jump, taken or not,
+  -- crosses a cut
   pub cut-checked : (t : List ℕ) (rs : List (Placed Rule)) → readText reader t ≡ ok rs
-      → (ps : List (List ℕ)) → Joinable ps → join ps ≡ t → All Checked ps ↔ NoCrossing (cuts 0 ps) (jumps engine rs)
+      → (ps : List (List ℕ)) → Cuttable ps → join ps ≡ t → All Checked ps ↔ NoCrossing (cuts 0 ps) (jumps engine rs)
   -- and then the calls for its pieces give together what one call for the text gives
   pub cut-run : (t : List ℕ) (rs : List (Placed Rule)) → readText reader t ≡ ok rs
-      → (ps : List (List ℕ)) → Joinable ps → join ps ≡ t → NoCrossing (cuts 0 ps) (jumps engine rs)
+      → (ps : List (List ℕ)) → Cuttable ps → join ps ≡ t → NoCrossing (cuts 0 ps) (jumps engine rs)
       → (dev out : List ℕ) → Sound dev out → (cs : List Call) → InTurn dev out ps cs
       → (c : Call) → c .text ≡ t → Ran dev out c → back c ≡ together 0 0 0 out cs
