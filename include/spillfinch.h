@@ -36,7 +36,7 @@ extern "C" {
 #define SPILLFINCH_TEXT_MOST 32768
 #define SPILLFINCH_DEVICE_MOST 16384
 
-/* Limits of a rules text: bytes of a line, bytes of a value after unescaping, pairs of a line, rules. */
+/* Limits of a rules text: bytes of a line without its joins, bytes of a value after unescaping, pairs of a line, rules. */
 #define SPILLFINCH_LINE_MOST 1024
 #define SPILLFINCH_VALUE_MOST 256
 #define SPILLFINCH_PAIRS_MOST 32
@@ -78,6 +78,7 @@ enum spillfinch_refusal {
     SPILLFINCH_COMMA_MISSING = 17,     /* neither a comma nor the line's end behind a pair */
     SPILLFINCH_RULE_EXTRA = 18,        /* a rule too many */
     SPILLFINCH_LABEL_MISSING = 19,     /* a GOTO without a later LABEL */
+    SPILLFINCH_LINE_OPEN = 20,         /* a backslash that joins the next line, at the end of the text; before the line's 10 */
     SPILLFINCH_SUBSTITUTION_LONG = 30, /* a substituted text that is too long */
     SPILLFINCH_LINK_BAD = 31,          /* a link that is too long, absolute, or has an empty, `.` or `..` component */
     SPILLFINCH_LIST_FULL = 32,         /* one more link, tag, program or property than there is room for */
@@ -86,14 +87,18 @@ enum spillfinch_refusal {
     SPILLFINCH_MODE_SHARED = 36        /* a mode that lets others write: it has the bit 0002 */
 };
 
-/* Reads a rules text without a device: whether it is accepted, else the number and the line of its first refusal (2, 10 to 19). */
+/* Reads a rules text without a device: whether it is accepted, else the number and the line of its first refusal (2, 10 to 20).
+ *
+ * A newline directly behind a backslash joins the next line to this one, wherever it stands, and both bytes go: what is read, and the
+ * limit of a line, are about the joined bytes. A line that is blank or a comment by its first physical line joins nothing. Lines are
+ * counted as they stand in the text; a joined line has the number of its first one. */
 void spillfinch_check(const uint8_t *text, size_t text_length, uint32_t answer[SPILLFINCH_ANSWER_LENGTH]);
 
 /* Writes the outcome record that a device starts with: its properties, and nothing else set. Refusals: 1, 3. */
 void spillfinch_fresh(const uint8_t *device, size_t device_length, uint8_t *target, size_t target_length,
                       uint32_t answer[SPILLFINCH_ANSWER_LENGTH]);
 
-/* Runs a rules text for a device: starts from an outcome record and writes the one that the rules leave. Refusals: 1, 2, 10 to 19, 3, 4, and
+/* Runs a rules text for a device: starts from an outcome record and writes the one that the rules leave. Refusals: 1, 2, 10 to 20, 3, 4, and
  * 30 to 34 and 36 with the line of the rule that was running. */
 void spillfinch_run(const uint8_t *text, size_t text_length, const uint8_t *device, size_t device_length, const uint8_t *outcome,
                     size_t outcome_length, uint8_t *target, size_t target_length, uint32_t answer[SPILLFINCH_ANSWER_LENGTH]);

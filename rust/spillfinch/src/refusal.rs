@@ -20,6 +20,7 @@ pub enum Refusal {
     CommaMissing = 17,
     RuleExtra = 18,
     LabelMissing = 19,
+    LineOpen = 20,
     SubstitutionLong = 30,
     LinkBad = 31,
     ListFull = 32,
@@ -31,7 +32,7 @@ pub enum Refusal {
 use Refusal::*;
 
 impl Refusal {
-    pub const ALL: [Refusal; 20] = [
+    pub const ALL: [Refusal; 21] = [
         TargetShort,
         TextLong,
         DeviceBad,
@@ -46,6 +47,7 @@ impl Refusal {
         CommaMissing,
         RuleExtra,
         LabelMissing,
+        LineOpen,
         SubstitutionLong,
         LinkBad,
         ListFull,
@@ -81,6 +83,7 @@ impl Refusal {
             CommaMissing => "neither a comma nor the end of the line",
             RuleExtra => "more than 512 rules",
             LabelMissing => "GOTO without a later LABEL",
+            LineOpen => "backslash at the end that no line follows",
             SubstitutionLong => "substituted text longer than 512 bytes",
             LinkBad => "faulty link name",
             ListFull => "no room for one more link, tag, program or property",

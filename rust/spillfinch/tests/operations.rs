@@ -53,5 +53,5 @@ fn says_why() {
     assert_eq!(refused.to_string(), "refused 19 line 4");
     assert_eq!(refused.refusal.to_string(), "GOTO without a later LABEL");
     assert_eq!(Refusal::of_number(19), Some(Refusal::LabelMissing));
-    assert_eq!(Refusal::of_number(20), None);
+    assert_eq!(Refusal::of_number(29), None);
 }
