@@ -54,6 +54,44 @@ five.rules:6: fault 19: GOTO without a later LABEL
         .is(1, expected, "");
 }
 
+/// A fault of a joined line has the number of its first physical line, and is shown where it stands.
+#[test]
+fn joined_lines() {
+    let folder = Folder::new("check_joined");
+    folder.file(
+        "a.rules",
+        "KERNEL==\"ttyUSB*\", \\\n    GRUOP=\"dialout\", \\\n    MODE=\"0660\"\n# c \\\nTAG+=\"a\",\\\n",
+    );
+    let expected = r#"a.rules:1: fault 11: unknown or missing key
+  --> a.rules:2:5
+  |
+2 |     GRUOP="dialout", \
+  |     ^^^^^ did you mean GROUP?
+
+a.rules:5: fault 20: backslash at the end that no line follows
+  --> a.rules:5:10
+  |
+5 | TAG+="a",\
+  |          ^ no line follows that it could join
+
+1 file: 2 faults, 0 warnings
+"#;
+    folder.run(&["check", "a.rules"]).is(1, expected, "");
+    let expected = r#"{
+  "files": 1,
+  "faults": 2,
+  "warnings": 0,
+  "remarks": [
+    {"path": "a.rules", "line": 1, "column": 5, "column_line": 2, "fault": 11, "text": "unknown or missing key", "hint": "did you mean GROUP?"},
+    {"path": "a.rules", "line": 5, "column": 10, "fault": 20, "text": "backslash at the end that no line follows", "hint": "no line follows that it could join"}
+  ]
+}
+"#;
+    folder
+        .run(&["check", "--format=json", "a.rules"])
+        .is(1, expected, "");
+}
+
 #[test]
 fn short_and_json() {
     let folder = Folder::new("check_formats");

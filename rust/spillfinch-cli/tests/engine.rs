@@ -6,13 +6,30 @@ use reference::generate::case;
 use spillfinch::{Refusal, Refused};
 use spillfinch_cli::check::{check, Subject};
 use spillfinch_cli::listing::{list, refused};
-use spillfinch_cli::syntax::{lines, quote, read_line, Key};
+use spillfinch_cli::syntax::{lines, quote, Key, Line};
 
 const CASES: u64 = 4_000;
 
-/// Of a line alone: the refusal that is about the line itself.
+/// A generated text, with joins at some places in every other one.
+fn text(seed: u64) -> Vec<u8> {
+    let mut text = case(seed).text;
+    if seed % 2 == 0 {
+        return text;
+    }
+    let mut place = seed as usize % 7;
+    while place <= text.len() {
+        text.splice(place..place, *b"\\\n");
+        place += 3 + place * 5 % 83;
+    }
+    if seed % 16 == 1 {
+        text.push(b'\\');
+    }
+    text
+}
+
+/// Of a line alone, with the newline behind it: the refusal that is about the line itself.
 fn of_engine(line: &[u8]) -> Option<Refusal> {
-    let Refused { refusal, .. } = spillfinch::check(line).err()?;
+    let Refused { refusal, .. } = spillfinch::check(&[line, b"\n"].concat()).err()?;
     (refusal != Refusal::LabelMissing).then_some(refusal)
 }
 
@@ -20,23 +37,27 @@ fn of_engine(line: &[u8]) -> Option<Refusal> {
 fn lines_are_read_as_the_engine_reads_them() {
     let mut faults = [0; 40];
     for seed in 0..CASES {
-        for (_, line) in lines(&case(seed).text) {
-            if line.len() > 32_768 {
+        for line in lines(&text(seed)) {
+            if line.lent.len() >= 32_768 {
                 continue;
             }
-            let read = read_line(line);
+            let read = line.read();
             let found = read.fault.as_ref().map(|fault| fault.refusal);
-            let shown = String::from_utf8_lossy(line);
-            assert_eq!(found, of_engine(line), "seed {seed}: {shown}");
+            let shown = String::from_utf8_lossy(line.lent);
+            assert_eq!(found, of_engine(line.lent), "seed {seed}: {shown}");
             if let Some(fault) = read.fault {
-                assert!(fault.span.end <= line.len(), "{shown}");
+                assert!(fault.span.end <= line.joined().len(), "{shown}");
                 assert!(!fault.span.is_empty(), "{shown}");
+                let place = line.place(Some(&fault.span));
+                assert!(place.span.end <= place.bytes.len(), "{shown}");
+                assert!(!place.span.is_empty(), "{shown}");
                 faults[fault.refusal.number() as usize] += 1;
             }
         }
     }
-    for (number, count) in faults.iter().enumerate().take(18).skip(10) {
-        assert!(*count > 20, "{number}: {count} faults");
+    for number in (10..18).chain([20]) {
+        let count = faults[number];
+        assert!(count > 20, "{number}: {count} faults");
     }
 }
 
@@ -44,7 +65,7 @@ fn lines_are_read_as_the_engine_reads_them() {
 #[test]
 fn every_fault_is_found() {
     for seed in 0..CASES {
-        let text = case(seed).text;
+        let text = text(seed);
         let checked = check(PathBuf::new(), text.clone(), &[]);
         let faults = checked
             .remarks
@@ -63,9 +84,11 @@ fn every_fault_is_found() {
             continue;
         }
         let is_faulty = |line: u32| faults.iter().any(|fault| fault.0 == line);
-        let kept: Vec<&[u8]> = lines(&text)
-            .map(|(number, line)| if is_faulty(number) { b"" } else { line })
-            .collect();
+        let kept = |line: &Line| match is_faulty(line.number) {
+            true => vec![b'\n'; line.newlines()],
+            false => line.lent.to_vec(),
+        };
+        let kept: Vec<Vec<u8>> = lines(&text).iter().map(kept).collect();
         assert_eq!(spillfinch::check(&kept.join(&b'\n')), Ok(()), "seed {seed}");
     }
 }

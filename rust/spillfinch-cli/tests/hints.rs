@@ -170,9 +170,15 @@ fn hints_of_every_fault() {
             "17 pairs are separated by a comma",
         ),
         (
-            "TAG+=\"a\" \\",
-            "17 a line is not continued by a backslash here",
+            "TAG+=\"a\" \\ \nTAG+=\"b\"",
+            "17 a backslash joins the next line only directly before the newline",
         ),
+        ("TAG+=\"a\" \\", "20 no line follows that it could join"),
+        (
+            "# c\\\nTAG+=\"a\"\\\n",
+            "20 no line follows that it could join",
+        ),
+        ("GOTO=\"a\"\\\n\n\\\n\\\nLABEL=\"b\"", "19 "),
         (
             "TAG+=\"a\"\r",
             "17 the line ends in a carriage return; lines end in a newline alone",

@@ -4,26 +4,29 @@
 use spillfinch::{Refusal, Refused};
 
 use super::{labels, Remark, Subject};
-use crate::syntax::{lines, read_line, Fault};
+use crate::syntax::{lines, Fault};
 
 /// A text without its faulty lines, and what they were refused for, by line.
 #[derive(Debug)]
 pub struct Struck {
     pub refused: Vec<Refused>,
-    /// The text with those lines empty; all of it where it is not about lines.
+    /// The text with those lines empty but for their newlines; all of it where it is not about
+    /// lines.
     pub kept: Vec<u8>,
 }
 
 pub fn strike(text: &[u8]) -> Struck {
-    let mut kept: Vec<&[u8]> = lines(text).map(|(_, line)| line).collect();
+    let lines = lines(text);
+    let mut kept: Vec<Vec<u8>> = lines.iter().map(|line| line.lent.to_vec()).collect();
     let mut refused = Vec::new();
     let mut left = text.to_vec();
     while let Err(found) = spillfinch::check(&left) {
         refused.push(found);
         match found.line {
             0 => left.clear(),
-            line => {
-                kept[line as usize - 1] = b"";
+            number => {
+                let at = lines.partition_point(|line| line.number < number);
+                kept[at] = vec![b'\n'; lines[at].newlines()];
                 left = kept.join(&b'\n');
             }
         }
@@ -37,13 +40,14 @@ pub fn strike(text: &[u8]) -> Struck {
 
 /// What is said of each refused line.
 pub fn remarks(text: &[u8], struck: &Struck) -> Vec<Remark> {
-    let all: Vec<&[u8]> = lines(text).map(|(_, line)| line).collect();
+    let all = lines(text);
+    let line_of = |number: u32| all.partition_point(|line| line.number < number);
     let remark = |refused: &Refused| {
         let Refused { refusal, line } = *refused;
         let fault = match (refusal, line) {
             (_, 0) => None,
-            (Refusal::LabelMissing, _) => labels::fault(&all, line),
-            (_, line) => agreeing(read_line(all[line as usize - 1]).fault, refusal),
+            (Refusal::LabelMissing, _) => labels::fault(&all, line_of(line)),
+            (_, line) => agreeing(all[line_of(line)].read().fault, refusal),
         };
         let (span, hint) = match fault {
             Some(fault) => (Some(fault.span), fault.hint),

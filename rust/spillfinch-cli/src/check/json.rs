@@ -1,6 +1,6 @@
 //! Remarks as one JSON document.
 
-use super::{Checked, Counts, Remark, Subject};
+use super::{column, Checked, Counts, Remark, Subject};
 use crate::files::shown;
 
 /// All remarks of some files, with their counts.
@@ -29,8 +29,11 @@ fn object(file: &Checked, remark: &Remark) -> String {
         format!("\"path\": {}", string(&shown(&file.path))),
         format!("\"line\": {}", remark.line),
     ];
-    if let Some(column) = file.column(remark) {
-        members.push(format!("\"column\": {column}"));
+    if let (Some(place), true) = (file.place(remark), remark.span.is_some()) {
+        members.push(format!("\"column\": {}", column(&place)));
+        if place.number != remark.line {
+            members.push(format!("\"column_line\": {}", place.number));
+        }
     }
     members.push(match remark.subject {
         Subject::Fault(refusal) => format!("\"fault\": {}", refusal.number()),

@@ -3,12 +3,11 @@
 use recordings::escape::escape;
 use spillfinch::Refusal;
 
-use crate::syntax::{alike, read_line, Fault, Key, Pair};
+use crate::syntax::{alike, Fault, Key, Line, Pair};
 
 /// The place of the GOTO of a line, and where a label of its name or much like it stands.
-pub fn fault(lines: &[&[u8]], line: u32) -> Option<Fault> {
-    let place = line as usize - 1;
-    let own = read_line(lines[place]).pairs;
+pub fn fault(lines: &[Line], place: usize) -> Option<Fault> {
+    let own = lines[place].read().pairs;
     let goto = own.iter().find(|pair| pair.key == Key::Goto)?;
     let name = &goto.value.bytes;
     let labels = labels(lines);
@@ -16,7 +15,7 @@ pub fn fault(lines: &[&[u8]], line: u32) -> Option<Fault> {
         let mut found = labels
             .iter()
             .filter(|(at, label)| wanted(*at) && label == name);
-        found.next().map(|(at, _)| at + 1)
+        found.next().map(|(at, _)| lines[*at].number)
     };
     let shown = escape(name);
     let hint = if let Some(line) = of_name(&|at| at > place) {
@@ -44,9 +43,9 @@ pub fn fault(lines: &[&[u8]], line: u32) -> Option<Fault> {
 }
 
 /// All labels that can be read, each with the index of its line.
-fn labels(lines: &[&[u8]]) -> Vec<(usize, Vec<u8>)> {
-    let label = |(at, line): (usize, &&[u8])| {
-        let pairs = read_line(line).pairs;
+fn labels(lines: &[Line]) -> Vec<(usize, Vec<u8>)> {
+    let label = |(at, line): (usize, &Line)| {
+        let pairs = line.read().pairs;
         let label = pairs
             .into_iter()
             .find(|pair: &Pair| pair.key == Key::Label)?;

@@ -13,7 +13,7 @@ use std::path::PathBuf;
 
 use spillfinch::Refusal;
 
-use crate::syntax::{lines, rules, Span};
+use crate::syntax::{lines, rules, Place, Span};
 
 /// One thing that is said of a line.
 #[derive(Clone, Debug, PartialEq, Eq)]
@@ -74,18 +74,18 @@ pub fn check(path: PathBuf, text: Vec<u8>, allowed: &[u8]) -> Checked {
 }
 
 impl Checked {
-    fn line(&self, number: u32) -> &[u8] {
-        let mut lines = lines(&self.text);
-        let found = lines.find(|(at, _)| *at == number);
-        found.map_or(&[], |(_, line)| line)
+    /// Where a remark points; the whole physical line where it points at no part of it.
+    fn place(&self, remark: &Remark) -> Option<Place<'_>> {
+        let lines = lines(&self.text);
+        let line = lines.iter().find(|line| line.number == remark.line)?;
+        Some(line.place(remark.span.as_ref()))
     }
+}
 
-    /// Where in its line a remark points, in characters from 1.
-    fn column(&self, remark: &Remark) -> Option<usize> {
-        let span = remark.span.as_ref()?;
-        let before = &self.line(remark.line)[..span.start];
-        Some(String::from_utf8_lossy(before).chars().count() + 1)
-    }
+/// Where a place begins in its physical line, in characters from 1.
+fn column(place: &Place) -> usize {
+    let before = &place.bytes[..place.span.start];
+    String::from_utf8_lossy(before).chars().count() + 1
 }
 
 fn start(remark: &Remark) -> usize {

@@ -8,9 +8,9 @@ use codespan_reporting::files::{Error, Files};
 use codespan_reporting::term::termcolor::{Ansi, NoColor, WriteColor};
 use codespan_reporting::term::{self, Chars, Config};
 
-use super::{Checked, Remark};
+use super::{column, Checked, Remark};
 use crate::files::shown;
-use crate::syntax::Span;
+use crate::syntax::{Place, Span};
 
 /// A line of more bytes is shown in part.
 const SHOWN_MOST: usize = 160;
@@ -55,7 +55,7 @@ fn title(path: &Path, remark: &Remark) -> String {
     }
 }
 
-/// A line, or a part of it, as it is shown; the only line of its file that is drawn.
+/// A physical line, or a part of it, as it is shown; the only line of its file that is drawn.
 struct Excerpt<'a> {
     path: &'a str,
     line: u32,
@@ -68,8 +68,13 @@ struct Excerpt<'a> {
 
 impl<'a> Excerpt<'a> {
     fn new(path: &'a str, checked: &Checked, remark: &Remark) -> Excerpt<'a> {
-        let bytes = checked.line(remark.line);
-        let span = remark.span.clone().unwrap_or(0..bytes.len());
+        let place = checked.place(remark).unwrap_or_default();
+        let column = column(&place);
+        let Place {
+            number,
+            bytes,
+            span,
+        } = place;
         let window = window(bytes.len(), &span);
         let cut = |from: usize, to: usize| readable(&bytes[from..to]);
         let end = span.end.clamp(window.start, window.end);
@@ -87,10 +92,10 @@ impl<'a> Excerpt<'a> {
         }
         Excerpt {
             path,
-            line: remark.line,
+            line: number,
             shown,
             place,
-            column: checked.column(remark).unwrap_or(1),
+            column,
         }
     }
 

@@ -79,7 +79,9 @@ pub fn behind_pair(rest: &[u8]) -> Option<String> {
         [b'A'..=b'Z', ..] => "a comma is missing here",
         [b'#', ..] => "a comment stands on a line of its own",
         [b';', ..] => "pairs are separated by a comma",
-        [b'\\'] => "a line is not continued by a backslash here",
+        [b'\\', b' ' | b'\t', ..] => {
+            "a backslash joins the next line only directly before the newline"
+        }
         [b'\\', b'\r'] | [b'\r', ..] => {
             "the line ends in a carriage return; lines end in a newline alone"
         }

@@ -9,6 +9,7 @@ mod escape;
 mod hints;
 pub mod key;
 pub mod line;
+pub mod lines;
 pub mod names;
 pub mod pattern;
 pub mod quote;
@@ -19,9 +20,10 @@ use std::ops::Range;
 use spillfinch::Refusal;
 
 pub use key::{Key, Operator};
-pub use line::{read_line, Pair, Value};
+pub use line::{Pair, Value};
+pub use lines::{lines, Line, Place};
 
-/// A place in a line, in bytes.
+/// A place in a line without its joins, in bytes.
 pub type Span = Range<usize>;
 
 /// What is wrong with a line: the refusal, where, and what to do about it where that is sure.
@@ -44,17 +46,13 @@ fn is_blank(byte: &u8) -> bool {
     matches!(byte, b' ' | b'\t')
 }
 
-pub fn lines(text: &[u8]) -> impl Iterator<Item = (u32, &[u8])> {
-    (1..).zip(text.split(|&byte| byte == b'\n'))
-}
-
 /// The rules of a text; what is behind a fault of a line is not read.
 pub fn rules(text: &[u8]) -> Vec<Rule> {
-    let rule = |(line, bytes)| Rule {
-        line,
-        pairs: read_line(bytes).pairs,
+    let rule = |line: Line| Rule {
+        line: line.number,
+        pairs: line.read().pairs,
     };
-    let rules = lines(text).map(rule);
+    let rules = lines(text).into_iter().map(rule);
     rules.filter(|rule| !rule.pairs.is_empty()).collect()
 }
 
