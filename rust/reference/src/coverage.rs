@@ -11,6 +11,7 @@ use crate::engine::{
 };
 use crate::generate::Case;
 use crate::key::{Key, Operator};
+use crate::lines::lines;
 use crate::outcome::Outcome;
 use crate::rules::{self, Pair, Rule};
 use crate::template::{Piece, Template};
@@ -56,10 +57,11 @@ pub enum Fact {
     TriedNoneForAnotherKey,
     ValueHoldsNewline,
     ValueEndsInBackslash,
+    AcceptedTextJoinsLines,
 }
 
 impl Fact {
-    pub const ALL: [Fact; 18] = [
+    pub const ALL: [Fact; 19] = [
         Fact::AcceptedRunVisitsRules,
         Fact::AcceptedRunSkipsRules,
         Fact::AcceptedRunChangesRecord,
@@ -78,6 +80,7 @@ impl Fact {
         Fact::TriedNoneForAnotherKey,
         Fact::ValueHoldsNewline,
         Fact::ValueEndsInBackslash,
+        Fact::AcceptedTextJoinsLines,
     ];
 }
 
@@ -120,6 +123,10 @@ impl Coverage {
         let Ok(rules) = rules::read(&case.text) else {
             return;
         };
+        let joins_lines = lines(&case.text)
+            .iter()
+            .any(|line| case.text[line.span.clone()].contains(&b'\n'));
+        self.fact_if(joins_lines, Fact::AcceptedTextJoinsLines);
         let Some(device) = Device::decode(&case.device) else {
             return;
         };

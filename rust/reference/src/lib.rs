@@ -10,6 +10,7 @@ pub mod engine;
 pub mod generate;
 pub mod joined;
 pub mod key;
+pub mod lines;
 pub mod link;
 pub mod listing;
 pub mod operations;

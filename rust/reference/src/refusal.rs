@@ -18,6 +18,7 @@ pub enum Fault {
     Separator = 17,
     RuleCount = 18,
     Jump = 19,
+    OpenJoin = 20,
     Substituted = 30,
     Link = 31,
     Full = 32,
@@ -27,7 +28,7 @@ pub enum Fault {
 }
 
 impl Fault {
-    pub const ALL: [Fault; 20] = [
+    pub const ALL: [Fault; 21] = [
         Fault::Target,
         Fault::Text,
         Fault::DeviceRecord,
@@ -42,6 +43,7 @@ impl Fault {
         Fault::Separator,
         Fault::RuleCount,
         Fault::Jump,
+        Fault::OpenJoin,
         Fault::Substituted,
         Fault::Link,
         Fault::Full,

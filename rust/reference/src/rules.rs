@@ -3,11 +3,13 @@
 use crate::bytes::is_blank;
 use crate::content::{read_content, Assignment, Content, Match};
 use crate::key::{ArgumentRule, Key, KeyRow, Operator, KEYS};
+use crate::lines::{is_skipped, lines, Line};
 use crate::refusal::{Fault, Refusal};
 use crate::sizes;
 
 #[derive(Clone, Debug, PartialEq, Eq)]
 pub struct Rule {
+    /// The number of its first physical line.
     pub line: u32,
     pub pairs: Vec<Pair>,
     /// The index of the rule that its GOTO goes to.
@@ -59,35 +61,36 @@ pub fn read(text: &[u8]) -> Result<Vec<Rule>, Refusal> {
         return Err(Fault::Text.without_line());
     }
     let mut rules = Vec::new();
-    for (line, number) in text.split(|&byte| byte == b'\n').zip(1..) {
-        read_line(line, number, &mut rules).map_err(|fault| fault.at_line(number))?;
+    for line in lines(text) {
+        let at_line = |fault: Fault| fault.at_line(line.number);
+        let Some(pairs) = read_line(&line).map_err(at_line)? else {
+            continue;
+        };
+        if rules.len() == sizes::RULES {
+            return Err(at_line(Fault::RuleCount));
+        }
+        rules.push(Rule {
+            line: line.number,
+            pairs,
+            jump: None,
+        });
     }
     find_jumps(&mut rules)?;
     Ok(rules)
 }
 
-fn read_line(line: &[u8], number: u32, rules: &mut Vec<Rule>) -> Result<(), Fault> {
-    if line.len() > sizes::LINE || line.contains(&0) {
+/// The pairs of a line, or `None` if it is skipped.
+pub fn read_line(line: &Line) -> Result<Option<Vec<Pair>>, Fault> {
+    if line.is_open {
+        return Err(Fault::OpenJoin);
+    }
+    if line.bytes.len() > sizes::LINE || line.bytes.contains(&0) {
         return Err(Fault::Line);
     }
-    if is_skipped(line) {
-        return Ok(());
+    if is_skipped(&line.bytes) {
+        return Ok(None);
     }
-    let pairs = read_pairs(line)?;
-    if rules.len() == sizes::RULES {
-        return Err(Fault::RuleCount);
-    }
-    rules.push(Rule {
-        line: number,
-        pairs,
-        jump: None,
-    });
-    Ok(())
-}
-
-fn is_skipped(line: &[u8]) -> bool {
-    let first = line.iter().find(|&&byte| !is_blank(byte));
-    matches!(first, None | Some(b'#'))
+    read_pairs(&line.bytes).map(Some)
 }
 
 fn read_pairs(line: &[u8]) -> Result<Vec<Pair>, Fault> {

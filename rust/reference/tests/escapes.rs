@@ -104,7 +104,8 @@ fn where_the_value_ends() {
     assert_eq!(value(r#"e"\\""#), b"\\");
     assert_eq!(value(r#"e"a\\\"\\""#), b"a\\\"\\");
     assert_eq!(fault(r#"e"\""#), (14, 2));
-    assert_eq!(fault(r#"e"a\"#), (14, 2));
+    // Two backslashes before a newline leave one at the end of the line.
+    assert_eq!(fault("e\"a\\\\\n\n"), (14, 2));
     assert_eq!(fault(r#"e"a"#), (14, 2));
     // What follows a value is read as ever.
     assert_eq!(value("e\"\\\\\", TAG+=\"a\""), b"\\");

@@ -50,11 +50,15 @@ pub fn damage_text(rng: &mut Rng, text: &mut Vec<u8>) {
     for _ in 0..rng.between(1, 2) {
         let byte = rng.pick(MEANINGFUL);
         let at = rng.between(0, text.len());
-        match rng.below(3) {
-            0 if at < text.len() => text[at] = byte,
-            1 if at < text.len() => {
+        match rng.below(10) {
+            0..=2 if at < text.len() => text[at] = byte,
+            3..=5 if at < text.len() => {
                 text.remove(at);
             }
+            6 => {
+                text.splice(at..at, *b"\\\n");
+            }
+            7 => text.push(b'\\'),
             _ => text.insert(at, byte),
         }
     }

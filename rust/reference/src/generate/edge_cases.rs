@@ -53,6 +53,12 @@ pub fn of_line(line: impl AsRef<[u8]>, rng: &mut Rng) -> Case {
     of_text(text, rng)
 }
 
+/// As `of_line`, with no lines after it.
+pub fn of_last_line(line: impl AsRef<[u8]>, rng: &mut Rng) -> Case {
+    let text = [rng.pick(LINES_BEFORE), line.as_ref()].concat();
+    of_text(text, rng)
+}
+
 /// As `of_line`, with a device that has no properties.
 pub fn of_bare_line(line: Vec<u8>, rng: &mut Rng) -> Case {
     let text = with_lines_around(&line, rng);
@@ -61,10 +67,11 @@ pub fn of_bare_line(line: Vec<u8>, rng: &mut Rng) -> Case {
     of_world(text, &device, &Outcome::fresh(&device))
 }
 
+const LINES_BEFORE: &[&[u8]] = &[b"", b"\n", b"# first\n \n", b"KERNEL==\"nothing\"\n"];
+
 fn with_lines_around(line: &[u8], rng: &mut Rng) -> Vec<u8> {
-    let before: &[&[u8]] = &[b"", b"\n", b"# first\n \n", b"KERNEL==\"nothing\"\n"];
     let after: &[&[u8]] = &[b"", b"\n", b"\n# last"];
-    [rng.pick(before), line, rng.pick(after)].concat()
+    [rng.pick(LINES_BEFORE), line, rng.pick(after)].concat()
 }
 
 pub fn long_line(length: usize) -> Vec<u8> {

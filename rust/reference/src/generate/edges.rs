@@ -2,6 +2,7 @@
 
 use super::edge_cases::*;
 use super::rng::Rng;
+use super::rules_text::broken;
 use super::Case;
 use crate::property::Property;
 
@@ -114,6 +115,84 @@ pub const TEXT_EDGES: &[Edge] = &[
             b"LABEL=\"a\", GOTO=\"a\"\nTAG+=\"skipped\"\nLABEL=\"a\", TAG+=\"x\"",
             rng,
         )
+    }),
+];
+
+/// Lines that are continued.
+pub const JOIN_EDGES: &[Edge] = &[
+    edge("joined line of 1,024", 0, |rng| {
+        of_line(broken(rng, long_line(1_024)), rng)
+    }),
+    edge("joined line of 1,025", 10, |rng| {
+        of_line(broken(rng, long_line(1_025)), rng)
+    }),
+    edge("physical line of 1,025", 0, |rng| {
+        of_line([long_line(1_024), b"\\\n\n".to_vec()].concat(), rng)
+    }),
+    edge("comment of 1,024 with a backslash", 0, |rng| {
+        of_line([comment(1_023), b"\\".to_vec()].concat(), rng)
+    }),
+    edge("comment of 1,025 with a backslash", 10, |rng| {
+        of_line([comment(1_024), b"\\".to_vec()].concat(), rng)
+    }),
+    edge("NUL in a joined line", 10, |rng| {
+        of_line(b"TAG+=\"a\", \\\n\0 TAG+=\"b\"", rng)
+    }),
+    edge("backslash at the end", 20, |rng| {
+        of_last_line(b"TAG+=\"a\"\\", rng)
+    }),
+    edge("backslash and newline at the end", 20, |rng| {
+        of_last_line(b"TAG+=\"a\"\\\n", rng)
+    }),
+    edge("nothing but a backslash at the end", 20, |rng| {
+        of_last_line(b" \\\n\\", rng)
+    }),
+    edge("open join of a comment", 20, |rng| {
+        of_last_line(b"\\\n# c\\", rng)
+    }),
+    edge("open join of 1,025", 20, |rng| {
+        of_last_line([long_line(1_025), b"\\\n".to_vec()].concat(), rng)
+    }),
+    edge("open join with NUL and an unknown key", 20, |rng| {
+        of_last_line(b"NAME\\\n\0\\", rng)
+    }),
+    edge("open join after a faulty line", 11, |rng| {
+        of_last_line(b"NAME=\"a\"\nTAG+=\"a\"\\", rng)
+    }),
+    edge("open join after a jump to nowhere", 20, |rng| {
+        of_last_line(b"GOTO=\"a\"\nTAG+=\"a\"\\", rng)
+    }),
+    edge("comment with a backslash at the end", 0, |rng| {
+        of_last_line(b" # c\\", rng)
+    }),
+    edge(
+        "comment with a backslash and newline at the end",
+        0,
+        |rng| of_last_line(b"#\\\n", rng),
+    ),
+    edge("join that an empty line ends", 0, |rng| {
+        of_last_line(b"TAG+=\"a\"\\\n\n", rng)
+    }),
+    edge("join that blanks end", 0, |rng| {
+        of_last_line(b"\\\n \t", rng)
+    }),
+    edge("comment continues nothing", 34, |rng| {
+        of_line(b"# c\\\nMODE=\"8\"", rng)
+    }),
+    edge("joined comment", 0, |rng| {
+        of_line(b"\\\n# c\\\nMODE=\"8\"", rng)
+    }),
+    edge("comment inside a join", 17, |rng| {
+        of_line(b"TAG+=\"a\"\\\n# c", rng)
+    }),
+    edge("backslash, return and newline", 17, |rng| {
+        of_line(b"TAG+=\"a\"\\\r\n", rng)
+    }),
+    edge("two backslashes before a newline", 34, |rng| {
+        of_line(b"ENV{A}=e\"a\\\\\nb\", MODE=\"8\"", rng)
+    }),
+    edge("33 pairs over lines", 16, |rng| {
+        of_line(broken(rng, pairs(33)), rng)
     }),
 ];
 
@@ -664,8 +743,9 @@ pub const ROOM_EDGES: &[Edge] = &[
     }),
 ];
 
-pub const EDGES: [&[Edge]; 5] = [
+pub const EDGES: [&[Edge]; 6] = [
     TEXT_EDGES,
+    JOIN_EDGES,
     RUN_EDGES,
     DEVICE_EDGES,
     OUTCOME_EDGES,

@@ -93,7 +93,7 @@ pub const FAULTY_PAIRS: &[(u32, &[&str])] = &[
             "KERNEL==ee\"x\"",
             "KERNEL==e'x'",
             "KERNEL==e\"x",
-            "KERNEL==e\"x\\",
+            "KERNEL==e\"x\\\\\n\n",
             "KERNEL==e\"x\\\"",
             "KERNEL==e\"\\0\"",
             "KERNEL==e\"\\101\"",

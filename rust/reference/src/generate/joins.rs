@@ -1,9 +1,9 @@
 //! Lists of texts to join, and texts to cut.
 
 use super::rng::Rng;
-use super::rules_text::lines;
+use super::rules_text;
 use super::world::{world, World};
-use crate::{operations, rules, sizes};
+use crate::{lines, operations, rules, sizes};
 
 /// Accepted texts, each but the last empty or ending in a newline, with a device and a
 /// starting record; their join is within the sizes.
@@ -14,7 +14,7 @@ pub struct JoinList {
     pub outcome: Vec<u8>,
 }
 
-/// An accepted text with places after newlines to cut it at.
+/// An accepted text with places to cut it at, each after a newline that joins nothing.
 #[derive(Clone, Debug)]
 pub struct CutText {
     pub text: Vec<u8>,
@@ -47,8 +47,10 @@ pub fn cut_text(seed: u64) -> CutText {
         text.extend(accepted_text(rng, &world));
     }
     let cuts_in_100 = rng.pick(&[5, 20, 60]);
-    let cuts = (1..=text.len())
-        .filter(|&cut| text[cut - 1] == b'\n' && rng.percent(cuts_in_100))
+    let cuts = lines::lines(&text)
+        .iter()
+        .map(|line| line.span.end + 1)
+        .filter(|&cut| cut <= text.len() && rng.percent(cuts_in_100))
         .collect();
     CutText { text, cuts }
 }
@@ -68,7 +70,7 @@ impl CutText {
 fn accepted_text(rng: &mut Rng, world: &World) -> Vec<u8> {
     let count = rng.below(6);
     for _ in 0..10 {
-        let mut text = lines(rng, world, count).join(&b'\n');
+        let mut text = rules_text::lines(rng, world, count).join(&b'\n');
         if !text.is_empty() {
             text.push(b'\n');
         }
@@ -100,8 +102,12 @@ fn rule_count(text: &[u8]) -> usize {
     rules::read(text).map_or(0, |rules| rules.len())
 }
 
+/// Unless a join would then be open.
 fn remove_last_newline(texts: &mut [Vec<u8>]) {
     if let Some(last) = texts.last_mut() {
-        last.pop();
+        let ends_in_newline = last.pop().is_some();
+        if ends_in_newline && operations::check(last).number != 0 {
+            last.push(b'\n');
+        }
     }
 }

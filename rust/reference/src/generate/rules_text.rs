@@ -41,9 +41,29 @@ pub fn lines(rng: &mut Rng, world: &World, count: usize) -> Vec<Vec<u8>> {
             let goto = pair(rng, b"GOTO", Operator::Assign, label);
             insert_somewhere(rng, &mut pairs, goto);
         }
-        lines.push(joined_pairs(rng, pairs));
+        let line = joined_pairs(rng, pairs);
+        lines.push(if rng.percent(10) {
+            broken(rng, line)
+        } else {
+            line
+        });
     }
     lines
+}
+
+/// The line, broken where a backslash and a newline join it again.
+pub fn broken(rng: &mut Rng, mut line: Vec<u8>) -> Vec<u8> {
+    let mut places: Vec<usize> = (0..rng.between(1, 3))
+        .map(|_| rng.below(line.len()))
+        .collect();
+    if rng.percent(3) {
+        places.push(line.len());
+    }
+    places.sort_unstable();
+    for place in places.into_iter().rev() {
+        line.splice(place..place, *b"\\\n");
+    }
+    line
 }
 
 /// The label of a later rule, seldom of any.
@@ -57,7 +77,18 @@ fn jump_label<'a>(rng: &mut Rng, later: &[Option<&'a [u8]>]) -> Option<&'a [u8]>
 }
 
 fn skipped_line(rng: &mut Rng) -> Vec<u8> {
-    let lines: &[&[u8]] = &[b"", b"  \t", b"# comment", b" \t# KERNEL==\"x\"", b"#"];
+    let lines: &[&[u8]] = &[
+        b"",
+        b"  \t",
+        b"# comment",
+        b" \t# KERNEL==\"x\"",
+        b"#",
+        b"# no join\\",
+        b"\t#\\",
+        b"\\\n",
+        b" \\\n\t\\\n ",
+        b"\\\n# joined\\\nKERNEL==\"x\"",
+    ];
     rng.pick(lines).to_vec()
 }
 
