@@ -34,6 +34,7 @@ use Rattle.device.specs.Head as deviceHead
 use Rattle.device.specs.Device as device
 use Rattle.outcome.specs.Head as outcomeHead
 use Rattle.outcome.specs.State as outcome
+use Rattle.outcome.specs.Old as outcome1
 use Rattle.outcome.specs.Edits as edits
 use Rattle.text.specs.Lines as lines
 use Rattle.text.specs.Reading as text
@@ -44,6 +45,7 @@ use Rattle.engine.specs.Substitute as substitute
 use Rattle.engine.specs.Assign as assign
 use Rattle.engine.specs.Step as step
 use Rattle.engine.specs.Operations as operations
+use Rattle.engine.specs.Convert as convert
 use Rattle.engine.specs.Listing as listing
 
 -- ---- devices
@@ -132,7 +134,7 @@ isRefused (refused (line l f)) n m = eqb (number f) n && eqb l m
 isRefused (ok rs) n m = false
 
 unfoldable pub right : Case → Bool
-unfolding bytesOf.sameBytes bytesOf.starts runs.span runs.splitAt runs.trim runs.endsInSpace runs.endDigits items.items items.inBraces quoted.bytes pattern.members pattern.bodyOf pattern.elements pattern.eats pattern.anySuffix pattern.fits pattern.alternativeMatches pattern.wellFormed pattern.matches template.names template.letters template.nameIn template.pieces template.wellFormed key.rows key.rowIn key.rowOf pair.isBuiltin pair.valueOf setting.digitsFrom setting.integerOf setting.settingOf reading.readKey reading.isType reading.readArgument reading.readOp reading.quoted reading.unescape reading.readPlain coded.escapes coded.escapeIn coded.coded reading.readCoded reading.readValue reading.sound reading.readPair reading.readPairs reading.readLine bits.toBits bits.fromBits bits.bitsOf bits.bytesOf bits.numberAt fields.packed deviceHead.header deviceHead.lensBytes device.actionNames device.actionOf device.encode device.decode outcomeHead.header outcome.encode outcome.decode outcome.fresh edits.addEntry edits.replaceProperty edits.setProperty lines.newlines lines.stageOf lines.linesIn lines.numbered lines.lines lines.unjoined text.readLent text.collect text.goesTo text.settle text.readText running.runFrom run.answer run.runChecked run.run matching.valueHolds matching.listHolds matching.seenBy matching.attrHolds matching.driverHolds matching.keyHolds matching.pairHolds matching.allHold matching.hasParents matching.parentHolds matching.parentsHold matching.nearest matching.placeOf matching.matched matching.tried decimal.decimalOn substitute.inserted substitute.pieceText substitute.textOf substitute.substituted substitute.filled assign.changeEntry assign.namesIn assign.changeLinks assign.linked assign.changeTags assign.tagged assign.changeRuns assign.queued assign.owned assign.grouped assign.moded assign.changeProperties assign.valued assign.assigned assign.assignPair assign.assignAll step.stepAt step.step operations.decodeFor operations.freshChecked operations.fresh operations.runList operations.commands operations.closeChecked operations.close listing.escaped listing.lineOf listing.listingOf listing.listed listing.printed listing.listingFrom listing.listing
+unfolding bytesOf.sameBytes bytesOf.starts runs.span runs.splitAt runs.trim runs.endsInSpace runs.endDigits items.items items.inBraces quoted.bytes pattern.members pattern.bodyOf pattern.elements pattern.eats pattern.anySuffix pattern.fits pattern.alternativeMatches pattern.wellFormed pattern.matches template.names template.letters template.nameIn template.pieces template.wellFormed key.rows key.rowIn key.rowOf pair.isBuiltin pair.valueOf setting.digitsFrom setting.integerOf setting.settingOf reading.readKey reading.isType reading.readArgument reading.readOp reading.quoted reading.unescape reading.readPlain coded.escapes coded.escapeIn coded.coded reading.readCoded reading.readValue reading.sound reading.readPair reading.readPairs reading.readLine bits.toBits bits.fromBits bits.bitsOf bits.bytesOf bits.numberAt fields.packed deviceHead.header deviceHead.lensBytes device.actionNames device.actionOf device.encode device.decode outcomeHead.header outcome.encode outcome.decode outcome.fresh outcome1.renewed outcome1.aged outcome1.encodeOld outcome1.decodeOld edits.addEntry edits.replaceProperty edits.setProperty lines.newlines lines.stageOf lines.linesIn lines.numbered lines.lines lines.unjoined text.readLent text.collect text.goesTo text.settle text.readText running.runFrom run.answer run.runChecked run.run matching.valueHolds matching.listHolds matching.seenBy matching.attrHolds matching.driverHolds matching.keyHolds matching.pairHolds matching.allHold matching.hasParents matching.parentHolds matching.parentsHold matching.nearest matching.placeOf matching.matched matching.tried decimal.decimalOn substitute.inserted substitute.pieceText substitute.textOf substitute.substituted substitute.filled assign.changeEntry assign.namesIn assign.changeLinks assign.linked assign.changeTags assign.tagged assign.changeRuns assign.queued assign.owned assign.grouped assign.moded assign.changeProperties assign.valued assign.assigned assign.assignPair assign.assignAll step.stepAt step.step operations.decodeFor operations.freshChecked operations.fresh operations.runList operations.commands operations.closeChecked operations.close convert.decodeOldFor convert.newerChecked convert.newer convert.olderChecked convert.older listing.escaped listing.lineOf listing.listingOf listing.listed listing.printed listing.listingFrom listing.listing
 right (matches name p v b) = pattern.wellFormed (bytes p) && same b (pattern.matches (bytes p) (bytes v))
 right (valued name v n) = hasLength (reading.readValue (bytes v)) n
 right (refuses name t n l) = isRefused (text.readText reading.reader (bytes t)) n l
@@ -169,20 +171,24 @@ changed i v bs = set bs i v
 unfoldable pub bare : List ℕ
 bare = 16 ∷ 0 ∷ 0 ∷ 0 ∷ 0 ∷ 0 ∷ 0 ∷ 1 ∷ 0 ∷ 0 ∷ 0 ∷ 47 ∷ 97 ∷ []
 
--- its fresh record: edition 1 and zeros
+-- its fresh record: edition 2 and zeros
 unfoldable pub empty : List ℕ
-empty = 16 ∷ 0 ∷ 0 ∷ 0 ∷ 0 ∷ 0 ∷ 0 ∷ 0 ∷ 0 ∷ 0 ∷ 0 ∷ []
+empty = 32 ∷ 0 ∷ 0 ∷ 0 ∷ 0 ∷ 0 ∷ 0 ∷ 0 ∷ 0 ∷ 0 ∷ 0 ∷ 0 ∷ 0 ∷ []
+
+-- the same of edition 1 (document 02, Item 5)
+unfoldable pub empty1 : List ℕ
+empty1 = 16 ∷ 0 ∷ 0 ∷ 0 ∷ 0 ∷ 0 ∷ 0 ∷ 0 ∷ 0 ∷ 0 ∷ 0 ∷ []
 
 unfoldable pub refused3 : String → List ℕ → Case
-refused3 name dev = answers name (operations.fresh dev 17611) 3 0 0 0 17611
+refused3 name dev = answers name (operations.fresh dev 18125) 3 0 0 0 18125
 
 -- beside the bare device
 unfoldable pub refused4 : String → List ℕ → Case
-refused4 name out = answers name (operations.run [] bare out 17611) 4 0 0 0 17611
+refused4 name out = answers name (operations.run [] bare out 18125) 4 0 0 0 18125
 
 unfoldable pub sound4 : String → List ℕ → Case
-sound4 name out = leaves name (operations.run [] bare out 17611) out
+sound4 name out = leaves name (operations.run [] bare out 18125) out
 
--- a record with counts in its last two header bytes and the 9th, and entries
+-- a record with counts in the bytes 8 to 10 of its header, and entries
 unfoldable pub record-of : ℕ → ℕ → ℕ → List ℕ → List ℕ
-record-of b8 b9 b10 entries = 16 ∷ 0 ∷ 0 ∷ 0 ∷ 0 ∷ 0 ∷ 0 ∷ 0 ∷ b8 ∷ b9 ∷ b10 ∷ entries
+record-of b8 b9 b10 entries = 32 ∷ 0 ∷ 0 ∷ 0 ∷ 0 ∷ 0 ∷ 0 ∷ 0 ∷ b8 ∷ b9 ∷ b10 ∷ 0 ∷ 0 ∷ entries

@@ -22,19 +22,19 @@ use Rattle.lists.proofs.Bytes.{split-clean}
 use Rattle.entries.specs.Entry.{Property, okProp}
 use Rattle.rules.specs.Key.{Key, ACTION, DEVPATH, KERNEL, KERNELS, SUBSYSTEM, SUBSYSTEMS, DRIVER, DRIVERS, ATTR, ATTRS, ENV, SYMLINK, TAG, OWNER, GROUP, MODE, RUN, LABEL, GOTO, OPTIONS, Op, equal, unequal, assign, add, remove, final, isMatch}
 use Rattle.rules.specs.Pair.{Pair, Rule}
-use Rattle.rules.specs.Setting.{Setting, escape-none, escape-replace, priority, settingOf}
+use Rattle.rules.specs.Setting.{Setting, escape-none, escape-replace, watched, unwatched, priority, settingOf}
 use Rattle.device.specs.Device.{Member, Device, chain}
 use Rattle.outcome.specs.Content.{okLink, okName, okOwner, octal, octalFrom, okMode, modeNumber, othersWrite}
 use Rattle.outcome.specs.Head.{Closed}
 use Rattle.outcome.specs.State.{Run, State, ModeBits, okRun, okTag, Entries, Properties, Runs, Good}
-use Rattle.outcome.specs.Change.{withClosed, withOwner, withGroup, withMode, withPriority, withLinks, withProperties, withTags, withRuns, shutLinks, shutTags, shutRuns, shutOwner, shutGroup, shutMode}
+use Rattle.outcome.specs.Change.{withClosed, withOwner, withGroup, withMode, withPriority, withWatch, withLinks, withProperties, withTags, withRuns, shutLinks, shutTags, shutRuns, shutOwner, shutGroup, shutMode}
 use Rattle.text.specs.Engine.{Stepped, went}
 use Rattle.lists.specs.Sizes.{mostChain, mostKey, mostTag, mostTags, mostValue, mostLinks, mostSubstituted}
 use Rattle.template.specs.Template.{wellFormed}
 use Rattle.device.proofs.Sound.{Sound}
 use Rattle.rules.proofs.Sound.{SoundFor, SoundPair, SoundRule, In32, Range, setting-range}
 use Rattle.outcome.specs.Edits.{property}
-use Rattle.outcome.proofs.Change.{closed-good, owner-good, group-good, mode-good, priority-good, links-good, properties-good, tags-good, runs-good}
+use Rattle.outcome.proofs.Change.{closed-good, owner-good, group-good, mode-good, priority-good, watch-good, links-good, properties-good, tags-good, runs-good}
 use Rattle.outcome.proofs.Edits.{empty-entries, add-entry, remove-entry, remove-property, set-property, empty-runs, add-run}
 use Rattle.engine.specs.Match.{parentsHold, nearest, hasParents, placeOf, allHold, matched}
 use Rattle.engine.specs.Substitute.{Source, substituted, within, filled}
@@ -310,6 +310,8 @@ module _ (d : Device) (dg : Sound d) where
     set-good none w r g = g
     set-good (some escape-none) w r g = g
     set-good (some escape-replace) w r g = g
+    set-good (some watched) w r g = watch-good size (w .state) g 1 (omega arith)
+    set-good (some unwatched) w r g = watch-good size (w .state) g 2 (omega arith)
     set-good (some (priority z)) w r g = priority-good size (w .state) g (bits32 z) (priority-small z r)
 
     -- a closed key is skipped

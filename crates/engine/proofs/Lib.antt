@@ -4,6 +4,7 @@ pub mod Laws
 pub mod Absent
 pub mod Tried
 pub mod Sizes
+pub mod Convert
 pub mod Cases
 pub mod Marked
 pub mod Examples

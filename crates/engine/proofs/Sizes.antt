@@ -30,7 +30,7 @@ use Rattle.outcome.proofs.Fresh.{fresh-good}
 use Rattle.engine.specs.Substitute.{Source, substituted, within, filled}
 use Rattle.engine.specs.Operations.{decodeFor, given, freshChecked, fresh, Command, commandFields, encCommand, listFields, runList, commands, closeChecked, close}
 
-given-length : (room : ℕ) (c : Checked (Placed Refusal) (List ℕ)) → Holds (λ (made : List ℕ). length made ≤ room) c → length (given room c .bytes) ≡ room
+pub given-length : (room : ℕ) (c : Checked (Placed Refusal) (List ℕ)) → Holds (λ (made : List ℕ). length made ≤ room) c → length (given room c .bytes) ≡ room
 given-length room (refused (line n f)) h = length-replicate room 0
 given-length room (ok made) h =
     length-append made (replicate (room - length made) 0) ∙ rw (length-replicate {A = ℕ} (room - length made) 0) (omega arith)

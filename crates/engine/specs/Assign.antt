@@ -16,12 +16,12 @@ use Rattle.lists.specs.Refusal.{Refusal, link-bad, owner-bad, mode-bad, mode-sh
 use Rattle.entries.specs.Entry.{Property, keys}
 use Rattle.rules.specs.Key.{Key, ACTION, DEVPATH, KERNEL, KERNELS, SUBSYSTEM, SUBSYSTEMS, DRIVER, DRIVERS, ATTR, ATTRS, ENV, SYMLINK, TAG, OWNER, GROUP, MODE, RUN, LABEL, GOTO, OPTIONS, Op, equal, unequal, assign, add, remove, final, isMatch}
 use Rattle.rules.specs.Pair.{Pair, Rule, isBuiltin}
-use Rattle.rules.specs.Setting.{Setting, escape-none, escape-replace, priority, settingOf}
+use Rattle.rules.specs.Setting.{Setting, escape-none, escape-replace, watched, unwatched, priority, settingOf}
 use Rattle.device.specs.Device.{Device}
 use Rattle.outcome.specs.Content.{okName, okOwner, okMode, modeNumber, othersWrite}
 use Rattle.outcome.specs.Head.{Closed}
 use Rattle.outcome.specs.State.{Run, State}
-use Rattle.outcome.specs.Change.{withClosed, withOwner, withGroup, withMode, withPriority, withLinks, withProperties, withTags, withRuns, shutLinks, shutTags, shutRuns, shutOwner, shutGroup, shutMode}
+use Rattle.outcome.specs.Change.{withClosed, withOwner, withGroup, withMode, withPriority, withWatch, withLinks, withProperties, withTags, withRuns, shutLinks, shutTags, shutRuns, shutOwner, shutGroup, shutMode}
 use Rattle.outcome.specs.Edits.{append, addEntry, removeEntry, removeProperty, setProperty}
 use Rattle.engine.specs.Substitute.{Source, filled}
 
@@ -196,6 +196,9 @@ abbrev pub setBy : Option Setting → Work → Work
 setBy none w = w
 setBy (some escape-none) w = record { state = w .state; escape = as-is }
 setBy (some escape-replace) w = record { state = w .state; escape = replaced }
+-- document 02, Item 5: it stays in the record, and the latest counts
+setBy (some watched) w = left w (withWatch (w .state) 1)
+setBy (some unwatched) w = left w (withWatch (w .state) 2)
 setBy (some (priority z)) w = left w (withPriority (w .state) (bits32 z))
 
 -- ---- any key

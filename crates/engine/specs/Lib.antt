@@ -3,4 +3,5 @@ pub mod Substitute
 pub mod Assign
 pub mod Step
 pub mod Operations
+pub mod Convert
 pub mod Listing

@@ -48,6 +48,11 @@ unfolding bytes
 modeLine none = []
 modeLine (some m) = lineOf (bytes "mode") (fourOctal m)
 
+-- document 02, Item 5
+abbrev pub watchLine : ℕ → List ℕ
+unfolding bytes
+watchLine w = pick (eqb w 1) (bytes "watch\n") (pick (eqb w 2) (bytes "nowatch\n") [])
+
 -- a line for what is set
 abbrev pub setLine : List ℕ → List ℕ → List ℕ
 setLine word text = pick (isEmpty text) [] (lineOf word (escaped text))
@@ -60,7 +65,7 @@ abbrev pub commandLine : Command → List ℕ
 unfolding bytes
 commandLine c = lineOf (pick (c .builtin) (bytes "builtin") (bytes "program")) (escaped (c .text))
 
--- the listing of what a run left and its close made; document 02, Item 9: `tried` behind `visited`
+-- the listing of what a run left and its close made; document 02, Items 9 and 5: `tried` behind `visited`, watch behind the group
 unfoldable pub listingOf : ℕ → ℕ → State → List Command → List ℕ
 unfolding bytes
 listingOf visited tried s cs =
@@ -70,8 +75,9 @@ listingOf visited tried s cs =
     ++ (modeLine (s .mode)
     ++ (setLine (bytes "owner") (s .owner)
     ++ (setLine (bytes "group") (s .group)
+    ++ (watchLine (s .watch)
     ++ (cat (λ l. lineOf (bytes "link") (escaped l)) (s .links)
-    ++ (cat envLine (s .properties) ++ (cat (λ t. lineOf (bytes "tag") (escaped t)) (s .tags) ++ cat commandLine cs))))))))
+    ++ (cat envLine (s .properties) ++ (cat (λ t. lineOf (bytes "tag") (escaped t)) (s .tags) ++ cat commandLine cs)))))))))
 
 -- ---- a run and its close
 

@@ -9,7 +9,7 @@ pub data Refusal : Type 0 where
   substitution-long link-bad list-full owner-bad mode-bad command-missing mode-shared : Refusal
 
 abbrev pub number : Refusal → ℕ
--- target below 17,611 bytes (close: 8,225)
+-- target below 18,125 bytes (close: 8,225; converting to edition 1: 17,611)
 number target-short = 1
 -- text over 32,768 bytes
 number text-long = 2

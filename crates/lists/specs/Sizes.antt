@@ -92,8 +92,12 @@ mostCommand = 512
 abbrev pub mostSubstituted : ℕ
 mostSubstituted = 512
 
+-- document 02, Item 5: an outcome record of edition 2, and one of edition 1
 abbrev pub fullestOutcome : ℕ
-fullestOutcome = 17611
+fullestOutcome = 18125
+
+abbrev pub fullestOld : ℕ
+fullestOld = 17611
 
 abbrev pub fullestRunList : ℕ
 fullestRunList = 8225

@@ -1,15 +1,15 @@
 -- A good state with one part anew is good.
 -- Assumes nothing.
-use Prim.Native.Nat.{ℕ, _<_}
+use Prim.Native.Nat.{ℕ, _<_, _≤_}
 use mathlib.Core.Path.{_≡_}
 use mathlib.Core.Bool.{true}
 use mathlib.Core.List.{List}
 use Rattle.lists.specs.Sizes.{mostLinks, mostTags}
 use Rattle.entries.specs.Entry.{Property}
-use Rattle.outcome.specs.Content.{okLink, okOwner}
+use Rattle.outcome.specs.Content.{okLink, okOwner, okOutput}
 use Rattle.outcome.specs.Head.{Closed}
 use Rattle.outcome.specs.State.{Run, State, ModeBits, okTag, Entries, Properties, Runs, Good}
-use Rattle.outcome.specs.Change.{withClosed, withOwner, withGroup, withMode, withPriority, withLinks, withProperties, withTags, withRuns}
+use Rattle.outcome.specs.Change.{withClosed, withOwner, withGroup, withMode, withPriority, withOutput, withWatch, withLinks, withProperties, withTags, withRuns}
 
 module _ (n : ℕ) (s : State) (g : Good n s) where
   pub closed-good : (c : Closed) → Good n (withClosed s c)
@@ -19,6 +19,8 @@ module _ (n : ℕ) (s : State) (g : Good n s) where
         group = g .group;
         mode = g .mode;
         priority = g .priority;
+        output = g .output;
+        watch = g .watch;
         links = g .links;
         properties = g .properties;
         tags = g .tags;
@@ -32,6 +34,8 @@ module _ (n : ℕ) (s : State) (g : Good n s) where
         group = g .group;
         mode = g .mode;
         priority = g .priority;
+        output = g .output;
+        watch = g .watch;
         links = g .links;
         properties = g .properties;
         tags = g .tags;
@@ -45,6 +49,8 @@ module _ (n : ℕ) (s : State) (g : Good n s) where
         group = h;
         mode = g .mode;
         priority = g .priority;
+        output = g .output;
+        watch = g .watch;
         links = g .links;
         properties = g .properties;
         tags = g .tags;
@@ -58,6 +64,8 @@ module _ (n : ℕ) (s : State) (g : Good n s) where
         group = g .group;
         mode = h;
         priority = g .priority;
+        output = g .output;
+        watch = g .watch;
         links = g .links;
         properties = g .properties;
         tags = g .tags;
@@ -71,6 +79,8 @@ module _ (n : ℕ) (s : State) (g : Good n s) where
         group = g .group;
         mode = g .mode;
         priority = h;
+        output = g .output;
+        watch = g .watch;
         links = g .links;
         properties = g .properties;
         tags = g .tags;
@@ -84,6 +94,8 @@ module _ (n : ℕ) (s : State) (g : Good n s) where
         group = g .group;
         mode = g .mode;
         priority = g .priority;
+        output = g .output;
+        watch = g .watch;
         links = h;
         properties = g .properties;
         tags = g .tags;
@@ -97,6 +109,8 @@ module _ (n : ℕ) (s : State) (g : Good n s) where
         group = g .group;
         mode = g .mode;
         priority = g .priority;
+        output = g .output;
+        watch = g .watch;
         links = g .links;
         properties = h;
         tags = g .tags;
@@ -110,6 +124,8 @@ module _ (n : ℕ) (s : State) (g : Good n s) where
         group = g .group;
         mode = g .mode;
         priority = g .priority;
+        output = g .output;
+        watch = g .watch;
         links = g .links;
         properties = g .properties;
         tags = h;
@@ -123,8 +139,40 @@ module _ (n : ℕ) (s : State) (g : Good n s) where
         group = g .group;
         mode = g .mode;
         priority = g .priority;
+        output = g .output;
+        watch = g .watch;
         links = g .links;
         properties = g .properties;
         tags = g .tags;
         runs = h;
+      }
+
+  pub output-good : (x : List ℕ) → okOutput x ≡ true → Good n (withOutput s x)
+  output-good x h =
+      record {
+        owner = g .owner;
+        group = g .group;
+        mode = g .mode;
+        priority = g .priority;
+        output = h;
+        watch = g .watch;
+        links = g .links;
+        properties = g .properties;
+        tags = g .tags;
+        runs = g .runs;
+      }
+
+  pub watch-good : (w : ℕ) → w ≤ 2 → Good n (withWatch s w)
+  watch-good w h =
+      record {
+        owner = g .owner;
+        group = g .group;
+        mode = g .mode;
+        priority = g .priority;
+        output = g .output;
+        watch = h;
+        links = g .links;
+        properties = g .properties;
+        tags = g .tags;
+        runs = g .runs;
       }

@@ -22,6 +22,8 @@ fresh-good bs d e =
       group = refl;
       mode = tt;
       priority = omega arith;
+      output = refl;
+      watch = omega arith;
       links = empty-entries _ _;
       properties = record { few = h .few-properties; each = h .properties; apart = device-distinct bs d e };
       tags = empty-entries _ _;

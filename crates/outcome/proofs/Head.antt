@@ -33,12 +33,15 @@ pub record Fit (h : Head) : Type 0 where
   pub properties : h .properties < 64
   pub tags : h .tags < 32
   pub runs : h .runs < 32
+  pub output : h .output < 1024
+  pub watch : h .watch < 4
+  pub unused : h .unused < 16
 
-fit-counts : (h : Head) → Fit h → F.Fit ((5, h .links) ∷ (6, h .properties) ∷ (5, h .tags) ∷ (5, h .runs) ∷ [])
-fit-counts h f = (f .links, (f .properties, (f .tags, (f .runs, tt))))
+fit-counts : (h : Head) → Fit h → F.Fit ((5, h .links) ∷ (6, h .properties) ∷ (5, h .tags) ∷ (5, h .runs) ∷ (10, h .output) ∷ (2, h .watch) ∷ (4, h .unused) ∷ [])
+fit-counts h f = (f .links, (f .properties, (f .tags, (f .runs, (f .output, (f .watch, (f .unused, tt)))))))
 
 fit-numbers : (h : Head) → Fit h
-    → F.Fit ((6, h .owner) ∷ (6, h .group) ∷ (1, h .modeSet) ∷ (12, h .mode) ∷ (32, h .priority) ∷ (5, h .links) ∷ (6, h .properties) ∷ (5, h .tags) ∷ (5, h .runs) ∷ [])
+    → F.Fit ((6, h .owner) ∷ (6, h .group) ∷ (1, h .modeSet) ∷ (12, h .mode) ∷ (32, h .priority) ∷ (5, h .links) ∷ (6, h .properties) ∷ (5, h .tags) ∷ (5, h .runs) ∷ (10, h .output) ∷ (2, h .watch) ∷ (4, h .unused) ∷ [])
 fit-numbers h f = (f .owner, (f .group, (f .modeSet, (f .mode, (f .priority, fit-counts h f)))))
 
 fit-fields : (h : Head) → Fit h → F.Fit (fields h)
@@ -60,24 +63,27 @@ head-fits bs =
       properties = number-lt bs 72 6;
       tags = number-lt bs 78 5;
       runs = number-lt bs 83 5;
+      output = number-lt bs 88 10;
+      watch = number-lt bs 98 2;
+      unused = number-lt bs 100 4;
     }
 
 -- ---- the header
 
-pub header-length : (h : Head) → length (header h) ≡ 11
+pub header-length : (h : Head) → length (header h) ≡ 13
 unfolding header
-header-length h = length-packed (fields h) 11 refl
+header-length h = length-packed (fields h) 13 refl
 
--- it is the first 11 bytes
-pub header-first : (h : Head) (r : List ℕ) → exactly 11 (header h ++ r) ≡ got (header h) r
+-- it is the first 13 bytes
+pub header-first : (h : Head) (r : List ℕ) → exactly 13 (header h ++ r) ≡ got (header h) r
 unfolding header
-header-first h r = entries.head-there (fields h) 11 r refl
+header-first h r = entries.head-there (fields h) 13 r refl
 
 -- reading its fields gives them
 pub head-there : (h : Head) → Fit h → headOf (header h) ≡ h
 unfolding header
 head-there h f =
-    let e : fieldsAt (packed (fields h)) 0 (4 ∷ 1 ∷ 1 ∷ 1 ∷ 1 ∷ 1 ∷ 1 ∷ 6 ∷ 6 ∷ 1 ∷ 12 ∷ 32 ∷ 5 ∷ 6 ∷ 5 ∷ 5 ∷ []) ≡ fields h = head-read (fields h) 11 refl (fit-fields h f) in
+    let e : fieldsAt (packed (fields h)) 0 (4 ∷ 1 ∷ 1 ∷ 1 ∷ 1 ∷ 1 ∷ 1 ∷ 6 ∷ 6 ∷ 1 ∷ 12 ∷ 32 ∷ 5 ∷ 6 ∷ 5 ∷ 5 ∷ 10 ∷ 2 ∷ 4 ∷ []) ≡ fields h = head-read (fields h) 13 refl (fit-fields h f) in
     let c = h .closed in
     λ i.
     record {
@@ -99,10 +105,13 @@ head-there h f =
       properties = ap (numberOf 13) e i;
       tags = ap (numberOf 14) e i;
       runs = ap (numberOf 15) e i;
+      output = ap (numberOf 16) e i;
+      watch = ap (numberOf 17) e i;
+      unused = ap (numberOf 18) e i;
     }
 
 -- the fields that are read are those that are written
-pub same-fields : (bs : List ℕ) → fields (headOf bs) ≡ fieldsAt bs 0 (4 ∷ 1 ∷ 1 ∷ 1 ∷ 1 ∷ 1 ∷ 1 ∷ 6 ∷ 6 ∷ 1 ∷ 12 ∷ 32 ∷ 5 ∷ 6 ∷ 5 ∷ 5 ∷ [])
+pub same-fields : (bs : List ℕ) → fields (headOf bs) ≡ fieldsAt bs 0 (4 ∷ 1 ∷ 1 ∷ 1 ∷ 1 ∷ 1 ∷ 1 ∷ 6 ∷ 6 ∷ 1 ∷ 12 ∷ 32 ∷ 5 ∷ 6 ∷ 5 ∷ 5 ∷ 10 ∷ 2 ∷ 4 ∷ [])
 same-fields bs =
     let h = headOf bs in
     λ i.
@@ -122,18 +131,21 @@ same-fields bs =
     ∷ (6, h .properties)
     ∷ (5, h .tags)
     ∷ (5, h .runs)
+    ∷ (10, h .output)
+    ∷ (2, h .watch)
+    ∷ (4, h .unused)
     ∷ []
 
 -- writing the fields that were read gives the bytes
-pub head-back : (bs : List ℕ) → Bytes bs → length bs ≡ 11 → header (headOf bs) ≡ bs
+pub head-back : (bs : List ℕ) → Bytes bs → length bs ≡ 13 → header (headOf bs) ≡ bs
 unfolding header
-head-back bs b l = ap packed (same-fields bs) ∙ heads.head-back bs (4 ∷ 1 ∷ 1 ∷ 1 ∷ 1 ∷ 1 ∷ 1 ∷ 6 ∷ 6 ∷ 1 ∷ 12 ∷ 32 ∷ 5 ∷ 6 ∷ 5 ∷ 5 ∷ []) 11 refl l b
+head-back bs b l = ap packed (same-fields bs) ∙ heads.head-back bs (4 ∷ 1 ∷ 1 ∷ 1 ∷ 1 ∷ 1 ∷ 1 ∷ 6 ∷ 6 ∷ 1 ∷ 12 ∷ 32 ∷ 5 ∷ 6 ∷ 5 ∷ 5 ∷ 10 ∷ 2 ∷ 4 ∷ []) 13 refl l b
 
 -- writing the i-th field in place gives the header with that field
-pub header-put : (h g : Head) (i v : ℕ) (r : List ℕ) → i < 16 → fields g ≡ withNumber i v (fields h) → Bytes r
+pub header-put : (h g : Head) (i v : ℕ) (r : List ℕ) → i < 19 → fields g ≡ withNumber i v (fields h) → Bytes r
     → putAt (header h ++ r) (placeOf i (fields h)) (widthOf i (fields h)) v ≡ header g ++ r
 unfolding header
-header-put h g i v r k e b = head-put (fields h) i v 11 r k refl b ∙ ap (λ (l : List Field). packed l ++ r) (sym e)
+header-put h g i v r k e b = head-put (fields h) i v 13 r k refl b ∙ ap (λ (l : List Field). packed l ++ r) (sym e)
 
 -- the count of links, for one
 links-put : (h g : Head) (v : ℕ) (r : List ℕ) → fields g ≡ withNumber 12 v (fields h) → Bytes r → putAt (header h ++ r) 67 5 v ≡ header g ++ r

@@ -5,4 +5,5 @@ pub mod Fits
 pub mod Change
 pub mod Edits
 pub mod Fresh
+pub mod Old
 pub mod Examples

@@ -21,8 +21,8 @@ use Rattle.entries.specs.Entry.{exactly}
 use Rattle.entries.proofs.Rows.{Laws, through}
 use Rattle.entries.proofs.Heads.{numberOf, head-read, head-back}
 use Rattle.entries.proofs.Entries.{kept, keep-there, exactly-back, head-there}
-use Rattle.outcome.specs.Content.{okOwner, othersWrite}
-use Rattle.outcome.specs.State.{Run, modeSet, modeBits, modeOf, okModeBits, okRun, runFields, encRun, runAt, runOn, oneRun, oneOwner, ModeBits}
+use Rattle.outcome.specs.Content.{othersWrite}
+use Rattle.outcome.specs.State.{Run, modeSet, modeBits, modeOf, okModeBits, okRun, runFields, encRun, runAt, runOn, oneRun, ModeBits, oneSized}
 
 -- ---- mode
 
@@ -66,18 +66,18 @@ pub set-or : (m : Option ℕ) → (eqb (modeSet m) 1 || eqb (modeBits m) 0) ≡ 
 set-or none = refl
 set-or (some m) = refl
 
--- ---- owner and group
+-- ---- output, owner and group
 
-pub owner-there : (x r : List ℕ) → okOwner x ≡ true → oneOwner (length x) (x ++ r) ≡ got x r
-owner-there x r h =
+pub sized-there : (ok : List ℕ → Bool) (x r : List ℕ) → ok x ≡ true → oneSized ok (length x) (x ++ r) ≡ got x r
+sized-there ok x r h =
     rw (le-leb (length x) (length (x ++ r)) (omega (arith, length-append x r)), take-append-seam x r, drop-append-seam x r, h)
 
-pub owner-back : (n : ℕ) (bs x r : List ℕ) → oneOwner n bs ≡ got x r → (bs ≡ x ++ r) × (length x ≡ n) × (okOwner x ≡ true)
-owner-back n bs x r e =
-    let (t, a, b) = kept (leb n (length bs) && okOwner (take n bs)) (take n bs) x (drop n bs) r e in
-    let (t₁, t₂) = and-both (leb n (length bs)) (okOwner (take n bs)) t in
+pub sized-back : (ok : List ℕ → Bool) (n : ℕ) (bs x r : List ℕ) → oneSized ok n bs ≡ got x r → (bs ≡ x ++ r) × (length x ≡ n) × (ok x ≡ true)
+sized-back ok n bs x r e =
+    let (t, a, b) = kept (leb n (length bs) && ok (take n bs)) (take n bs) x (drop n bs) r e in
+    let (t₁, t₂) = and-both (leb n (length bs)) (ok (take n bs)) t in
     let h : n ≤ length bs = leb-true n (length bs) t₁ in
-    (sym (take-append-drop n bs) ∙ ap₂ (λ (p q : List ℕ). p ++ q) a b, sym (ap length a) ∙ length-take-le n bs h, ap okOwner (sym a) ∙ t₂)
+    (sym (take-append-drop n bs) ∙ ap₂ (λ (p q : List ℕ). p ++ q) a b, sym (ap length a) ∙ length-take-le n bs h, ap ok (sym a) ∙ t₂)
 
 -- ---- runs
 

@@ -10,7 +10,7 @@ use lib.ListN.{length}
 use lib.Dec.{leb, eqb}
 use borrow.Author.Tests.{le-leb, leb-true, eqb-true}
 use Rattle.lists.specs.Lists.{cat, all}
-use Rattle.lists.specs.Bytes.{Bytes, distinct}
+use Rattle.lists.specs.Bytes.{Bytes, clean, distinct}
 use Rattle.lists.proofs.Tests.{and-both}
 use Rattle.lists.proofs.Bytes.{bytes-rest}
 use Rattle.lists.proofs.Records.{bytes-first}
@@ -20,20 +20,24 @@ use Rattle.entries.proofs.Rows.{through, many-there, many-back}
 use Rattle.entries.proofs.Entries.{kept, exactly-back, text-laws, prop-laws}
 use Rattle.outcome.specs.Head.{Head, header, headOf}
 use Rattle.outcome.proofs.Head.{Fit, header-first, head-there, head-back, head-fits}
-use Rattle.outcome.specs.Content.{okLink, okOwner, ownerByte, othersWrite}
-use Rattle.outcome.proofs.Parts.{mode-there, mode-set, mode-bits, mode-okay, mode-small, mode-kept, set-small, set-or, owner-there, owner-back, run-laws}
-use Rattle.outcome.specs.State.{Run, State, modeSet, okModeBits, okRun, encRun, oneRun, okTag, headFor, encode, okHead, apart, Good, readHead, stateOf, oneOwner, parts, ended, decode}
+use Rattle.outcome.specs.Content.{okLink, okOwner, ownerByte, okOutput, othersWrite}
+use Rattle.outcome.proofs.Parts.{mode-there, mode-set, mode-bits, mode-okay, mode-small, mode-kept, set-small, set-or, sized-there, sized-back, run-laws}
+use Rattle.outcome.specs.State.{Run, State, modeSet, okModeBits, okRun, encRun, oneRun, okTag, headFor, encode, okHead, apart, Good, readHead, stateOf, oneSized, parts, ended, decode}
 
 -- ---- what a good state's header is
 
 owner-short : (x : List ℕ) → okOwner x ≡ true → length x ≤ 32
 owner-short x h = leb-true (length x) 32 (and-both (leb (length x) 32) (all ownerByte x) h .0)
 
+output-short : (x : List ℕ) → okOutput x ≡ true → length x ≤ 512
+output-short x h = leb-true (length x) 512 (and-both (leb (length x) 512) (clean x) h .0)
+
 module _ (n : ℕ) where
   pub good-fit : (s : State) → Good n s → Fit (headFor s)
   good-fit s g =
       let o = owner-short (s .owner) (g .owner) in
       let p = owner-short (s .group) (g .group) in
+      let q = output-short (s .output) (g .output) in
       record {
         edition = omega arith;
         owner = omega arith;
@@ -45,11 +49,15 @@ module _ (n : ℕ) where
         properties = omega (arith, g .properties .few);
         tags = omega (arith, g .tags .few);
         runs = omega (arith, g .runs .few);
+        output = omega arith;
+        watch = omega (arith, g .watch);
+        unused = omega arith;
       }
 
   good-head : (s : State) → Good n s → okHead (headFor s) ≡ true
   good-head s g =
       rw (
+        le-leb (s .watch) 2 (g .watch),
         set-or (s .mode),
         mode-kept (s .mode) (g .mode),
         le-leb (length (s .links)) 16 (g .links .few),
@@ -74,8 +82,11 @@ fromLinks s z = cat encText (s .links) ++ fromProps s z
 abbrev pub fromOwner : State → List ℕ → List ℕ
 fromOwner s z = s .owner ++ (s .group ++ fromLinks s z)
 
+abbrev pub fromOutput : State → List ℕ → List ℕ
+fromOutput s z = s .output ++ fromOwner s z
+
 -- a record as its header and then its parts
-pub laid : (s : State) (z : List ℕ) → encode s ++ z ≡ header (headFor s) ++ fromOwner s z
+pub laid : (s : State) (z : List ℕ) → encode s ++ z ≡ header (headFor s) ++ fromOutput s z
 unfolding encode
 laid s z = simp append-assoc
 
@@ -86,7 +97,7 @@ head-got h r f o =
     ∙ ap (λ (x : Bool). keep x h r) o
 
 -- a state made of its own parts
-same-state : (s : State) → stateOf (headFor s) (s .owner) (s .group) (s .links) (s .properties) (s .tags) (s .runs) ≡ s
+same-state : (s : State) → stateOf (headFor s) (s .output) (s .owner) (s .group) (s .links) (s .properties) (s .tags) (s .runs) ≡ s
 same-state s =
     let m = mode-there (s .mode) in
     λ i.
@@ -96,6 +107,8 @@ same-state s =
       group = s .group;
       mode = m i;
       priority = s .priority;
+      output = s .output;
+      watch = s .watch;
       links = s .links;
       properties = s .properties;
       tags = s .tags;
@@ -107,9 +120,10 @@ module _ (n : ℕ) where
   parts-there s z g =
       rw (
         laid s z,
-        head-got (headFor s) (fromOwner s z) (good-fit n s g) (good-head n s g),
-        owner-there (s .owner) (s .group ++ fromLinks s z) (g .owner),
-        owner-there (s .group) (fromLinks s z) (g .group),
+        head-got (headFor s) (fromOutput s z) (good-fit n s g) (good-head n s g),
+        sized-there okOutput (s .output) (fromOwner s z) (g .output),
+        sized-there okOwner (s .owner) (s .group ++ fromLinks s z) (g .owner),
+        sized-there okOwner (s .group) (fromLinks s z) (g .group),
         many-there (text-laws okLink) (s .links) (fromProps s z) (g .links .each),
         many-there prop-laws (s .properties) (fromTags s z) (g .properties .each),
         many-there (text-laws okTag) (s .tags) (fromRuns s z) (g .tags .each),
@@ -126,6 +140,7 @@ pub record Read (n : ℕ) (bs : List ℕ) (s : State) (z : List ℕ) : Type 0 wh
   pub eq : bs ≡ encode s ++ z
   pub fit : Fit (headFor s)
   pub head : okHead (headFor s) ≡ true
+  pub output : okOutput (s .output) ≡ true
   pub owner : okOwner (s .owner) ≡ true
   pub group : okOwner (s .group) ≡ true
   pub mode : okModeBits (s .mode)
@@ -135,13 +150,16 @@ pub record Read (n : ℕ) (bs : List ℕ) (s : State) (z : List ℕ) : Type 0 wh
   pub runs : all (okRun n) (s .runs) ≡ true
 
 -- the header of a state that was read is the one that was read
-same-head : (h : Head) (o g : List ℕ) (ls : List (List ℕ)) (ps : List Property) (ts : List (List ℕ)) (rs : List Run) → Fit h → okHead h ≡ true
-    → length o ≡ h .owner → length g ≡ h .group → length ls ≡ h .links → length ps ≡ h .properties → length ts ≡ h .tags → length rs ≡ h .runs
-    → headFor (stateOf h o g ls ps ts rs) ≡ h
-same-head h o g ls ps ts rs f k lo lg ll lp lt lr =
-    let a = and-both (eqb (h .edition) 1) _ k in
-    let b = and-both (eqb (h .modeSet) 1 || eqb (h .mode) 0) _ (a .1) in
-    let ed : 1 ≡ h .edition = sym (eqb-true (h .edition) 1 (a .0)) in
+same-head : (h : Head) (x o g : List ℕ) (ls : List (List ℕ)) (ps : List Property) (ts : List (List ℕ)) (rs : List Run) → Fit h → okHead h ≡ true
+    → length x ≡ h .output → length o ≡ h .owner → length g ≡ h .group → length ls ≡ h .links → length ps ≡ h .properties → length ts ≡ h .tags → length rs ≡ h .runs
+    → headFor (stateOf h x o g ls ps ts rs) ≡ h
+same-head h x o g ls ps ts rs f k lx lo lg ll lp lt lr =
+    let a = and-both (eqb (h .edition) 2) _ k in
+    let u = and-both (leb (h .watch) 2) _ (a .1) in
+    let v = and-both (eqb (h .unused) 0) _ (u .1) in
+    let b = and-both (eqb (h .modeSet) 1 || eqb (h .mode) 0) _ (v .1) in
+    let ed : 2 ≡ h .edition = sym (eqb-true (h .edition) 2 (a .0)) in
+    let un : 0 ≡ h .unused = sym (eqb-true (h .unused) 0 (v .0)) in
     let ms = mode-set (h .modeSet) (h .mode) (f .modeSet) in
     let mb = mode-bits (h .modeSet) (h .mode) (b .0) in
     λ j.
@@ -157,33 +175,41 @@ same-head h o g ls ps ts rs f k lo lg ll lp lt lr =
       properties = lp j;
       tags = lt j;
       runs = lr j;
+      output = lx j;
+      watch = h .watch;
+      unused = un j;
     }
 
 head-kept : (h : Head) → okHead h ≡ true → not (othersWrite (h .mode)) ≡ true
 head-kept h k =
-    let a = and-both (eqb (h .edition) 1) _ k in
-    let b = and-both (eqb (h .modeSet) 1 || eqb (h .mode) 0) _ (a .1) in
+    let a = and-both (eqb (h .edition) 2) _ k in
+    let u = and-both (leb (h .watch) 2) _ (a .1) in
+    let v = and-both (eqb (h .unused) 0) _ (u .1) in
+    let b = and-both (eqb (h .modeSet) 1 || eqb (h .mode) 0) _ (v .1) in
     and-both (not (othersWrite (h .mode))) _ (b .1) .0
 
 module _ (n : ℕ) where
   parts-back : (bs : List ℕ) (s : State) (z : List ℕ) → Bytes bs → parts n bs ≡ got s z → Read n bs s z
   parts-back bs s z b e =
       through (readHead bs) _ s z e λ h r₀ p₀ e₀.
-      through (oneOwner (h .owner) r₀) _ s z e₀ λ o r₁ p₁ e₁.
-      through (oneOwner (h .group) r₁) _ s z e₁ λ g r₂ p₂ e₂.
+      through (oneSized okOutput (h .output) r₀) _ s z e₀ λ x r′ p′ e′.
+      through (oneSized okOwner (h .owner) r′) _ s z e′ λ o r₁ p₁ e₁.
+      through (oneSized okOwner (h .group) r₁) _ s z e₁ λ g r₂ p₂ e₂.
       through (many (oneText okLink) (h .links) r₂) _ s z e₂ λ ls r₃ p₃ e₃.
       through (many oneProp (h .properties) r₃) _ s z e₃ λ ps r₄ p₄ e₄.
       through (many (oneText okTag) (h .tags) r₄) _ s z e₄ λ ts r₅ p₅ e₅.
       through (many (oneRun n) (h .runs) r₅) _ s z e₅ λ rs r₆ p₆ e₆.
-      through (exactly 11 bs) _ h r₀ p₀ λ head q p₇ e₇.
+      through (exactly 13 bs) _ h r₀ p₀ λ head q p₇ e₇.
       let (t, hh, hr) = kept (okHead (headOf head)) (headOf head) h q r₀ e₇ in
-      let (qh, l) = exactly-back 11 bs head q p₇ in
-      let (q₀, n₀, o₀) = owner-back (h .owner) r₀ o r₁ p₁ in
-      let (q₁, n₁, o₁) = owner-back (h .group) r₁ g r₂ p₂ in
+      let (qh, l) = exactly-back 13 bs head q p₇ in
+      let (q′, n′, o′) = sized-back okOutput (h .output) r₀ x r′ p′ in
+      let (q₀, n₀, o₀) = sized-back okOwner (h .owner) r′ o r₁ p₁ in
+      let (q₁, n₁, o₁) = sized-back okOwner (h .group) r₁ g r₂ p₂ in
       let w : bs ≡ head ++ r₀ = qh ∙ ap (λ (x : List ℕ). head ++ x) hr in
       let bh : Bytes head = bytes-first head r₀ (subst Bytes w b) in
       let b₀ : Bytes r₀ = bytes-rest head r₀ (subst Bytes w b) in
-      let b₁ : Bytes r₁ = bytes-rest o r₁ (subst Bytes q₀ b₀) in
+      let b′ : Bytes r′ = bytes-rest x r′ (subst Bytes q′ b₀) in
+      let b₁ : Bytes r₁ = bytes-rest o r₁ (subst Bytes q₀ b′) in
       let b₂ : Bytes r₂ = bytes-rest g r₂ (subst Bytes q₁ b₁) in
       let (q₂, k₂, n₂) = many-back (text-laws okLink) (h .links) r₂ ls r₃ b₂ p₃ in
       let b₃ : Bytes r₃ = bytes-rest (cat encText ls) r₃ (subst Bytes q₂ b₂) in
@@ -192,23 +218,24 @@ module _ (n : ℕ) where
       let (q₄, k₄, n₄) = many-back (text-laws okTag) (h .tags) r₄ ts r₅ b₄ p₅ in
       let b₅ : Bytes r₅ = bytes-rest (cat encText ts) r₅ (subst Bytes q₄ b₄) in
       let (q₅, k₅, n₅) = many-back (run-laws n) (h .runs) r₅ rs r₆ b₅ p₆ in
-      let v : State = stateOf h o g ls ps ts rs in
+      let v : State = stateOf h x o g ls ps ts rs in
       let fh : Fit h = subst Fit hh (head-fits head) in
       let kh = head-kept h (ap okHead (sym hh) ∙ t) in
-      let f : headFor v ≡ h = same-head h o g ls ps ts rs fh (ap okHead (sym hh) ∙ t) n₀ n₁ n₂ n₃ n₄ n₅ in
+      let f : headFor v ≡ h = same-head h x o g ls ps ts rs fh (ap okHead (sym hh) ∙ t) n′ n₀ n₁ n₂ n₃ n₄ n₅ in
       let fv : Fit (headFor v) = subst Fit (sym f) fh in
-      let from : r₀ ≡ fromOwner v r₆ =
-      q₀
-      ∙ ap (λ (x : List ℕ). o ++ x) q₁
-      ∙ ap (λ (x : List ℕ). o ++ (g ++ x)) q₂
-      ∙ ap (λ (x : List ℕ). o ++ (g ++ (cat encText ls ++ x))) q₃
-      ∙ ap (λ (x : List ℕ). o ++ (g ++ (cat encText ls ++ (cat encProp ps ++ x)))) q₄
-      ∙ ap (λ (x : List ℕ). o ++ (g ++ (cat encText ls ++ (cat encProp ps ++ (cat encText ts ++ x))))) q₅
+      let from : r₀ ≡ fromOutput v r₆ =
+      q′
+      ∙ ap (λ (y : List ℕ). x ++ y) q₀
+      ∙ ap (λ (y : List ℕ). x ++ (o ++ y)) q₁
+      ∙ ap (λ (y : List ℕ). x ++ (o ++ (g ++ y))) q₂
+      ∙ ap (λ (y : List ℕ). x ++ (o ++ (g ++ (cat encText ls ++ y)))) q₃
+      ∙ ap (λ (y : List ℕ). x ++ (o ++ (g ++ (cat encText ls ++ (cat encProp ps ++ y))))) q₄
+      ∙ ap (λ (y : List ℕ). x ++ (o ++ (g ++ (cat encText ls ++ (cat encProp ps ++ (cat encText ts ++ y)))))) q₅
       in
       let eq : bs ≡ encode v ++ r₆ =
       w
       ∙ ap₂ (λ (x y : List ℕ). x ++ y) (sym (head-back head bh l)) from
-      ∙ ap (λ (x : Head). header x ++ fromOwner v r₆) (hh ∙ sym f)
+      ∙ ap (λ (x : Head). header x ++ fromOutput v r₆) (hh ∙ sym f)
       ∙ sym (laid v r₆)
       in
       let read : Read n bs v r₆ =
@@ -216,6 +243,7 @@ module _ (n : ℕ) where
         eq = eq;
         fit = fv;
         head = ap okHead (f ∙ sym hh) ∙ t;
+        output = o′;
         owner = o₀;
         group = o₁;
         mode = mode-okay (h .modeSet) (h .mode) (record { small = fh .mode; kept = kh });
@@ -246,7 +274,8 @@ ended-back (got v []) s e = at (apart v) refl e
 good-of : (n : ℕ) (bs : List ℕ) (s : State) (z : List ℕ) → Read n bs s z → apart s ≡ true → Good n s
 good-of n bs s z r t =
     let h = headFor s in
-    let d = and-both (eqb (h .modeSet) 1 || eqb (h .mode) 0) _ (r .head) in
+    let w = and-both (leb (h .watch) 2) _ (r .head) in
+    let d = and-both (eqb (h .modeSet) 1 || eqb (h .mode) 0) _ (w .1) in
     let k = and-both (not (othersWrite (h .mode))) _ (d .1) in
     let e = and-both (leb (h .links) 16) _ (k .1) in
     let f = and-both (leb (h .properties) 32) _ (e .1) in
@@ -258,6 +287,8 @@ good-of n bs s z r t =
       group = r .group;
       mode = r .mode;
       priority = r .fit .priority;
+      output = r .output;
+      watch = leb-true _ _ (w .0);
       links = record { few = leb-true _ _ (e .0); each = r .links; apart = u .0 };
       properties = record { few = leb-true _ _ (f .0); each = r .properties; apart = v .0 };
       tags = record { few = leb-true _ _ (i .0); each = r .tags; apart = v .1 };

@@ -9,31 +9,38 @@ use Rattle.outcome.specs.Head.{Closed}
 use Rattle.outcome.specs.State.{Run, State}
 
 abbrev pub withClosed : State → Closed → State
-withClosed s c = record { closed = c; owner = s .owner; group = s .group; mode = s .mode; priority = s .priority; links = s .links; properties = s .properties; tags = s .tags; runs = s .runs }
+withClosed s c = record { closed = c; owner = s .owner; group = s .group; mode = s .mode; priority = s .priority; output = s .output; watch = s .watch; links = s .links; properties = s .properties; tags = s .tags; runs = s .runs }
 
 abbrev pub withOwner : State → List ℕ → State
-withOwner s x = record { closed = s .closed; owner = x; group = s .group; mode = s .mode; priority = s .priority; links = s .links; properties = s .properties; tags = s .tags; runs = s .runs }
+withOwner s x = record { closed = s .closed; owner = x; group = s .group; mode = s .mode; priority = s .priority; output = s .output; watch = s .watch; links = s .links; properties = s .properties; tags = s .tags; runs = s .runs }
 
 abbrev pub withGroup : State → List ℕ → State
-withGroup s x = record { closed = s .closed; owner = s .owner; group = x; mode = s .mode; priority = s .priority; links = s .links; properties = s .properties; tags = s .tags; runs = s .runs }
+withGroup s x = record { closed = s .closed; owner = s .owner; group = x; mode = s .mode; priority = s .priority; output = s .output; watch = s .watch; links = s .links; properties = s .properties; tags = s .tags; runs = s .runs }
 
 abbrev pub withMode : State → ℕ → State
-withMode s m = record { closed = s .closed; owner = s .owner; group = s .group; mode = some m; priority = s .priority; links = s .links; properties = s .properties; tags = s .tags; runs = s .runs }
+withMode s m = record { closed = s .closed; owner = s .owner; group = s .group; mode = some m; priority = s .priority; output = s .output; watch = s .watch; links = s .links; properties = s .properties; tags = s .tags; runs = s .runs }
 
 abbrev pub withPriority : State → ℕ → State
-withPriority s n = record { closed = s .closed; owner = s .owner; group = s .group; mode = s .mode; priority = n; links = s .links; properties = s .properties; tags = s .tags; runs = s .runs }
+withPriority s n = record { closed = s .closed; owner = s .owner; group = s .group; mode = s .mode; priority = n; output = s .output; watch = s .watch; links = s .links; properties = s .properties; tags = s .tags; runs = s .runs }
 
 abbrev pub withLinks : State → List (List ℕ) → State
-withLinks s ls = record { closed = s .closed; owner = s .owner; group = s .group; mode = s .mode; priority = s .priority; links = ls; properties = s .properties; tags = s .tags; runs = s .runs }
+withLinks s ls = record { closed = s .closed; owner = s .owner; group = s .group; mode = s .mode; priority = s .priority; output = s .output; watch = s .watch; links = ls; properties = s .properties; tags = s .tags; runs = s .runs }
 
 abbrev pub withProperties : State → List Property → State
-withProperties s ps = record { closed = s .closed; owner = s .owner; group = s .group; mode = s .mode; priority = s .priority; links = s .links; properties = ps; tags = s .tags; runs = s .runs }
+withProperties s ps = record { closed = s .closed; owner = s .owner; group = s .group; mode = s .mode; priority = s .priority; output = s .output; watch = s .watch; links = s .links; properties = ps; tags = s .tags; runs = s .runs }
 
 abbrev pub withTags : State → List (List ℕ) → State
-withTags s ts = record { closed = s .closed; owner = s .owner; group = s .group; mode = s .mode; priority = s .priority; links = s .links; properties = s .properties; tags = ts; runs = s .runs }
+withTags s ts = record { closed = s .closed; owner = s .owner; group = s .group; mode = s .mode; priority = s .priority; output = s .output; watch = s .watch; links = s .links; properties = s .properties; tags = ts; runs = s .runs }
 
 abbrev pub withRuns : State → List Run → State
-withRuns s rs = record { closed = s .closed; owner = s .owner; group = s .group; mode = s .mode; priority = s .priority; links = s .links; properties = s .properties; tags = s .tags; runs = rs }
+withRuns s rs = record { closed = s .closed; owner = s .owner; group = s .group; mode = s .mode; priority = s .priority; output = s .output; watch = s .watch; links = s .links; properties = s .properties; tags = s .tags; runs = rs }
+
+-- document 02, Item 5
+abbrev pub withOutput : State → List ℕ → State
+withOutput s x = record { closed = s .closed; owner = s .owner; group = s .group; mode = s .mode; priority = s .priority; output = x; watch = s .watch; links = s .links; properties = s .properties; tags = s .tags; runs = s .runs }
+
+abbrev pub withWatch : State → ℕ → State
+withWatch s n = record { closed = s .closed; owner = s .owner; group = s .group; mode = s .mode; priority = s .priority; output = s .output; watch = n; links = s .links; properties = s .properties; tags = s .tags; runs = s .runs }
 
 -- ---- a key closed
 

@@ -9,7 +9,7 @@ use lib.Dec.{leb, eqb}
 use Rattle.lists.specs.Lists.{isEmpty, all}
 use Rattle.lists.specs.Bytes.{between, isDigit, sameBytes, clean, isLetter}
 use Rattle.lists.specs.Runs.{splitAt}
-use Rattle.lists.specs.Sizes.{mostLink, mostOwner, mostMode}
+use Rattle.lists.specs.Sizes.{mostLink, mostOwner, mostMode, mostOutput}
 
 -- a component of a link's name is not empty, not `.` and not `..`
 abbrev pub okPart : List ℕ → Bool
@@ -30,6 +30,10 @@ ownerByte b = isLetter b || (isDigit b || (eqb b 95 || (eqb b 45 || eqb b 46)))
 -- an owner or a group: to 32 such bytes; empty is unset
 abbrev pub okOwner : List ℕ → Bool
 okOwner x = leb (length x) mostOwner && all ownerByte x
+
+-- document 02, Item 5: a program's output: to 512 bytes, no NUL; none is as none stored
+abbrev pub okOutput : List ℕ → Bool
+okOutput x = leb (length x) mostOutput && clean x
 
 -- octal digits
 abbrev pub octal : List ℕ → Bool

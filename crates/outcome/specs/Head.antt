@@ -1,4 +1,4 @@
--- Document 01, Packed records: the outcome record's first 11 bytes.
+-- Document 01, Packed records, and document 02, Item 5: the outcome record's first 13 bytes.
 -- Assumes nothing.
 use Prim.Native.Nat.{ℕ}
 use mathlib.Core.Bool.{Bool}
@@ -28,6 +28,10 @@ pub record Head : Type 0 where
   pub properties : ℕ
   pub tags : ℕ
   pub runs : ℕ
+  -- Item 5: the output's length, watch, and bits that are zero
+  pub output : ℕ
+  pub watch : ℕ
+  pub unused : ℕ
 
 abbrev pub fields : Head → List Field
 fields h =
@@ -47,6 +51,9 @@ fields h =
     ∷ (6, h .properties)
     ∷ (5, h .tags)
     ∷ (5, h .runs)
+    ∷ (10, h .output)
+    ∷ (2, h .watch)
+    ∷ (4, h .unused)
     ∷ []
 
 unfoldable pub header : Head → List ℕ
@@ -78,4 +85,7 @@ headOf bs =
       properties = numberAt bs 72 6;
       tags = numberAt bs 78 5;
       runs = numberAt bs 83 5;
+      output = numberAt bs 88 10;
+      watch = numberAt bs 98 2;
+      unused = numberAt bs 100 4;
     }

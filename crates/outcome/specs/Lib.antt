@@ -3,3 +3,4 @@ pub mod Content
 pub mod State
 pub mod Change
 pub mod Edits
+pub mod Old

@@ -17,7 +17,7 @@ use Rattle.device.specs.Device.{Device}
 use Rattle.lists.specs.Sizes.{mostChain, mostLinks, mostProperties, mostTags, mostTag, mostRuns, mostValue}
 use Rattle.template.specs.Template.{wellFormed}
 use Rattle.outcome.specs.Head.{Closed, Head, header, headOf}
-use Rattle.outcome.specs.Content.{okLink, okOwner, othersWrite}
+use Rattle.outcome.specs.Content.{okLink, okOwner, othersWrite, okOutput}
 
 -- a program to run later: its type, the place of the matched device (0 is none), its template
 pub record Run : Type 0 where
@@ -25,13 +25,16 @@ pub record Run : Type 0 where
   pub place : ℕ
   pub template : List ℕ
 
--- an owner or a group of no bytes is unset; the priority is its 32 bits in two's complement
+-- an owner or a group of no bytes is unset; the priority is its 32 bits in two's complement; document 02, Item 5: the output that a program
+-- left last, and whether the device is watched (0 unset, 1 watch, 2 nowatch)
 pub record State : Type 0 where
   pub closed : Closed
   pub owner : List ℕ
   pub group : List ℕ
   pub mode : Option ℕ
   pub priority : ℕ
+  pub output : List ℕ
+  pub watch : ℕ
   pub links : List (List ℕ)
   pub properties : List Property
   pub tags : List (List ℕ)
@@ -84,7 +87,7 @@ oneRun n bs = bind (exactly 2 bs) (runOn n)
 abbrev pub headFor : State → Head
 headFor s =
     record {
-      edition = 1;
+      edition = 2;
       closed = s .closed;
       owner = length (s .owner);
       group = length (s .group);
@@ -95,6 +98,9 @@ headFor s =
       properties = length (s .properties);
       tags = length (s .tags);
       runs = length (s .runs);
+      output = length (s .output);
+      watch = s .watch;
+      unused = 0;
     }
 
 -- owner, group, links, properties, tags, runs
@@ -103,16 +109,19 @@ body s =
     s .owner
     ++ (s .group ++ (cat encText (s .links) ++ (cat encProp (s .properties) ++ (cat encText (s .tags) ++ cat encRun (s .runs)))))
 
+-- Item 5: the output right behind the header
 unfoldable pub encode : State → List ℕ
-encode s = header (headFor s) ++ body s
+encode s = header (headFor s) ++ (s .output ++ body s)
 
--- what the header must say: edition 1, no mode without its mark, none that lets others write (Item 8), no more than there may be of each
+-- what the header must say: edition 2, watch as above, unused bits zero (Item 5), no mode without its mark, none that lets others write (Item 8), no more than there may be of each
 abbrev pub okHead : Head → Bool
 okHead h =
-    eqb (h .edition) 1
+    eqb (h .edition) 2
+    && (leb (h .watch) 2
+    && (eqb (h .unused) 0
     && ((eqb (h .modeSet) 1 || eqb (h .mode) 0)
     && (not (othersWrite (h .mode))
-    && (leb (h .links) mostLinks && (leb (h .properties) mostProperties && (leb (h .tags) mostTags && leb (h .runs) mostRuns)))))
+    && (leb (h .links) mostLinks && (leb (h .properties) mostProperties && (leb (h .tags) mostTags && leb (h .runs) mostRuns)))))))
 
 abbrev pub okTag : List ℕ → Bool
 okTag x = okText mostTag x
@@ -151,53 +160,60 @@ pub record Good (n : ℕ) (s : State) : Type 0 where
   pub group : okOwner (s .group) ≡ true
   pub mode : okModeBits (s .mode)
   pub priority : s .priority < 4294967296
+  pub output : okOutput (s .output) ≡ true
+  pub watch : s .watch ≤ 2
   pub links : Entries mostLinks okLink (s .links)
   pub properties : Properties (s .properties)
   pub tags : Entries mostTags okTag (s .tags)
   pub runs : Runs n (s .runs)
 
 abbrev pub readHead : List ℕ → Parse Head
-readHead bs = bind (exactly 11 bs) (λ head r. keep (okHead (headOf head)) (headOf head) r)
+readHead bs = bind (exactly 13 bs) (λ head r. keep (okHead (headOf head)) (headOf head) r)
 
-abbrev pub stateOf : Head → List ℕ → List ℕ → List (List ℕ) → List Property → List (List ℕ) → List Run → State
-stateOf h o g ls ps ts rs =
+abbrev pub stateOf : Head → List ℕ → List ℕ → List ℕ → List (List ℕ) → List Property → List (List ℕ) → List Run → State
+stateOf h x o g ls ps ts rs =
     record {
       closed = h .closed;
       owner = o;
       group = g;
       mode = modeOf (h .modeSet) (h .mode);
       priority = h .priority;
+      output = x;
+      watch = h .watch;
       links = ls;
       properties = ps;
       tags = ts;
       runs = rs;
     }
 
--- an owner or a group of k bytes
-abbrev pub oneOwner : ℕ → List ℕ → Parse (List ℕ)
-oneOwner k bs = keep (leb k (length bs) && okOwner (take k bs)) (take k bs) (drop k bs)
+-- a text of k bytes, if it passes the test: output, owner, group
+abbrev pub oneSized : (List ℕ → Bool) → ℕ → List ℕ → Parse (List ℕ)
+oneSized ok k bs = keep (leb k (length bs) && ok (take k bs)) (take k bs) (drop k bs)
 
 -- the parts, one after another, from the last; n is the chain's length
-abbrev pub runsOn : ℕ → Head → List ℕ → List ℕ → List (List ℕ) → List Property → List (List ℕ) → List ℕ → Parse State
-runsOn n h o g ls ps ts r = bind (many (oneRun n) (h .runs) r) (λ rs q. got (stateOf h o g ls ps ts rs) q)
+abbrev pub runsOn : ℕ → Head → List ℕ → List ℕ → List ℕ → List (List ℕ) → List Property → List (List ℕ) → List ℕ → Parse State
+runsOn n h x o g ls ps ts r = bind (many (oneRun n) (h .runs) r) (λ rs q. got (stateOf h x o g ls ps ts rs) q)
 
-abbrev pub tagsOn : ℕ → Head → List ℕ → List ℕ → List (List ℕ) → List Property → List ℕ → Parse State
-tagsOn n h o g ls ps r = bind (many (oneText okTag) (h .tags) r) (λ ts q. runsOn n h o g ls ps ts q)
+abbrev pub tagsOn : ℕ → Head → List ℕ → List ℕ → List ℕ → List (List ℕ) → List Property → List ℕ → Parse State
+tagsOn n h x o g ls ps r = bind (many (oneText okTag) (h .tags) r) (λ ts q. runsOn n h x o g ls ps ts q)
 
-abbrev pub propsOn : ℕ → Head → List ℕ → List ℕ → List (List ℕ) → List ℕ → Parse State
-propsOn n h o g ls r = bind (many oneProp (h .properties) r) (λ ps q. tagsOn n h o g ls ps q)
+abbrev pub propsOn : ℕ → Head → List ℕ → List ℕ → List ℕ → List (List ℕ) → List ℕ → Parse State
+propsOn n h x o g ls r = bind (many oneProp (h .properties) r) (λ ps q. tagsOn n h x o g ls ps q)
 
-abbrev pub linksOn : ℕ → Head → List ℕ → List ℕ → List ℕ → Parse State
-linksOn n h o g r = bind (many (oneText okLink) (h .links) r) (λ ls q. propsOn n h o g ls q)
+abbrev pub linksOn : ℕ → Head → List ℕ → List ℕ → List ℕ → List ℕ → Parse State
+linksOn n h x o g r = bind (many (oneText okLink) (h .links) r) (λ ls q. propsOn n h x o g ls q)
 
-abbrev pub groupOn : ℕ → Head → List ℕ → List ℕ → Parse State
-groupOn n h o r = bind (oneOwner (h .group) r) (λ g q. linksOn n h o g q)
+abbrev pub groupOn : ℕ → Head → List ℕ → List ℕ → List ℕ → Parse State
+groupOn n h x o r = bind (oneSized okOwner (h .group) r) (λ g q. linksOn n h x o g q)
 
-abbrev pub ownerOn : ℕ → Head → List ℕ → Parse State
-ownerOn n h r = bind (oneOwner (h .owner) r) (λ o q. groupOn n h o q)
+abbrev pub ownerOn : ℕ → Head → List ℕ → List ℕ → Parse State
+ownerOn n h x r = bind (oneSized okOwner (h .owner) r) (λ o q. groupOn n h x o q)
+
+abbrev pub outputOn : ℕ → Head → List ℕ → Parse State
+outputOn n h r = bind (oneSized okOutput (h .output) r) (λ x q. ownerOn n h x q)
 
 abbrev pub parts : ℕ → List ℕ → Parse State
-parts n bs = bind (readHead bs) (ownerOn n)
+parts n bs = bind (readHead bs) (outputOn n)
 
 -- nothing after the end, and no entry twice
 abbrev pub ended : Parse State → Option State
@@ -223,6 +239,8 @@ fresh d =
       group = [];
       mode = none;
       priority = 0;
+      output = [];
+      watch = 0;
       links = [];
       properties = d .properties;
       tags = [];

@@ -20,7 +20,7 @@ use Rattle.pattern.specs.Pattern as pattern
 use Rattle.template.specs.Template as template
 use Rattle.rules.specs.Key.{Key, RUN, sameKey, Op, equal, unequal, assign, add, remove, final, Row, rows, rowIn, rowOf, allows}
 use Rattle.rules.specs.Pair.{Pair, Rule, valueOf, labelOf, gotoOf}
-use Rattle.rules.specs.Setting.{Setting, escape-none, escape-replace, priority, digitsFrom, integerOf, settingOf}
+use Rattle.rules.specs.Setting.{Setting, escape-none, escape-replace, priority, digitsFrom, integerOf, settingOf, watched, unwatched}
 use Rattle.rules.specs.Coded.{escapes, escapeIn, coded}
 use Rattle.rules.specs.Reading.{readKey, isType, readArgument, readOp, quoted, unescape, readPlain, readCoded, readValue, sound, readPair, readPairs, readLine, reader}
 use Rattle.text.specs.Lines.{newlines, stageOf, linesIn, numbered, lines, unjoined}
@@ -119,6 +119,8 @@ abbrev isPriority : Option Setting → ℤ → Bool
 isPriority none z = false
 isPriority (some escape-none) z = false
 isPriority (some escape-replace) z = false
+isPriority (some watched) z = false
+isPriority (some unwatched) z = false
 isPriority (some (priority y)) z = sameℤ y z
 
 abbrev isValueOf : Checked Refusal (Part (List ℕ)) → List ℕ → ℕ → Bool
@@ -222,6 +224,8 @@ examples =
     ∷ reads "LABEL=\"[$%\"" (1 ∷ []) "LABEL=<[$%>;" ∷ reads "OPTIONS+=\"string_escape=replace\"" (1 ∷ []) "OPTIONS+=<string_escape=replace>;" ∷ reads "OPTIONS=\"string_escape=none\"" (1 ∷ []) "OPTIONS=<string_escape=none>;"
     ∷ reads "RUN=\"a\", RUN{program}+=\"b\", RUN{builtin}:=\"c\"" (1 ∷ []) "RUN{program}=<a>RUN{program}+=<b>RUN{builtin}:=<c>;" ∷ reads "SYMLINK==\"a\", SYMLINK!=\"b\", SYMLINK=\"c\", SYMLINK+=\"d\", SYMLINK-=\"e\", SYMLINK:=\"f\"" (1 ∷ []) "SYMLINK==<a>SYMLINK!=<b>SYMLINK=<c>SYMLINK+=<d>SYMLINK-=<e>SYMLINK:=<f>;"
     ∷ reads "KERNEL==\"\"" (1 ∷ []) "KERNEL==<>;" ∷ sets "link_priority=-2147483648" (negsuc 2147483647) ∷ sets "link_priority=2147483647" (pos 2147483647)
+    -- document 02, Item 5
+    ∷ reads "OPTIONS=\"watch\", OPTIONS+=\"nowatch\"" (1 ∷ []) "OPTIONS=<watch>OPTIONS+=<nowatch>;" ∷ unread "OPTIONS=\"watch \"" 15 1 ∷ unread "OPTIONS=\"Watch\"" 15 1 ∷ unread "OPTIONS=\"nowatch=1\"" 15 1 ∷ unread "OPTIONS:=\"watch\"" 13 1
     ∷ sets "link_priority=-0" (pos 0) ∷ sets "link_priority=-0000000001" (negsuc 0) ∷ sets "link_priority=0000000012" (pos 12) ∷ sets "link_priority=7" (pos 7)
     -- 16
     ∷ unread "LABEL=\"a\", LABEL=\"a\"" 16 1 ∷ unread "LABEL=\"a\", LABEL=\"b\"" 16 1 ∷ unread "GOTO=\"a\", GOTO=\"a\"" 16 1 ∷ unread "LABEL=\"a\", GOTO=\"b\", LABEL=\"c\"" 16 1

@@ -25,7 +25,7 @@ use Rattle.lists.proofs.Checked.{holds-bind}
 use Rattle.template.specs.Template.{wellFormed}
 use Rattle.rules.specs.Key.{Key, ACTION, DEVPATH, KERNEL, KERNELS, SUBSYSTEM, SUBSYSTEMS, DRIVER, DRIVERS, ATTR, ATTRS, ENV, SYMLINK, TAG, OWNER, GROUP, MODE, RUN, LABEL, GOTO, OPTIONS, sameKey, Op, equal, unequal, assign, add, remove, final, isMatch, Takes, takes-none, takes-one, takes-type, Row, rows, rowIn, rowOf, allows}
 use Rattle.rules.specs.Pair.{Pair, Rule}
-use Rattle.rules.specs.Setting.{Setting, escape-none, escape-replace, priority, minus, withSign, digitsFrom, integerOf, priorityOf, priorityName, settingOf}
+use Rattle.rules.specs.Setting.{Setting, escape-none, escape-replace, priority, minus, withSign, digitsFrom, integerOf, priorityOf, priorityName, settingOf, watched, unwatched}
 use Rattle.rules.specs.Coded.{Escape, escapes, escapeIn, hexDigit, hexByte, taking, escaped, codedByte, put, codedThen, codedStep, coded}
 use Rattle.rules.specs.Reading as R
 use Rattle.text.specs.Engine as T
@@ -92,6 +92,8 @@ abbrev pub Range : Option Setting → Type 0
 Range none = Unit {0}
 Range (some escape-none) = Unit {0}
 Range (some escape-replace) = Unit {0}
+Range (some watched) = Unit {0}
+Range (some unwatched) = Unit {0}
 Range (some (priority z)) = In32 z
 
 minus-range : (m : ℕ) → m ≤ 2147483648 → In32 (minus m)
@@ -136,8 +138,10 @@ unfolding settingOf
 setting-range v =
     pick-range (sameBytes v (bytes "string_escape=none")) (some escape-none) _ tt
     (pick-range (sameBytes v (bytes "string_escape=replace")) (some escape-replace) _ tt
+    (pick-range (sameBytes v (bytes "watch")) (some watched) _ tt
+    (pick-range (sameBytes v (bytes "nowatch")) (some unwatched) _ tt
     (pick-range (starts priorityName v) (priorityOf (integerOf (drop (length priorityName) v))) none
-    (priority-range (integerOf (drop (length priorityName) v)) (integer-range (drop (length priorityName) v))) tt))
+    (priority-range (integerOf (drop (length priorityName) v)) (integer-range (drop (length priorityName) v))) tt))))
 
 -- ---- parts of a line without NUL
 

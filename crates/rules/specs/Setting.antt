@@ -13,6 +13,8 @@ use Rattle.lists.specs.Quoted.{bytes}
 
 pub data Setting : Type 0 where
   escape-none escape-replace : Setting
+  -- document 02, Item 5
+  watched unwatched : Setting
   priority : ℤ → Setting
 
 -- a number taken from zero; negsuc n is one below minus n
@@ -48,4 +50,6 @@ unfolding bytes
 settingOf v =
     pick (sameBytes v (bytes "string_escape=none")) (some escape-none)
     (pick (sameBytes v (bytes "string_escape=replace")) (some escape-replace)
-    (pick (starts priorityName v) (priorityOf (integerOf (drop (length priorityName) v))) none))
+    (pick (sameBytes v (bytes "watch")) (some watched)
+    (pick (sameBytes v (bytes "nowatch")) (some unwatched)
+    (pick (starts priorityName v) (priorityOf (integerOf (drop (length priorityName) v))) none))))
