@@ -56,6 +56,10 @@ fields h =
     ∷ (4, h .unused)
     ∷ []
 
+-- its bytes
+abbrev pub headerSize : ℕ
+headerSize = 13
+
 unfoldable pub header : Head → List ℕ
 header h = packed (fields h)
 

@@ -6,10 +6,11 @@ use mathlib.Core.List.{List, [], _∷_, _++_}
 use native.Mathlib.Omega.{arith}
 use lib.ListN.{length}
 use Rattle.lists.specs.Bytes.{Bytes}
+use Rattle.lists.specs.Sizes.{fullestOutcome}
 use Rattle.splice.specs.Moves.{inserted, removed, replaced, padded}
 use Rattle.bits.specs.Bits.{putAt}
 use Rattle.entries.proofs.Heads.{withNumber, placeOf, widthOf}
-use Rattle.outcome.specs.Head.{Head, fields, header}
+use Rattle.outcome.specs.Head.{Head, fields, headerSize, header}
 use Rattle.outcome.specs.State.{State, Good, headFor, body, encode}
 use Rattle.outcome_target.specs.Layout.{layoutOf}
 use Rattle.outcome_target.specs.Held.{Held}
@@ -26,7 +27,7 @@ module _ (n : ℕ) (l : List ℕ) (lay : Layout) (s : State) (w : Held n l lay s
 
   module _ {X : Type 0} {i : ℕ} {move : Layout → ℕ → ℕ → Layout} (F : Frame X i move) (a g y b : List ℕ) (x : X)
       (eg : F .bytes (F .get s) ≡ a ++ (g ++ b)) (ey : F .bytes x ≡ a ++ (y ++ b)) (good : Good n (F .put s x))
-      (at : ℕ) (place : at ≡ 11 + length (F .front s) + length a) (u : List ℕ) where
+      (at : ℕ) (place : at ≡ headerSize + length (F .front s) + length a) (u : List ℕ) where
     abbrev Anew : List ℕ → Type 0
     Anew v = Held n v (move lay (length g) (length y)) (F .put s x)
 
@@ -71,20 +72,20 @@ module _ (n : ℕ) (l : List ℕ) (lay : Layout) (s : State) (w : Held n l lay s
   -- ---- the header alone
 
   -- of a state with the same parts, whose header comes of the bytes u
-  pub header-changed : (s′ : State) (g : Head) (i v : ℕ) (u v′ : List ℕ) → body s′ ≡ body s → layoutOf s ≡ layoutOf s′ → Good n s′ → i < 16
-      → u ≡ padded (length l) (header g ++ body s) → Bytes u → fields (headFor s′) ≡ withNumber i v (fields g)
+  pub header-changed : (s′ : State) (g : Head) (i v : ℕ) (u v′ : List ℕ) → s′ .output ++ body s′ ≡ s .output ++ body s → layoutOf s ≡ layoutOf s′ → Good n s′ → i < 19
+      → u ≡ padded (length l) (header g ++ (s .output ++ body s)) → Bytes u → fields (headFor s′) ≡ withNumber i v (fields g)
       → v′ ≡ putAt u (placeOf i (fields g)) (widthOf i (fields g)) v → length v′ ≡ length l → Held n v′ lay s′
   unfolding encode
   header-changed s′ g i v u v′ eb el good k e b f c m =
       record {
         good = good;
         bytes =
-            put-header g (headFor s′) i v (length l) (body s) u v′ k f e b c
+            put-header g (headFor s′) i v (length l) (s .output ++ body s) u v′ k f e b c
             ∙ ap₂ (λ (j : ℕ) (r : List ℕ). padded j (header (headFor s′) ++ r)) (sym m) (sym eb);
         layout = w .layout ∙ el;
-        room = subst (λ (j : ℕ). 17611 ≤ j) (sym m) (w .room);
+        room = subst (λ (j : ℕ). fullestOutcome ≤ j) (sym m) (w .room);
       }
 
-  pub held-header : l ≡ padded (length l) (header (headFor s) ++ body s)
+  pub held-header : l ≡ padded (length l) (header (headFor s) ++ (s .output ++ body s))
   unfolding encode
   held-header = w .bytes

@@ -13,7 +13,7 @@ use Rattle.bits.specs.Bits.{putAt}
 use Rattle.bits.specs.Fields.{Field, packed}
 use Rattle.entries.proofs.Heads.{withNumber, placeOf, widthOf}
 use Rattle.lists.specs.Sizes.{fullestOutcome}
-use Rattle.outcome.specs.Head.{Head, fields, header}
+use Rattle.outcome.specs.Head.{Head, fields, headerSize, header}
 use Rattle.outcome.specs.State.{State, Good, headFor, encode}
 use Rattle.outcome.proofs.Head.{header-length, header-put}
 use Rattle.outcome.proofs.Fits.{encode-size}
@@ -30,7 +30,7 @@ layout-end s = rw (encode-size s) (omega arith)
 -- ---- the header
 
 -- its field i put anew, with zeros behind the record
-pub put-header : (h g : Head) (i v m : ℕ) (r u w : List ℕ) → i < 16 → fields g ≡ withNumber i v (fields h) → u ≡ padded m (header h ++ r) → Bytes u
+pub put-header : (h g : Head) (i v m : ℕ) (r u w : List ℕ) → i < 19 → fields g ≡ withNumber i v (fields h) → u ≡ padded m (header h ++ r) → Bytes u
     → w ≡ putAt u (placeOf i (fields h)) (widthOf i (fields h)) v → w ≡ padded m (header g ++ r)
 put-header h g i v m r u w k e f b c =
     let z : List ℕ = replicate (m - length (header h ++ r)) 0 in
@@ -55,20 +55,20 @@ module _ {X : Type 0} {i : ℕ} {move : Layout → ℕ → ℕ → Layout} (F : 
     abbrev pub behind : List ℕ
     behind = b ++ F .back s
 
-    pub before-length : length before ≡ 11 + length (F .front s) + length a
+    pub before-length : length before ≡ headerSize + length (F .front s) + length a
     before-length = simp length-append (omega (arith, header-length (headFor s)))
 
     pub around : encode s ≡ before ++ (g ++ behind)
     around = by-part ∙ ap (λ (m : List ℕ). header (headFor s) ++ (F .front s ++ (m ++ F .back s))) eg ∙ simp append-assoc
 
-    all-length : 11 + length (F .front s) + length a + length g + length behind ≡ layoutOf s .end
+    all-length : headerSize + length (F .front s) + length a + length g + length behind ≡ layoutOf s .end
     all-length =
         let e : length (encode s) ≡ length before + (length g + length behind) = ap length around ∙ length-append before (g ++ behind) ∙ ap (λ (k : ℕ). length before + k) (length-append g behind) in
         omega (arith, before-length, layout-end s)
 
     -- ---- the bytes moved
 
-    module _ (m at : ℕ) (l : List ℕ) (w : l ≡ padded m (encode s)) (place : at ≡ 11 + length (F .front s) + length a) where
+    module _ (m at : ℕ) (l : List ℕ) (w : l ≡ padded m (encode s)) (place : at ≡ headerSize + length (F .front s) + length a) where
       held-parts : l ≡ padded m (before ++ (g ++ behind))
       held-parts = w ∙ ap (padded m) around
 

@@ -8,12 +8,13 @@ use native.Mathlib.Omega.{arith}
 use lib.ListN.{length, take, drop, replicate, length-append}
 use lib.Seq.{drop-at}
 use Rattle.lists.specs.Lists.{cat, all}
+use Rattle.lists.specs.Sizes.{fullestOutcome}
 use Rattle.splice.specs.Moves.{padded}
 use Rattle.bits.specs.Bits.{numberAt}
 use Rattle.bits.proofs.Numbers.{number-front}
 use Rattle.entries.specs.Parse.{Parse, got, many}
 use Rattle.entries.proofs.Rows.{Laws, many-there}
-use Rattle.outcome.specs.Head.{Head, header, headOf}
+use Rattle.outcome.specs.Head.{Head, headerSize, header, headOf}
 use Rattle.outcome.specs.State.{State, Good, headFor, body, encode}
 use Rattle.outcome.proofs.Head.{header-length, head-there}
 use Rattle.outcome.proofs.RoundTrip.{good-fit}
@@ -35,25 +36,26 @@ module _ (n : ℕ) (l : List ℕ) (lay : Layout) (s : State) (w : Held n l lay s
   held-rising = subst Rising (sym (w .layout)) (rising-state s)
 
   -- how long the record is, and what room there is
-  pub held-size : (lay .end ≤ 17611) × (lay .end ≤ length l)
+  pub held-size : (lay .end ≤ fullestOutcome) × (lay .end ≤ length l)
   held-size =
       let e : lay .end ≡ length (encode s) = ap (λ (x : Layout). x .end) (w .layout) ∙ layout-end s in
       (omega (arith, fits n s (w .good)), omega (arith, fits n s (w .good), w .room))
 
   -- ---- the header
 
-  head-bytes : l ≡ header (headFor s) ++ (drop 11 l)
+  head-bytes : l ≡ header (headFor s) ++ (drop headerSize l)
   unfolding encode
   head-bytes =
       let z : List ℕ = replicate (length l - length (encode s)) 0 in
-      let e : l ≡ header (headFor s) ++ (body s ++ z) = w .bytes ∙ append-assoc (header (headFor s)) (body s) z in
-      e ∙ ap (λ (x : List ℕ). header (headFor s) ++ x) (sym (ap (drop 11) e ∙ drop-at (header (headFor s)) (body s ++ z) 11 (header-length (headFor s))))
+      let r : List ℕ = s .output ++ body s in
+      let e : l ≡ header (headFor s) ++ (r ++ z) = w .bytes ∙ append-assoc (header (headFor s)) r z in
+      e ∙ ap (λ (x : List ℕ). header (headFor s) ++ x) (sym (ap (drop headerSize) e ∙ drop-at (header (headFor s)) (r ++ z) headerSize (header-length (headFor s))))
 
   -- a field of it
-  pub held-number : (at k : ℕ) → at + k ≤ 88 → numberAt l at k ≡ numberAt (header (headFor s)) at k
+  pub held-number : (at k : ℕ) → at + k ≤ headerSize * 8 → numberAt l at k ≡ numberAt (header (headFor s)) at k
   held-number at k h =
       ap (λ (x : List ℕ). numberAt x at k) head-bytes
-      ∙ number-front (header (headFor s)) (drop 11 l) at k (omega (arith, header-length (headFor s)))
+      ∙ number-front (header (headFor s)) (drop headerSize l) at k (omega (arith, header-length (headFor s)))
 
   pub held-head : headOf (header (headFor s)) ≡ headFor s
   held-head = head-there (headFor s) (good-fit n s (w .good))
@@ -65,7 +67,7 @@ module _ (n : ℕ) (l : List ℕ) (lay : Layout) (s : State) (w : Held n l lay s
     abbrev pub behind : List ℕ
     behind = F .back s ++ replicate (length l - length (encode s)) 0
 
-    pub held-part : (at : ℕ) → at ≡ 11 + length (F .front s) → drop at l ≡ F .bytes (F .get s) ++ behind
+    pub held-part : (at : ℕ) → at ≡ headerSize + length (F .front s) → drop at l ≡ F .bytes (F .get s) ++ behind
     held-part at e =
         let h : List ℕ = header (headFor s) in
         let z : List ℕ = replicate (length l - length (encode s)) 0 in

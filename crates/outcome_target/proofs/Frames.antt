@@ -8,7 +8,7 @@ use lib.ListN.{length}
 use Rattle.lists.specs.Lists.{cat}
 use Rattle.entries.specs.Entry.{encText, Property, encProp}
 use Rattle.entries.proofs.Heads.{withNumber}
-use Rattle.outcome.specs.Head.{fields, header}
+use Rattle.outcome.specs.Head.{fields, headerSize, header}
 use Rattle.outcome.specs.State.{State, Run, encRun, headFor, encode}
 use Rattle.outcome.specs.Change.{withOwner, withGroup, withLinks, withProperties, withTags, withRuns}
 use Rattle.outcome_target.specs.Layout.{layoutOf, movedBy, allMoved}
@@ -23,63 +23,63 @@ pub record Frame (X : Type 0) (i : ℕ) (move : Layout → ℕ → ℕ → Layou
   pub count : X → ℕ
   pub front : State → List ℕ
   pub back : State → List ℕ
-  pub field : i < 16
+  pub field : i < 19
   pub same : (s : State) → put s (get s) ≡ s
   pub laid : (s : State) (x : X) → encode (put s x) ≡ header (headFor (put s x)) ++ (front s ++ (bytes x ++ back s))
   pub counted : (s : State) (x : X) → fields (headFor (put s x)) ≡ withNumber i (count x) (fields (headFor s))
   pub moves : (s : State) (x : X) (old new : ℕ) → length (bytes x) + old ≡ length (bytes (get s)) + new → move (layoutOf s) old new ≡ layoutOf (put s x)
 
--- ---- the places, in numbers
+-- ---- the places, in numbers; h bytes stand before the owner
 
-pub move-owner : (o g l p t r x old new : ℕ) → x + old ≡ o + new
-    → _≡_ {A = Layout} (record { links = 11 + o + g + new - old; properties = 11 + o + g + l + new - old; tags = 11 + o + g + l + p + new - old; runs = 11 + o + g + l + p + t + new - old; end = 11 + o + g + l + p + t + r + new - old }) (record { links = 11 + x + g; properties = 11 + x + g + l; tags = 11 + x + g + l + p; runs = 11 + x + g + l + p + t; end = 11 + x + g + l + p + t + r })
-move-owner o g l p t r x old new h =
-    let links : 11 + o + g + new - old ≡ 11 + x + g = omega arith in
-    let properties : 11 + o + g + l + new - old ≡ 11 + x + g + l = omega arith in
-    let tags : 11 + o + g + l + p + new - old ≡ 11 + x + g + l + p = omega arith in
-    let runs : 11 + o + g + l + p + t + new - old ≡ 11 + x + g + l + p + t = omega arith in
-    let end : 11 + o + g + l + p + t + r + new - old ≡ 11 + x + g + l + p + t + r = omega arith in
+pub move-owner : (h o g l p t r x old new : ℕ) → x + old ≡ o + new
+    → _≡_ {A = Layout} (record { links = h + o + g + new - old; properties = h + o + g + l + new - old; tags = h + o + g + l + p + new - old; runs = h + o + g + l + p + t + new - old; end = h + o + g + l + p + t + r + new - old }) (record { links = h + x + g; properties = h + x + g + l; tags = h + x + g + l + p; runs = h + x + g + l + p + t; end = h + x + g + l + p + t + r })
+move-owner h o g l p t r x old new e =
+    let links : h + o + g + new - old ≡ h + x + g = omega arith in
+    let properties : h + o + g + l + new - old ≡ h + x + g + l = omega arith in
+    let tags : h + o + g + l + p + new - old ≡ h + x + g + l + p = omega arith in
+    let runs : h + o + g + l + p + t + new - old ≡ h + x + g + l + p + t = omega arith in
+    let end : h + o + g + l + p + t + r + new - old ≡ h + x + g + l + p + t + r = omega arith in
     λ i. record { links = links i; properties = properties i; tags = tags i; runs = runs i; end = end i }
 
-pub move-group : (o g l p t r x old new : ℕ) → x + old ≡ g + new
-    → _≡_ {A = Layout} (record { links = 11 + o + g + new - old; properties = 11 + o + g + l + new - old; tags = 11 + o + g + l + p + new - old; runs = 11 + o + g + l + p + t + new - old; end = 11 + o + g + l + p + t + r + new - old }) (record { links = 11 + o + x; properties = 11 + o + x + l; tags = 11 + o + x + l + p; runs = 11 + o + x + l + p + t; end = 11 + o + x + l + p + t + r })
-move-group o g l p t r x old new h =
-    let links : 11 + o + g + new - old ≡ 11 + o + x = omega arith in
-    let properties : 11 + o + g + l + new - old ≡ 11 + o + x + l = omega arith in
-    let tags : 11 + o + g + l + p + new - old ≡ 11 + o + x + l + p = omega arith in
-    let runs : 11 + o + g + l + p + t + new - old ≡ 11 + o + x + l + p + t = omega arith in
-    let end : 11 + o + g + l + p + t + r + new - old ≡ 11 + o + x + l + p + t + r = omega arith in
+pub move-group : (h o g l p t r x old new : ℕ) → x + old ≡ g + new
+    → _≡_ {A = Layout} (record { links = h + o + g + new - old; properties = h + o + g + l + new - old; tags = h + o + g + l + p + new - old; runs = h + o + g + l + p + t + new - old; end = h + o + g + l + p + t + r + new - old }) (record { links = h + o + x; properties = h + o + x + l; tags = h + o + x + l + p; runs = h + o + x + l + p + t; end = h + o + x + l + p + t + r })
+move-group h o g l p t r x old new e =
+    let links : h + o + g + new - old ≡ h + o + x = omega arith in
+    let properties : h + o + g + l + new - old ≡ h + o + x + l = omega arith in
+    let tags : h + o + g + l + p + new - old ≡ h + o + x + l + p = omega arith in
+    let runs : h + o + g + l + p + t + new - old ≡ h + o + x + l + p + t = omega arith in
+    let end : h + o + g + l + p + t + r + new - old ≡ h + o + x + l + p + t + r = omega arith in
     λ i. record { links = links i; properties = properties i; tags = tags i; runs = runs i; end = end i }
 
-pub move-links : (o g l p t r x old new : ℕ) → x + old ≡ l + new
-    → _≡_ {A = Layout} (record { links = 11 + o + g; properties = 11 + o + g + l + new - old; tags = 11 + o + g + l + p + new - old; runs = 11 + o + g + l + p + t + new - old; end = 11 + o + g + l + p + t + r + new - old }) (record { links = 11 + o + g; properties = 11 + o + g + x; tags = 11 + o + g + x + p; runs = 11 + o + g + x + p + t; end = 11 + o + g + x + p + t + r })
-move-links o g l p t r x old new h =
-    let properties : 11 + o + g + l + new - old ≡ 11 + o + g + x = omega arith in
-    let tags : 11 + o + g + l + p + new - old ≡ 11 + o + g + x + p = omega arith in
-    let runs : 11 + o + g + l + p + t + new - old ≡ 11 + o + g + x + p + t = omega arith in
-    let end : 11 + o + g + l + p + t + r + new - old ≡ 11 + o + g + x + p + t + r = omega arith in
-    λ i. record { links = 11 + o + g; properties = properties i; tags = tags i; runs = runs i; end = end i }
+pub move-links : (h o g l p t r x old new : ℕ) → x + old ≡ l + new
+    → _≡_ {A = Layout} (record { links = h + o + g; properties = h + o + g + l + new - old; tags = h + o + g + l + p + new - old; runs = h + o + g + l + p + t + new - old; end = h + o + g + l + p + t + r + new - old }) (record { links = h + o + g; properties = h + o + g + x; tags = h + o + g + x + p; runs = h + o + g + x + p + t; end = h + o + g + x + p + t + r })
+move-links h o g l p t r x old new e =
+    let properties : h + o + g + l + new - old ≡ h + o + g + x = omega arith in
+    let tags : h + o + g + l + p + new - old ≡ h + o + g + x + p = omega arith in
+    let runs : h + o + g + l + p + t + new - old ≡ h + o + g + x + p + t = omega arith in
+    let end : h + o + g + l + p + t + r + new - old ≡ h + o + g + x + p + t + r = omega arith in
+    λ i. record { links = h + o + g; properties = properties i; tags = tags i; runs = runs i; end = end i }
 
-pub move-properties : (o g l p t r x old new : ℕ) → x + old ≡ p + new
-    → _≡_ {A = Layout} (record { links = 11 + o + g; properties = 11 + o + g + l; tags = 11 + o + g + l + p + new - old; runs = 11 + o + g + l + p + t + new - old; end = 11 + o + g + l + p + t + r + new - old }) (record { links = 11 + o + g; properties = 11 + o + g + l; tags = 11 + o + g + l + x; runs = 11 + o + g + l + x + t; end = 11 + o + g + l + x + t + r })
-move-properties o g l p t r x old new h =
-    let tags : 11 + o + g + l + p + new - old ≡ 11 + o + g + l + x = omega arith in
-    let runs : 11 + o + g + l + p + t + new - old ≡ 11 + o + g + l + x + t = omega arith in
-    let end : 11 + o + g + l + p + t + r + new - old ≡ 11 + o + g + l + x + t + r = omega arith in
-    λ i. record { links = 11 + o + g; properties = 11 + o + g + l; tags = tags i; runs = runs i; end = end i }
+pub move-properties : (h o g l p t r x old new : ℕ) → x + old ≡ p + new
+    → _≡_ {A = Layout} (record { links = h + o + g; properties = h + o + g + l; tags = h + o + g + l + p + new - old; runs = h + o + g + l + p + t + new - old; end = h + o + g + l + p + t + r + new - old }) (record { links = h + o + g; properties = h + o + g + l; tags = h + o + g + l + x; runs = h + o + g + l + x + t; end = h + o + g + l + x + t + r })
+move-properties h o g l p t r x old new e =
+    let tags : h + o + g + l + p + new - old ≡ h + o + g + l + x = omega arith in
+    let runs : h + o + g + l + p + t + new - old ≡ h + o + g + l + x + t = omega arith in
+    let end : h + o + g + l + p + t + r + new - old ≡ h + o + g + l + x + t + r = omega arith in
+    λ i. record { links = h + o + g; properties = h + o + g + l; tags = tags i; runs = runs i; end = end i }
 
-pub move-tags : (o g l p t r x old new : ℕ) → x + old ≡ t + new
-    → _≡_ {A = Layout} (record { links = 11 + o + g; properties = 11 + o + g + l; tags = 11 + o + g + l + p; runs = 11 + o + g + l + p + t + new - old; end = 11 + o + g + l + p + t + r + new - old }) (record { links = 11 + o + g; properties = 11 + o + g + l; tags = 11 + o + g + l + p; runs = 11 + o + g + l + p + x; end = 11 + o + g + l + p + x + r })
-move-tags o g l p t r x old new h =
-    let runs : 11 + o + g + l + p + t + new - old ≡ 11 + o + g + l + p + x = omega arith in
-    let end : 11 + o + g + l + p + t + r + new - old ≡ 11 + o + g + l + p + x + r = omega arith in
-    λ i. record { links = 11 + o + g; properties = 11 + o + g + l; tags = 11 + o + g + l + p; runs = runs i; end = end i }
+pub move-tags : (h o g l p t r x old new : ℕ) → x + old ≡ t + new
+    → _≡_ {A = Layout} (record { links = h + o + g; properties = h + o + g + l; tags = h + o + g + l + p; runs = h + o + g + l + p + t + new - old; end = h + o + g + l + p + t + r + new - old }) (record { links = h + o + g; properties = h + o + g + l; tags = h + o + g + l + p; runs = h + o + g + l + p + x; end = h + o + g + l + p + x + r })
+move-tags h o g l p t r x old new e =
+    let runs : h + o + g + l + p + t + new - old ≡ h + o + g + l + p + x = omega arith in
+    let end : h + o + g + l + p + t + r + new - old ≡ h + o + g + l + p + x + r = omega arith in
+    λ i. record { links = h + o + g; properties = h + o + g + l; tags = h + o + g + l + p; runs = runs i; end = end i }
 
-pub move-runs : (o g l p t r x old new : ℕ) → x + old ≡ r + new
-    → _≡_ {A = Layout} (record { links = 11 + o + g; properties = 11 + o + g + l; tags = 11 + o + g + l + p; runs = 11 + o + g + l + p + t; end = 11 + o + g + l + p + t + r + new - old }) (record { links = 11 + o + g; properties = 11 + o + g + l; tags = 11 + o + g + l + p; runs = 11 + o + g + l + p + t; end = 11 + o + g + l + p + t + x })
-move-runs o g l p t r x old new h =
-    let end : 11 + o + g + l + p + t + r + new - old ≡ 11 + o + g + l + p + t + x = omega arith in
-    λ i. record { links = 11 + o + g; properties = 11 + o + g + l; tags = 11 + o + g + l + p; runs = 11 + o + g + l + p + t; end = end i }
+pub move-runs : (h o g l p t r x old new : ℕ) → x + old ≡ r + new
+    → _≡_ {A = Layout} (record { links = h + o + g; properties = h + o + g + l; tags = h + o + g + l + p; runs = h + o + g + l + p + t; end = h + o + g + l + p + t + r + new - old }) (record { links = h + o + g; properties = h + o + g + l; tags = h + o + g + l + p; runs = h + o + g + l + p + t; end = h + o + g + l + p + t + x })
+move-runs h o g l p t r x old new e =
+    let end : h + o + g + l + p + t + r + new - old ≡ h + o + g + l + p + t + x = omega arith in
+    λ i. record { links = h + o + g; properties = h + o + g + l; tags = h + o + g + l + p; runs = h + o + g + l + p + t; end = end i }
 
 -- ---- the parts
 
@@ -91,13 +91,13 @@ owner-frame =
       put = withOwner;
       bytes = λ x. x;
       count = length;
-      front = λ s. [];
+      front = λ s. s .output;
       back = λ s. s .group ++ (cat encText (s .links) ++ (cat encProp (s .properties) ++ (cat encText (s .tags) ++ cat encRun (s .runs))));
       field = omega arith;
       same = λ s. refl;
       laid = λ s x. refl;
       counted = λ s x. refl;
-      moves = λ s x old new e. move-owner (length (s .owner)) (length (s .group)) (length (cat encText (s .links))) (length (cat encProp (s .properties))) (length (cat encText (s .tags))) (length (cat encRun (s .runs))) (length (x)) old new e;
+      moves = λ s x old new e. move-owner (headerSize + length (s .output)) (length (s .owner)) (length (s .group)) (length (cat encText (s .links))) (length (cat encProp (s .properties))) (length (cat encText (s .tags))) (length (cat encRun (s .runs))) (length (x)) old new e;
     }
 
 unfoldable pub group-frame : Frame (List ℕ) 8 allMoved
@@ -108,13 +108,13 @@ group-frame =
       put = withGroup;
       bytes = λ x. x;
       count = length;
-      front = λ s. s .owner;
+      front = λ s. s .output ++ s .owner;
       back = λ s. cat encText (s .links) ++ (cat encProp (s .properties) ++ (cat encText (s .tags) ++ cat encRun (s .runs)));
       field = omega arith;
       same = λ s. refl;
-      laid = λ s x. refl;
+      laid = λ s x. simp append-assoc;
       counted = λ s x. refl;
-      moves = λ s x old new e. move-group (length (s .owner)) (length (s .group)) (length (cat encText (s .links))) (length (cat encProp (s .properties))) (length (cat encText (s .tags))) (length (cat encRun (s .runs))) (length (x)) old new e;
+      moves = λ s x old new e. move-group (headerSize + length (s .output)) (length (s .owner)) (length (s .group)) (length (cat encText (s .links))) (length (cat encProp (s .properties))) (length (cat encText (s .tags))) (length (cat encRun (s .runs))) (length (x)) old new e;
     }
 
 unfoldable pub links-frame : Frame (List (List ℕ)) 12 (λ l old new. movedBy l section.Links old new)
@@ -125,13 +125,13 @@ links-frame =
       put = withLinks;
       bytes = cat encText;
       count = length;
-      front = λ s. s .owner ++ s .group;
+      front = λ s. s .output ++ (s .owner ++ s .group);
       back = λ s. cat encProp (s .properties) ++ (cat encText (s .tags) ++ cat encRun (s .runs));
       field = omega arith;
       same = λ s. refl;
       laid = λ s x. simp append-assoc;
       counted = λ s x. refl;
-      moves = λ s x old new e. move-links (length (s .owner)) (length (s .group)) (length (cat encText (s .links))) (length (cat encProp (s .properties))) (length (cat encText (s .tags))) (length (cat encRun (s .runs))) (length (cat encText x)) old new e;
+      moves = λ s x old new e. move-links (headerSize + length (s .output)) (length (s .owner)) (length (s .group)) (length (cat encText (s .links))) (length (cat encProp (s .properties))) (length (cat encText (s .tags))) (length (cat encRun (s .runs))) (length (cat encText x)) old new e;
     }
 
 unfoldable pub properties-frame : Frame (List Property) 13 (λ l old new. movedBy l section.Properties old new)
@@ -142,13 +142,13 @@ properties-frame =
       put = withProperties;
       bytes = cat encProp;
       count = length;
-      front = λ s. s .owner ++ (s .group ++ cat encText (s .links));
+      front = λ s. s .output ++ (s .owner ++ (s .group ++ cat encText (s .links)));
       back = λ s. cat encText (s .tags) ++ cat encRun (s .runs);
       field = omega arith;
       same = λ s. refl;
       laid = λ s x. simp append-assoc;
       counted = λ s x. refl;
-      moves = λ s x old new e. move-properties (length (s .owner)) (length (s .group)) (length (cat encText (s .links))) (length (cat encProp (s .properties))) (length (cat encText (s .tags))) (length (cat encRun (s .runs))) (length (cat encProp x)) old new e;
+      moves = λ s x old new e. move-properties (headerSize + length (s .output)) (length (s .owner)) (length (s .group)) (length (cat encText (s .links))) (length (cat encProp (s .properties))) (length (cat encText (s .tags))) (length (cat encRun (s .runs))) (length (cat encProp x)) old new e;
     }
 
 unfoldable pub tags-frame : Frame (List (List ℕ)) 14 (λ l old new. movedBy l section.Tags old new)
@@ -159,13 +159,13 @@ tags-frame =
       put = withTags;
       bytes = cat encText;
       count = length;
-      front = λ s. s .owner ++ (s .group ++ (cat encText (s .links) ++ cat encProp (s .properties)));
+      front = λ s. s .output ++ (s .owner ++ (s .group ++ (cat encText (s .links) ++ cat encProp (s .properties))));
       back = λ s. cat encRun (s .runs);
       field = omega arith;
       same = λ s. refl;
       laid = λ s x. simp append-assoc;
       counted = λ s x. refl;
-      moves = λ s x old new e. move-tags (length (s .owner)) (length (s .group)) (length (cat encText (s .links))) (length (cat encProp (s .properties))) (length (cat encText (s .tags))) (length (cat encRun (s .runs))) (length (cat encText x)) old new e;
+      moves = λ s x old new e. move-tags (headerSize + length (s .output)) (length (s .owner)) (length (s .group)) (length (cat encText (s .links))) (length (cat encProp (s .properties))) (length (cat encText (s .tags))) (length (cat encRun (s .runs))) (length (cat encText x)) old new e;
     }
 
 unfoldable pub runs-frame : Frame (List Run) 15 (λ l old new. movedBy l section.Runs old new)
@@ -176,11 +176,11 @@ runs-frame =
       put = withRuns;
       bytes = cat encRun;
       count = length;
-      front = λ s. s .owner ++ (s .group ++ (cat encText (s .links) ++ (cat encProp (s .properties) ++ cat encText (s .tags))));
+      front = λ s. s .output ++ (s .owner ++ (s .group ++ (cat encText (s .links) ++ (cat encProp (s .properties) ++ cat encText (s .tags)))));
       back = λ s. [];
       field = omega arith;
       same = λ s. refl;
       laid = λ s x. simp (append-assoc, append-nil);
       counted = λ s x. refl;
-      moves = λ s x old new e. move-runs (length (s .owner)) (length (s .group)) (length (cat encText (s .links))) (length (cat encProp (s .properties))) (length (cat encText (s .tags))) (length (cat encRun (s .runs))) (length (cat encRun x)) old new e;
+      moves = λ s x old new e. move-runs (headerSize + length (s .output)) (length (s .owner)) (length (s .group)) (length (cat encText (s .links))) (length (cat encProp (s .properties))) (length (cat encText (s .tags))) (length (cat encRun (s .runs))) (length (cat encRun x)) old new e;
     }

@@ -1,6 +1,6 @@
 -- Each row of a held record by one set of facts: its frame, its place, its count and its bytes.
 -- Assumes nothing.
-use Prim.Native.Nat.{ℕ, _+_, _≤_}
+use Prim.Native.Nat.{ℕ, _+_, _*_, _≤_}
 use mathlib.Core.Path.{_≡_, refl, sym, ap, _∙_}
 use mathlib.Core.List.{List, _++_}
 use native.Mathlib.Omega.{arith}
@@ -9,7 +9,7 @@ use Rattle.lists.specs.Lists.{cat}
 use Rattle.bits.specs.Bits.{numberAt}
 use Rattle.entries.specs.Entry.{encText, Property, encProp}
 use Rattle.entries.proofs.Heads.{placeOf, widthOf}
-use Rattle.outcome.specs.Head.{Head, fields, header, headOf}
+use Rattle.outcome.specs.Head.{Head, fields, headerSize, header, headOf}
 use Rattle.outcome.specs.State.{State, Run, encRun, headFor}
 use Rattle.outcome.specs.Change.{withLinks, withProperties, withTags, withRuns}
 use Rattle.outcome_target.specs.Layout.{layoutOf, startOf, endOf, movedBy, countPlace, countWidth, Rising}
@@ -33,8 +33,8 @@ pub record RowOf (A : Type 0) (part : Section) (enc : A → List ℕ) (list : St
   pub counts : (xs : List A) → frame .count xs ≡ length xs
   pub place : (h : Head) → placeOf number (fields h) ≡ countPlace part
   pub width : (h : Head) → widthOf number (fields h) ≡ countWidth part
-  pub inside : countPlace part + countWidth part ≤ 88
-  pub start : (s : State) → startOf (layoutOf s) part ≡ 11 + length (frame .front s)
+  pub inside : countPlace part + countWidth part ≤ headerSize * 8
+  pub start : (s : State) → startOf (layoutOf s) part ≡ headerSize + length (frame .front s)
   pub end : (s : State) → endOf (layoutOf s) part ≡ startOf (layoutOf s) part + length (cat enc (list s))
   pub counted : (s : State) → headOf (header (headFor s)) ≡ headFor s → numberAt (header (headFor s)) (countPlace part) (countWidth part) ≡ length (list s)
 
@@ -51,7 +51,7 @@ links-row =
       place = λ h. refl;
       width = λ h. refl;
       inside = omega arith;
-      start = λ s. omega (arith, length-append (s .owner) (s .group));
+      start = λ s. simp length-append (omega arith);
       end = λ s. refl;
       counted = λ s e. ap (λ (h : Head). h .links) e;
     }
@@ -124,7 +124,7 @@ start-end lay section.Runs r = (omega arith, omega arith)
 
 module _ {A : Type 0} {part : Section} {enc : A → List ℕ} {list : State → List A} {anew : State → List A → State} (T : RowOf A part enc list anew)
     (n : ℕ) (l : List ℕ) (lay : Layout) (s : State) (w : Held n l lay s) where
-  pub row-start : startOf lay part ≡ 11 + length (T .frame .front s)
+  pub row-start : startOf lay part ≡ headerSize + length (T .frame .front s)
   row-start = ap (λ (j : Layout). startOf j part) (w .layout) ∙ T .start s
 
   pub row-end : endOf lay part ≡ startOf lay part + length (cat enc (list s))

@@ -5,6 +5,7 @@ use mathlib.Core.List.{List}
 use lib.ListN.{length}
 use Rattle.lists.specs.Lists.{cat}
 use Rattle.entries.specs.Entry.{encText, encProp}
+use Rattle.outcome.specs.Head.{headerSize}
 use Rattle.outcome.specs.State.{State, encRun}
 use Rattle.outcome_target.specs.declared.Layout.{Layout}
 use Rattle.outcome_target.specs.declared.Section.{Section}
@@ -13,7 +14,7 @@ use Rattle.outcome_target.specs.declared.Section.the-variants.{Links, Pr
 -- where the rows of a state's record begin, and where the last one ends
 unfoldable pub layoutOf : State → Layout
 layoutOf s =
-    let links = 11 + length (s .owner) + length (s .group) in
+    let links = headerSize + length (s .output) + length (s .owner) + length (s .group) in
     let properties = links + length (cat encText (s .links)) in
     let tags = properties + length (cat encProp (s .properties)) in
     let runs = tags + length (cat encText (s .tags)) in
@@ -33,7 +34,7 @@ endOf l Runs = l .end
 
 -- one row behind the other
 pub record Rising (l : Layout) : Type 0 where
-  pub header : 11 ≤ l .links
+  pub header : headerSize ≤ l .links
   pub links : l .links ≤ l .properties
   pub properties : l .properties ≤ l .tags
   pub tags : l .tags ≤ l .runs

@@ -5,6 +5,7 @@ ghost use mathlib.Core.Path.{_≡_};
 ghost use Prim.Native.Nat.{_+_, _*_, _^_, _≤_, _<_};
 ghost use lib.ListN.{length};
 ghost use Rattle.bits.specs.Bits.{numberAt, putAt};
+ghost use Rattle.outcome.specs.Head.{headerSize};
 ghost use Rattle.outcome_target.specs.Layout.{startOf, endOf, movedBy, allMoved, countPlace, countWidth, Rising};
 ghost use Rattle.outcome_target.specs.Held.{Loaded};
 ghost use Rattle.outcome_target.specs.Texts.{sectionOf};
@@ -125,44 +126,80 @@ pub enum Edit {
 
 // ---- the header
 
-// The number of the n bits from bit `at` of the header on.
-pub fn field(t: &[u8], at: usize, n: usize) -> usize
-    requires { ⌜ (n ≤ 32) × (at + n ≤ 88) × (11 ≤ length (now t)) ⌝ }
-    ensures { λ r. ⌜ (r ≡ numberAt (now (t .entry)) at n) × (r < 2 ^ n) ⌝ }
-{
-    let f = BitCursor { at }.take(t, n);
-    f.value
+// A field of the header: its first bit, and how many it has.
+pub struct HeadField {
+    pub at: usize,
+    pub bits: usize,
 }
 
-pub fn put_field(t: &mut [u8], at: usize, n: usize, v: usize)
-    requires { ⌜ (n ≤ 32) × (at + n ≤ 88) × (11 ≤ length (now t)) ⌝ }
-    ensures { λ _. ⌜ now (t .exit) ≡ putAt (now (t .entry)) at n v ⌝ }
+// The fields in their order. Behind the edition stand the six flags of closed keys.
+pub const EDITION: HeadField = HeadField { at: 0, bits: 4 };
+
+pub const OWNER: HeadField = HeadField { at: 10, bits: 6 };
+
+pub const GROUP: HeadField = HeadField { at: 16, bits: 6 };
+
+pub const MODE_SET: HeadField = HeadField { at: 22, bits: 1 };
+
+pub const MODE: HeadField = HeadField { at: 23, bits: 12 };
+
+pub const PRIORITY: HeadField = HeadField { at: 35, bits: 32 };
+
+pub const LINKS: HeadField = HeadField { at: 67, bits: 5 };
+
+pub const PROPERTIES: HeadField = HeadField { at: 72, bits: 6 };
+
+pub const TAGS: HeadField = HeadField { at: 78, bits: 5 };
+
+pub const RUNS: HeadField = HeadField { at: 83, bits: 5 };
+
+pub const OUTPUT: HeadField = HeadField { at: 88, bits: 10 };
+
+pub const WATCH: HeadField = HeadField { at: 98, bits: 2 };
+
+// The header's bytes, and those of the fullest record.
+pub const HEADER: usize = 13;
+
+pub const FULLEST: usize = 18125;
+
+// The number that a field holds.
+pub fn field(t: &[u8], f: HeadField) -> usize
+    requires { ⌜ (f .bits ≤ 32) × (f .at + f .bits ≤ headerSize * 8) × (headerSize ≤ length (now t)) ⌝ }
+    ensures { λ r. ⌜ (r ≡ numberAt (now (t .entry)) (f .at) (f .bits)) × (r < 2 ^ f .bits) ⌝ }
 {
-    BitCursor { at }.put(t, n, v);
+    let read = BitCursor { at: f.at }.take(t, f.bits);
+    read.value
+}
+
+pub fn put_field(t: &mut [u8], f: HeadField, v: usize)
+    requires { ⌜ (f .bits ≤ 32) × (f .at + f .bits ≤ headerSize * 8) × (headerSize ≤ length (now t)) ⌝ }
+    ensures { λ _. ⌜ now (t .exit) ≡ putAt (now (t .entry)) (f .at) (f .bits) v ⌝ }
+{
+    BitCursor { at: f.at }.put(t, f.bits, v);
 }
 
 // How many entries a row has.
 pub fn count_of(t: &[u8], section: Section) -> usize
-    requires { ⌜ 11 ≤ length (now t) ⌝ }
+    requires { ⌜ headerSize ≤ length (now t) ⌝ }
     ensures { λ r. ⌜ (r ≡ numberAt (now (t .entry)) (countPlace section) (countWidth section)) × (r < 64) ⌝ }
 {
     match section {
-        Section::Links => field(t, 67, 5),
-        Section::Properties => field(t, 72, 6),
-        Section::Tags => field(t, 78, 5),
-        Section::Runs => field(t, 83, 5),
+        Section::Links => field(t, LINKS),
+        Section::Properties => field(t, PROPERTIES),
+        Section::Tags => field(t, TAGS),
+        Section::Runs => field(t, RUNS),
     }
 }
 
 pub fn set_count(t: &mut [u8], section: Section, n: usize)
-    requires { ⌜ 11 ≤ length (now t) ⌝ }
+    requires { ⌜ headerSize ≤ length (now t) ⌝ }
     ensures { λ _. ⌜ now (t .exit) ≡ putAt (now (t .entry)) (countPlace section) (countWidth section) n ⌝ }
 {
     match section {
-        Section::Links => put_field(t, 67, 5, n),
-        Section::Properties => put_field(t, 72, 6, n),
-        Section::Tags => put_field(t, 78, 5, n),
-        Section::Runs => put_field(t, 83, 5, n),
+        Section::Links => put_field(t, LINKS, n),
+        Section::Properties => put_field(t, PROPERTIES, n),
+        Section::Tags => put_field(t, TAGS, n),
+        Section::Runs => put_field(t, RUNS, n),
     }
 }
 
