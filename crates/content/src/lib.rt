@@ -1,8 +1,8 @@
-// What a link, an owner, a group and a mode may be: check 31, and the tests of 33, 34 and 36.
+// What a link, an owner, a group, a mode and an output may be: check 31, and the tests of 33, 34 and 36.
 
 ghost use mathlib.Core.Path.{_≡_};
 ghost use Prim.Native.Nat.{_<_};
-ghost use Rattle.outcome.specs.Content.{okPart, okName, okLink, ownerByte, okOwner, othersWrite};
+ghost use Rattle.outcome.specs.Content.{okPart, okName, okLink, ownerByte, okOwner, okOutput, othersWrite};
 ghost use Rattle.content.specs.Mode.{modeOf, Small};
 
 // ---- links
@@ -88,6 +88,18 @@ pub fn ok_owner(x: &[u8]) -> bool
         i += 1;
     }
     true
+}
+
+// ---- output
+
+// To 512 bytes without NUL.
+pub fn ok_output(x: &[u8]) -> bool
+    ensures { λ r. ⌜ r ≡ okOutput (now (x .entry)) ⌝ }
+{
+    if 512 < x.len() {
+        return false;
+    }
+    rows::clean(x)
 }
 
 // ---- mode

@@ -6,11 +6,10 @@ use mathlib.Core.Bool.{Bool, true, false, _&&_}
 use mathlib.Core.List.{List, []}
 use mathlib.Core.Option.{none, some}
 use lib.ListN.{length, take, drop}
-use Rattle.bits.specs.Bits.{numberAt}
 use Rattle.entries.specs.Parse.{Parse, got, bad, bind, keep}
 use Rattle.rows.proofs.Readers.{head-cut, head-whole}
-use Rattle.outcome.specs.Head.{Head, closedOf, headOf}
-use Rattle.outcome.specs.State.{State, okHead, ownerOn, parts, apart, ended, decode}
+use Rattle.outcome.specs.Head.{Head, headerSize, closedOf, headOf}
+use Rattle.outcome.specs.State.{State, okHead, outputOn, parts, apart, ended, decode}
 use Rattle.outcome_check.specs.Counts.{Counted, okCounts}
 use Rattle.outcome_check.specs.declared.Counts.{Counts}
 
@@ -23,11 +22,14 @@ headBy head c =
       group = c .group;
       modeSet = c .«mode_set»;
       mode = c .mode;
-      priority = numberAt head 35 32;
+      priority = headOf head .priority;
       links = c .links;
       properties = c .properties;
       tags = c .tags;
       runs = c .runs;
+      output = c .output;
+      watch = c .watch;
+      unused = c .unused;
     }
 
 pub head-by : (head : List ℕ) (c : Counts) → Counted head c → headBy head c ≡ headOf head
@@ -40,28 +42,31 @@ head-by head c w =
       group = w .group i;
       modeSet = w .modeSet i;
       mode = w .mode i;
-      priority = numberAt head 35 32;
+      priority = headOf head .priority;
       links = w .links i;
       properties = w .properties i;
       tags = w .tags i;
       runs = w .runs i;
+      output = w .output i;
+      watch = w .watch i;
+      unused = w .unused i;
     }
 
 -- ---- the record from its header on
 
 module _ (k : ℕ) (l : List ℕ) where
-  pub short-record : length l < 11 → decode k l ≡ none
+  pub short-record : length l < headerSize → decode k l ≡ none
   unfolding decode
-  short-record h = rw (head-cut 11 l h)
+  short-record h = rw (head-cut headerSize l h)
 
-  module _ (h : 11 ≤ length l) (c : Counts) (w : Counted (take 11 l) c) where
+  module _ (h : headerSize ≤ length l) (c : Counts) (w : Counted (take headerSize l) c) where
     pub bad-header : okCounts c ≡ false → decode k l ≡ none
     unfolding decode
-    bad-header e = rw (head-whole 11 l h, sym (ap okHead (head-by (take 11 l) c w)) ∙ e)
+    bad-header e = rw (head-whole headerSize l h, sym (ap okHead (head-by (take headerSize l) c w)) ∙ e)
 
-    pub from-header : okCounts c ≡ true → decode k l ≡ ended (ownerOn k (headOf (take 11 l)) (drop 11 l))
+    pub from-header : okCounts c ≡ true → decode k l ≡ ended (outputOn k (headOf (take headerSize l)) (drop headerSize l))
     unfolding decode
-    from-header e = rw (head-whole 11 l h, sym (ap okHead (head-by (take 11 l) c w)) ∙ e)
+    from-header e = rw (head-whole headerSize l h, sym (ap okHead (head-by (take headerSize l) c w)) ∙ e)
 
 -- ---- at the end
 

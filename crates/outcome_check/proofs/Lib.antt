@@ -1,5 +1,5 @@
 pub mod Runs
-pub mod Owner
+pub mod HeadTexts
 pub mod Parts
 pub mod Heads
 pub mod Answers

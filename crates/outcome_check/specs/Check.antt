@@ -9,19 +9,31 @@ use lib.Dec.{eqb}
 use lib.ListN.{length, take, drop}
 use Rattle.lists.specs.Bytes.{distinct}
 use Rattle.bits.specs.Bits.{numberAt}
-use Rattle.entries.specs.Parse.{got}
+use Rattle.entries.specs.Parse.{Parse, got, bind}
 use Rattle.rows.specs.Row.{Row, names}
 use Rattle.rows.specs.declared.Kind.the-variants as kind
 use Rattle.bits.specs.Fields.{flagAt}
-use Rattle.outcome.specs.Head.{headOf}
-use Rattle.outcome.specs.State.{State, okRun, ownerOn, apart, ended}
+use Rattle.outcome.specs.Head.{headerSize, headOf}
+use Rattle.outcome.specs.Content.{okOwner, okOutput}
+use Rattle.outcome.specs.State.{State, okRun, oneSized, outputOn, apart, ended}
 use Rattle.outcome_check.specs.declared.Counts.{Counts}
 use Rattle.outcome_target.specs.Layout.{layoutOf}
 use Rattle.outcome_target.specs.declared.Layout.{Layout}
+use Rattle.outcome_check.specs.declared.HeadText.{HeadText}
+use Rattle.outcome_check.specs.declared.HeadText.the-variants as text
 use Rattle.outcome_check.specs.declared.PartsRead.{PartsRead}
 use Rattle.outcome_check.specs.declared.PartsRead.the-variants as parts
 use Rattle.outcome_check.specs.declared.Checked.{Checked}
 use Rattle.outcome_check.specs.declared.Checked.the-variants.{Sound, Faulty}
+
+-- the test of a text whose length the header gives
+abbrev pub okHeadText : HeadText → List ℕ → Bool
+okHeadText text.Output x = okOutput x
+okHeadText text.Name x = okOwner x
+
+-- output, owner and group, one behind the other
+abbrev pub front : Counts → List ℕ → Parse (List ℕ)
+front c bs = bind (oneSized okOutput (c .output) bs) (λ x q. bind (oneSized okOwner (c .owner) q) (λ o r. oneSized okOwner (c .group) r))
 
 -- the test of a run, by its head and its template
 abbrev pub okRunOf : ℕ → List ℕ → List ℕ → Bool
@@ -45,8 +57,8 @@ apartIn l c lay =
 
 -- the parts behind the header: a state was read and nothing is left; or there is none
 abbrev pub PartsAre : ℕ → List ℕ → Counts → PartsRead → Type 0
-PartsAre n l c (parts.Read lay) = (s : State) × (ownerOn n (headOf (take 11 l)) (drop 11 l) ≡ got s []) × (lay ≡ layoutOf s) × Standing l c lay × (apartIn l c lay ≡ apart s)
-PartsAre n l c parts.Faulty = ended (ownerOn n (headOf (take 11 l)) (drop 11 l)) ≡ none
+PartsAre n l c (parts.Read lay) = (s : State) × (outputOn n (headOf (take headerSize l)) (drop headerSize l) ≡ got s []) × (lay ≡ layoutOf s) × Standing l c lay × (apartIn l c lay ≡ apart s)
+PartsAre n l c parts.Faulty = ended (outputOn n (headOf (take headerSize l)) (drop headerSize l)) ≡ none
 
 abbrev pub checkedOf : Option State → Checked
 checkedOf none = Faulty

@@ -1,6 +1,7 @@
 // The outcome record checked where it lies (refusal 4): its header, its parts in their order, nothing behind them, no entry twice.
 
 use bits::BitCursor;
+use outcome_target::HEADER;
 use outcome_target::Layout;
 use outcome_target::Texts;
 use rows::EntryRead;
@@ -14,10 +15,11 @@ ghost use lib.ListN.{length, take, drop};
 ghost use Rattle.entries.specs.Parse.{many};
 ghost use Rattle.entries.specs.Entry.{oneText};
 ghost use Rattle.rows.specs.Row.{endOf};
-ghost use Rattle.outcome.specs.State.{oneOwner, oneRun, decode};
+ghost use Rattle.outcome.specs.Head.{headerSize};
+ghost use Rattle.outcome.specs.State.{oneSized, oneRun, decode};
 ghost use Rattle.outcome_check.specs.Counts.{Counted, okCounts};
 ghost use Rattle.outcome_target.specs.Texts.{okOf};
-ghost use Rattle.outcome_check.specs.Check.{okRunOf, PartsAre, Standing, apartIn, checkedOf};
+ghost use Rattle.outcome_check.specs.Check.{okHeadText, front, okRunOf, PartsAre, Standing, apartIn, checkedOf};
 
 // ---- the header
 
@@ -32,23 +34,29 @@ pub struct Counts {
     pub properties: usize,
     pub tags: usize,
     pub runs: usize,
+    pub output: usize,
+    pub watch: usize,
+    pub unused: usize,
 }
 
 pub fn counts_in(head: &[u8]) -> Counts
-    requires { ⌜ 11 ≤ length (now head) ⌝ }
+    requires { ⌜ headerSize ≤ length (now head) ⌝ }
     ensures { λ r. ⌜ Counted (now (head .entry)) r ⌝ }
 {
-    let edition = BitCursor { at: 0 }.take(head, 4);
+    let edition = BitCursor { at: 0 }.take(head, outcome_target::EDITION.bits);
     let closed = edition.next.take(head, 6);
-    let owner = closed.next.take(head, 6);
-    let group = owner.next.take(head, 6);
-    let mode_set = group.next.take(head, 1);
-    let mode = mode_set.next.take(head, 12);
-    let priority = mode.next.take(head, 32);
-    let links = priority.next.take(head, 5);
-    let properties = links.next.take(head, 6);
-    let tags = properties.next.take(head, 5);
-    let runs = tags.next.take(head, 5);
+    let owner = closed.next.take(head, outcome_target::OWNER.bits);
+    let group = owner.next.take(head, outcome_target::GROUP.bits);
+    let mode_set = group.next.take(head, outcome_target::MODE_SET.bits);
+    let mode = mode_set.next.take(head, outcome_target::MODE.bits);
+    let priority = mode.next.take(head, outcome_target::PRIORITY.bits);
+    let links = priority.next.take(head, outcome_target::LINKS.bits);
+    let properties = links.next.take(head, outcome_target::PROPERTIES.bits);
+    let tags = properties.next.take(head, outcome_target::TAGS.bits);
+    let runs = tags.next.take(head, outcome_target::RUNS.bits);
+    let output = runs.next.take(head, outcome_target::OUTPUT.bits);
+    let watch = output.next.take(head, outcome_target::WATCH.bits);
+    let unused = watch.next.take(head, 4);
     Counts {
         edition: edition.value,
         owner: owner.value,
@@ -59,6 +67,9 @@ pub fn counts_in(head: &[u8]) -> Counts
         properties: properties.value,
         tags: tags.value,
         runs: runs.value,
+        output: output.value,
+        watch: watch.value,
+        unused: unused.value,
     }
 }
 
@@ -71,11 +82,17 @@ fn ok_mode(set: usize, mode: usize) -> bool
     mode == 0
 }
 
-// Edition 1, no mode without its mark, none that lets others write, no more than there may be of each.
+// Edition 2, watch set or not, unused bits zero, no mode without its mark, none that lets others write, no more than there may be of each.
 fn ok_counts(c: Counts) -> bool
     ensures { λ r. ⌜ r ≡ okCounts c ⌝ }
 {
-    if c.edition != 1 {
+    if c.edition != 2 {
+        return false;
+    }
+    if 2 < c.watch {
+        return false;
+    }
+    if c.unused != 0 {
         return false;
     }
     if !ok_mode(c.mode_set, c.mode) {
@@ -98,18 +115,47 @@ fn ok_counts(c: Counts) -> bool
 
 // ---- the parts
 
-// The place behind an owner or a group of k bytes at `at`.
-fn check_owner(rec: &[u8], at: usize, k: usize) -> RowEnd
+// The texts whose lengths the header gives: the output, and names, which are the owner and the group.
+pub enum HeadText {
+    Output,
+    Name,
+}
+
+fn ok_head_text(text: HeadText, x: &[u8]) -> bool
+    ensures { λ r. ⌜ r ≡ okHeadText text (now (x .entry)) ⌝ }
+{
+    match text {
+        HeadText::Output => content::ok_output(x),
+        HeadText::Name => content::ok_owner(x),
+    }
+}
+
+// The place behind such a text of k bytes at `at`.
+fn check_head_text(rec: &[u8], at: usize, k: usize, text: HeadText) -> RowEnd
     requires { ⌜ at ≤ length (now rec) ⌝ }
-    ensures { λ r. ⌜ r ≡ endOf (length (now (rec .entry))) (oneOwner k (drop at (now (rec .entry)))) ⌝ }
+    ensures { λ r. ⌜ r ≡ endOf (length (now (rec .entry))) (oneSized (okHeadText text) k (drop at (now (rec .entry)))) ⌝ }
 {
     if rec.len() - at < k {
         return RowEnd::Bad;
     }
-    if !content::ok_owner(&rec[at..at + k]) {
+    if !ok_head_text(text, &rec[at..at + k]) {
         return RowEnd::Bad;
     }
     RowEnd::At(at + k)
+}
+
+// The place behind output, owner and group.
+fn check_front(rec: &[u8], c: Counts) -> RowEnd
+    requires { ⌜ headerSize ≤ length (now rec) ⌝ }
+    ensures { λ r. ⌜ r ≡ endOf (length (now (rec .entry))) (front c (drop headerSize (now (rec .entry)))) ⌝ }
+{
+    let RowEnd::At(owner) = check_head_text(rec, HEADER, c.output, HeadText::Output) else {
+        return RowEnd::Bad;
+    };
+    let RowEnd::At(group) = check_head_text(rec, owner, c.owner, HeadText::Name) else {
+        return RowEnd::Bad;
+    };
+    check_head_text(rec, group, c.group, HeadText::Name)
 }
 
 fn ok_entry(list: Texts, x: &[u8]) -> bool
@@ -195,13 +241,10 @@ pub enum PartsRead {
 
 // The parts behind the header, up to the record's end.
 fn check_parts(rec: &[u8], c: Counts, chain: usize) -> PartsRead
-    requires { ⌜ (11 ≤ length (now rec)) × Counted (take 11 (now rec)) c ⌝ }
+    requires { ⌜ (headerSize ≤ length (now rec)) × Counted (take headerSize (now rec)) c ⌝ }
     ensures { λ r. ⌜ PartsAre chain (now (rec .entry)) c r ⌝ }
 {
-    let RowEnd::At(group) = check_owner(rec, 11, c.owner) else {
-        return PartsRead::Faulty;
-    };
-    let RowEnd::At(links) = check_owner(rec, group, c.group) else {
+    let RowEnd::At(links) = check_front(rec, c) else {
         return PartsRead::Faulty;
     };
     let RowEnd::At(properties) = check_texts(rec, links, c.links, Texts::Links) else {
@@ -251,10 +294,10 @@ pub enum Checked {
 pub fn check(rec: &[u8], chain: usize) -> Checked
     ensures { λ r. ⌜ r ≡ checkedOf (decode chain (now (rec .entry))) ⌝ }
 {
-    if rec.len() < 11 {
+    if rec.len() < HEADER {
         return Checked::Faulty;
     }
-    let c = counts_in(&rec[0..11]);
+    let c = counts_in(&rec[0..HEADER]);
     if !ok_counts(c) {
         return Checked::Faulty;
     }
