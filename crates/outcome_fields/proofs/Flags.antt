@@ -1,9 +1,9 @@
--- The header of a held record with a flag, the mode or the priority put anew.
+-- The header of a held record with a flag, the mode, the priority or watch put anew.
 -- Assumes nothing.
-use Prim.Native.Nat.{ℕ, _<_}
+use Prim.Native.Nat.{ℕ, _≤_, _<_}
 use mathlib.Core.Path.{_≡_, refl, sym, ap, _∙_}
 use mathlib.Core.Bool.{Bool}
-use mathlib.Core.List.{List}
+use mathlib.Core.List.{List, _++_}
 use native.Mathlib.Omega.{arith}
 use lib.Dec.{eqb}
 use lib.ListN.{length}
@@ -11,8 +11,8 @@ use Rattle.lists.specs.Bytes.{Bytes}
 use Rattle.bits.specs.Bits.{numberAt, putAt}
 use Rattle.outcome.specs.Head.{Head}
 use Rattle.outcome.specs.State.{State, ModeBits, headFor, body}
-use Rattle.outcome.specs.Change.{withMode, withPriority}
-use Rattle.outcome.proofs.Change.{closed-good, mode-good, priority-good}
+use Rattle.outcome.specs.Change.{withMode, withPriority, withWatch}
+use Rattle.outcome.proofs.Change.{closed-good, mode-good, priority-good, watch-good}
 use Rattle.outcome_target.specs.Layout.{layoutOf}
 use Rattle.outcome_target.specs.Held.{Held}
 use Rattle.outcome_target.specs.declared.Layout.{Layout}
@@ -50,6 +50,12 @@ module _ (n : ℕ) (l : List ℕ) (lay : Layout) (s : State) (w : Held n l lay s
     unfolding layoutOf
     priority-put z h e = header-changed n l lay s w (withPriority s z) (headFor s) 11 z l v refl refl (priority-good n s (w .good) z h) (omega arith) (held-header n l lay s w) b refl e k
 
+    -- ---- watch
+
+    pub watch-put : (z : ℕ) → z ≤ 2 → v ≡ putAt l 98 2 z → Held n v lay (withWatch s z)
+    unfolding layoutOf
+    watch-put z h e = header-changed n l lay s w (withWatch s z) (headFor s) 17 z l v refl refl (watch-good n s (w .good) z h) (omega arith) (held-header n l lay s w) b refl e k
+
   -- ---- mode
 
   -- the header once the mode is marked
@@ -68,11 +74,14 @@ module _ (n : ℕ) (l : List ℕ) (lay : Layout) (s : State) (w : Held n l lay s
         properties = h .properties;
         tags = h .tags;
         runs = h .runs;
+        output = h .output;
+        watch = h .watch;
+        unused = h .unused;
       }
 
   pub mode-put : (m : ℕ) → ModeBits m → (u v : List ℕ) → Bytes l → u ≡ putAt l 22 1 1 → Bytes u → v ≡ putAt u 23 12 m → length v ≡ length l → Held n v lay (withMode s m)
   unfolding layoutOf
   mode-put m h u v b e c f k =
       header-changed n l lay s w (withMode s m) marked 10 m u v refl refl (mode-good n s (w .good) m h) (omega arith)
-      (put-header (headFor s) marked 9 1 (length l) (body s) l u (omega arith) refl (held-header n l lay s w) b e)
+      (put-header (headFor s) marked 9 1 (length l) (s .output ++ body s) l u (omega arith) refl (held-header n l lay s w) b e)
       c refl f k

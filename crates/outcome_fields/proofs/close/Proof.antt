@@ -21,7 +21,7 @@ returns : tie.Need-returns
 returns c =
     let a = c .before .before .before .before .before .before .args in
     let put-field = c .before .before .put-field in
-    λ n lay s w. flag-put n (a .t .now) lay s w (λ i. c .before .before .before .before .before .slice-known .given i .fits) (put-field .last .0) (put-field .kept .0) (a .key) (put-field .ensures ∙ ap (λ (p : ℕ). putAt (a .t .now) p 1 1) (c .before .before .before .flag-place .ensures .0))
+    λ n lay s w. flag-put n (a .t .now) lay s w (λ i. c .before .before .before .before .before .slice-known .given i .fits) (put-field .last .0) (put-field .kept .0) (a .key) (put-field .ensures ∙ ap (λ (p : ℕ). putAt (a .t .now) p 1 1) (c .before .before .before .before .flag-place .ensures .0))
 
 pub close-spec : {M : Type 1} → statement M
 close-spec = tie.close (tie.spec flag-place-requires put-field-requires same-length returns)
