@@ -8,6 +8,7 @@ use native.Mathlib.Omega.{arith}
 use lib.ListN.{length, drop, length-append}
 use Rattle.lists.specs.Lists.{all, cat, reject}
 use Rattle.lists.specs.Bytes.{sameBytes, among, distinct}
+use Rattle.lists.specs.Sizes.{fullestOutcome}
 use Rattle.lists.proofs.Tests.{and-both}
 use Rattle.lists.proofs.Lists.{all-split, cat-append}
 use Rattle.lists.proofs.Edits.{reject-none, reject-one}
@@ -33,7 +34,7 @@ pub record Cuts (lay : Layout) (part : Section) (room p v k : ℕ) : Type 0 wher
   pub over : p ≤ v + k
   pub within : p + (v + k - p) ≤ endOf lay part
   pub end : lay .end ≤ room
-  pub most : lay .end ≤ 17611
+  pub most : lay .end ≤ fullestOutcome
 
 -- the size of an entry by its parts
 entry-size : {A : Type 0} {kind : Kind} {enc nm rs : A → List ℕ} {ok : A → Bool} → Written A kind enc nm rs ok → (a : A) → ok a ≡ true → length (enc a) ≡ headLen kind + length (nm a) + length (rs a)

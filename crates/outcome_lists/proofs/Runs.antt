@@ -10,6 +10,7 @@ use lib.ListN.{length}
 use Rattle.lists.specs.Lists.{cat}
 use Rattle.lists.specs.Checked.{Checked, refused, ok, Holds}
 use Rattle.lists.specs.Refusal.{Refusal, list-full}
+use Rattle.lists.specs.Sizes.{fullestOutcome}
 use Rattle.lists.proofs.Moves.{ap-at}
 use Rattle.bits.specs.Bits.{numberAt}
 use Rattle.bits.specs.Fields.{bit}
@@ -75,7 +76,7 @@ pub record Whole (lay : Layout) (part : Section) (room : ℕ) : Type 0 where
   pub rising : Rising lay
   pub within : startOf lay part ≤ endOf lay part
   pub end : lay .end ≤ room
-  pub most : lay .end ≤ 17611
+  pub most : lay .end ≤ fullestOutcome
 
 pub whole : (n : ℕ) (l : List ℕ) (lay : Layout) (s : State) → Held n l lay s → (part : Section) → Whole lay part (length l)
 whole n l lay s w part =

@@ -6,11 +6,12 @@ use mathlib.Core.List.{List, [], _∷_, _++_, append-nil, append-assoc}
 use native.Mathlib.Omega.{arith}
 use lib.ListN.{length, length-append}
 use Rattle.lists.specs.Lists.{cat}
+use Rattle.lists.specs.Sizes.{fullestOutcome}
 use Rattle.lists.proofs.Lists.{cat-append}
 use Rattle.bits.specs.Bits.{putAt}
 use Rattle.splice.specs.Moves.{inserted, removed, padded}
 use Rattle.entries.proofs.Heads.{placeOf, widthOf}
-use Rattle.outcome.specs.Head.{fields, header}
+use Rattle.outcome.specs.Head.{fields, headerSize, header}
 use Rattle.outcome.specs.State.{State, Good, headFor, encode}
 use Rattle.outcome.proofs.Head.{header-length}
 use Rattle.outcome.proofs.Fits.{fits}
@@ -25,14 +26,14 @@ use Rattle.outcome_target.proofs.Changes.{part-removed, part-inserted}
 use Rattle.row_edits.specs.Edits.{Grown, Cut}
 
 -- the length of a record by its parts
-laid-size : (h f m b e : List ℕ) → length h ≡ 11 → m ≡ e → length (h ++ (f ++ (m ++ b))) ≡ 11 + (length f + (length e + length b))
+laid-size : (h f m b e : List ℕ) → length h ≡ headerSize → m ≡ e → length (h ++ (f ++ (m ++ b))) ≡ headerSize + (length f + (length e + length b))
 laid-size h f m b e k q = rw q (simp length-append (omega arith))
 
 -- what an entry needs behind the last of a row
 pub record Room (lay : Layout) (room k : ℕ) : Type 0 where
   pub rising : Rising lay
   pub fits : lay .end + k ≤ room
-  pub most : lay .end + k ≤ 17611
+  pub most : lay .end + k ≤ fullestOutcome
 
 module _ {A : Type 0} {part : Section} {enc : A → List ℕ} {list : State → List A} {anew : State → List A → State} (T : RowOf A part enc list anew)
     (n : ℕ) (l : List ℕ) (lay : Layout) (s : State) (w : Held n l lay s) where
@@ -42,14 +43,14 @@ module _ {A : Type 0} {part : Section} {enc : A → List ℕ} {list : State → 
       let xs : List A = list s ++ (x ∷ []) in
       let h : ℕ = length (T .frame .front s) in
       let b : ℕ = length (T .frame .back s) in
-      let old : lay .end ≡ 11 + (h + (length (cat enc (list s)) + b)) =
+      let old : lay .end ≡ headerSize + (h + (length (cat enc (list s)) + b)) =
       ap (λ (j : Layout). j .end) (w .layout)
       ∙ layout-end s
       ∙ ap length (by-part (T .frame) s)
       ∙ laid-size (header (headFor s)) (T .frame .front s) (T .frame .bytes (T .frame .get s)) (T .frame .back s) (cat enc (list s)) (header-length (headFor s))
       (T .written (T .frame .get s) ∙ ap (cat enc) (T .gets s))
       in
-      let new : length (encode (anew s xs)) ≡ 11 + (h + (length (cat enc xs) + b)) =
+      let new : length (encode (anew s xs)) ≡ headerSize + (h + (length (cat enc xs) + b)) =
       ap (λ (j : State). length (encode j)) (sym (T .puts s xs))
       ∙ ap length (T .frame .laid s xs)
       ∙ laid-size (header (headFor (T .frame .put s xs))) (T .frame .front s) (T .frame .bytes xs) (T .frame .back s) (cat enc xs) (header-length (headFor (T .frame .put s xs))) (T .written xs)
@@ -58,8 +59,8 @@ module _ {A : Type 0} {part : Section} {enc : A → List ℕ} {list : State → 
       ap length (cat-append enc (list s) (x ∷ []) ∙ ap (λ (y : List ℕ). cat enc (list s) ++ y) (append-nil (enc x)))
       ∙ length-append (cat enc (list s)) (enc x)
       in
-      let f : length (encode (anew s xs)) ≤ 17611 = fits n (anew s xs) good in
-      let r : 17611 ≤ length l = w .room in
+      let f : length (encode (anew s xs)) ≤ fullestOutcome = fits n (anew s xs) good in
+      let r : fullestOutcome ≤ length l = w .room in
       record { rising = held-rising n l lay s w; fits = omega arith; most = omega arith }
 
 module _ {A : Type 0} {part : Section} {enc : A → List ℕ} {list : State → List A} {anew : State → List A → State} (T : RowOf A part enc list anew)
@@ -106,7 +107,7 @@ module _ {A : Type 0} {part : Section} {enc : A → List ℕ} {list : State → 
       → Cut l lay part at k m l′ lay′ → Good n (anew s (a ++ b)) → Held n l′ lay′ (anew s (a ++ b))
   cut-held a g b at k m e p q c t good =
       let xs : List A = a ++ b in
-      let p₀ : at ≡ 11 + length (T .frame .front s) + length (cat enc a) = p ∙ ap (λ (i : ℕ). i + length (cat enc a)) (row-start T n l lay s w) in
+      let p₀ : at ≡ headerSize + length (T .frame .front s) + length (cat enc a) = p ∙ ap (λ (i : ℕ). i + length (cat enc a)) (row-start T n l lay s w) in
       subst (λ (j : Layout). Held n l′ j (anew s xs)) (sym (t .layout ∙ ap (λ (i : ℕ). movedBy lay part i 0) q))
       (subst (Held n l′ (movedBy lay part (length (cat enc g)) 0)) (T .puts s xs)
       (part-removed n l lay s w (T .frame) (cat enc a) (cat enc g) [] (cat enc b) xs
@@ -149,7 +150,7 @@ module _ {A : Type 0} {part : Section} {enc : A → List ℕ} {list : State → 
 
     pub entry-end : length (ahead a) + length (enc g) + length (after b) ≡ lay .end
     entry-end =
-        let x : lay .end ≡ 11 + (length (T .frame .front s) + (length (cat enc a ++ (enc g ++ cat enc b)) + length (T .frame .back s))) =
+        let x : lay .end ≡ headerSize + (length (T .frame .front s) + (length (cat enc a ++ (enc g ++ cat enc b)) + length (T .frame .back s))) =
         ap (λ (j : Layout). j .end) (w .layout)
         ∙ layout-end s
         ∙ ap length (by-part (T .frame) s)
@@ -160,16 +161,16 @@ module _ {A : Type 0} {part : Section} {enc : A → List ℕ} {list : State → 
 
     module _ (y : A) (good : Good n (anew s (a ++ (y ∷ b)))) where
       -- there is room for it
-      pub exchanged-room : lay .end + length (enc y) ≤ 17611 + length (enc g)
+      pub exchanged-room : lay .end + length (enc y) ≤ fullestOutcome + length (enc g)
       exchanged-room =
           let xs : List A = a ++ (y ∷ b) in
-          let new : length (encode (anew s xs)) ≡ 11 + (length (T .frame .front s) + (length (cat enc a ++ (enc y ++ cat enc b)) + length (T .frame .back s))) =
+          let new : length (encode (anew s xs)) ≡ headerSize + (length (T .frame .front s) + (length (cat enc a ++ (enc y ++ cat enc b)) + length (T .frame .back s))) =
           ap (λ (j : State). length (encode j)) (sym (T .puts s xs))
           ∙ ap length (T .frame .laid s xs)
           ∙ laid-size (header (headFor (T .frame .put s xs))) (T .frame .front s) (T .frame .bytes xs) (T .frame .back s) (cat enc a ++ (enc y ++ cat enc b)) (header-length (headFor (T .frame .put s xs)))
           (T .written xs ∙ cat-append enc a (y ∷ b))
           in
-          let f : length (encode (anew s xs)) ≤ 17611 = fits n (anew s xs) good in
+          let f : length (encode (anew s xs)) ≤ fullestOutcome = fits n (anew s xs) good in
           omega (arith, entry-end, entry-start, row-start T n l lay s w, length-append (cat enc b) (T .frame .back s), length-append (cat enc a) (enc y ++ cat enc b), length-append (enc y) (cat enc b))
 
       pub exchanged-held : (l′ : List ℕ) → length l′ ≡ length l → l′ ≡ padded (length l) (ahead a ++ (enc y ++ after b))

@@ -6,6 +6,7 @@ use outcome_target::Section;
 ghost use mathlib.Core.Path.{_≡_};
 ghost use Prim.Native.Nat.{_+_, _≤_, _<_};
 ghost use lib.ListN.{length};
+ghost use Rattle.lists.specs.Sizes.{fullestOutcome};
 ghost use Rattle.bits.specs.Fields.{packed};
 ghost use Rattle.splice.specs.Moves.{inserted};
 ghost use Rattle.entries.specs.Entry.{encText, propFields, encProp};
@@ -73,7 +74,7 @@ fn insert_run(t: &mut [u8], at: usize, used: usize, builtin: usize, place: usize
 
 // A text behind the last of n entries of a row.
 pub fn append_text(t: &mut [u8], layout: Layout, section: Section, n: usize, x: &[u8]) -> Layout
-    requires { ⌜ Rising layout × (layout .end + (1 + length (now x)) ≤ length (now t)) × (length (now x) < 256) × (n < 64) × (layout .end ≤ 17611) ⌝ }
+    requires { ⌜ Rising layout × (layout .end + (1 + length (now x)) ≤ length (now t)) × (length (now x) < 256) × (n < 64) × (layout .end ≤ fullestOutcome) ⌝ }
     ensures { λ r. ⌜ Grown (now (t .entry)) layout section (n + 1) (encText (now (x .entry))) (now (t .exit)) r ⌝ }
 {
     let at = outcome_target::end_of(layout, section);
@@ -83,7 +84,7 @@ pub fn append_text(t: &mut [u8], layout: Layout, section: Section, n: usize, x: 
 }
 
 pub fn append_property(t: &mut [u8], layout: Layout, n: usize, key: &[u8], value: &[u8]) -> Layout
-    requires { ⌜ Rising layout × (layout .end + (2 + length (now key) + length (now value)) ≤ length (now t)) × (n < 64) × (layout .end + (length (now key) + length (now value)) ≤ 17611) ⌝ }
+    requires { ⌜ Rising layout × (layout .end + (2 + length (now key) + length (now value)) ≤ length (now t)) × (n < 64) × (layout .end + (length (now key) + length (now value)) ≤ fullestOutcome) ⌝ }
     ensures { λ r. ⌜ Grown (now (t .entry)) layout Section.Properties (n + 1) (encProp (record { key = now (key .entry); value = now (value .entry) })) (now (t .exit)) r ⌝ }
 {
     insert_property(t, layout.tags, layout.end, key, value);
@@ -99,7 +100,7 @@ pub fn append_run(
     place: usize,
     template: &[u8],
 ) -> Layout
-    requires { ⌜ Rising layout × (layout .end + (2 + length (now template)) ≤ length (now t)) × (n < 64) × (layout .end + length (now template) ≤ 17611) ⌝ }
+    requires { ⌜ Rising layout × (layout .end + (2 + length (now template)) ≤ length (now t)) × (n < 64) × (layout .end + length (now template) ≤ fullestOutcome) ⌝ }
     ensures { λ r. ⌜ Grown (now (t .entry)) layout Section.Runs (n + 1) (encodedRun builtin place (now (template .entry))) (now (t .exit)) r ⌝ }
 {
     insert_run(t, layout.end, layout.end, builtin, place, template);
@@ -109,7 +110,7 @@ pub fn append_run(
 
 // The k bytes at `at` go, and n entries stay.
 pub fn cut(t: &mut [u8], layout: Layout, section: Section, at: usize, k: usize, n: usize) -> Layout
-    requires { ⌜ Rising layout × (at + k ≤ endOf layout section) × (layout .end ≤ length (now t)) × (layout .end ≤ 17611) ⌝ }
+    requires { ⌜ Rising layout × (at + k ≤ endOf layout section) × (layout .end ≤ length (now t)) × (layout .end ≤ fullestOutcome) ⌝ }
     ensures { λ r. ⌜ Cut (now (t .entry)) layout section at k n (now (t .exit)) r ⌝ }
 {
     splice::remove(t, at, layout.end, k);
