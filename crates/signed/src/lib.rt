@@ -79,6 +79,8 @@ pub fn integer_of(s: &[u8]) -> NumberRead
 pub enum SettingRead {
     EscapeNone,
     EscapeReplace,
+    Watch,
+    NoWatch,
     Priority(i32),
     Faulty,
 }
@@ -112,6 +114,12 @@ pub fn setting_of(value: &[u8]) -> SettingRead
     }
     if scan::same(value, b"string_escape=replace") {
         return SettingRead::EscapeReplace;
+    }
+    if scan::same(value, b"watch") {
+        return SettingRead::Watch;
+    }
+    if scan::same(value, b"nowatch") {
+        return SettingRead::NoWatch;
     }
     if starts_with(value, b"link_priority=") {
         return priority_of(value);
