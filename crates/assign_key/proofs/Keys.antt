@@ -24,7 +24,7 @@ use Rattle.signed.specs.declared.SettingRead.the-variants as setting
 use Rattle.refusals.specs.declared.Refusal.{Refusal}
 use Rattle.device.specs.Device.{Device}
 use Rattle.outcome.specs.State.{State}
-use Rattle.outcome.specs.Change.{withPriority}
+use Rattle.outcome.specs.Change.{withPriority, withWatch}
 use Rattle.outcome_fields.specs.Fields.{flag}
 use Rattle.outcome_fields.specs.declared.Closable.{Closable}
 use Rattle.outcome_fields.specs.declared.Closable.the-variants as closable
@@ -75,6 +75,12 @@ module _ (v : List ℕ) (s : State) (e : Escape) (r : SettingRead) (h : signed.s
 
   pub option-replace : r ≡ setting.EscapeReplace → setBy (settingOf v) (workOf s e) ≡ workOf s escape.Replaced
   option-replace q = by setting.EscapeReplace q
+
+  pub option-watch : r ≡ setting.Watch → setBy (settingOf v) (workOf s e) ≡ workOf (withWatch s 1) e
+  option-watch q = by setting.Watch q
+
+  pub option-nowatch : r ≡ setting.NoWatch → setBy (settingOf v) (workOf s e) ≡ workOf (withWatch s 2) e
+  option-nowatch q = by setting.NoWatch q
 
   -- a priority has 32 bits
   priority-fits : (z : ℤ) → r ≡ setting.Priority z → SFits w32 z

@@ -183,6 +183,14 @@ fn assign_option(t: &mut [u8], work: Work, value: &[u8]) -> Work
             layout,
             escape: Escape::Replaced,
         },
+        SettingRead::Watch => {
+            outcome_fields::set_watch(t, 1);
+            Work { layout, escape }
+        }
+        SettingRead::NoWatch => {
+            outcome_fields::set_watch(t, 2);
+            Work { layout, escape }
+        }
         SettingRead::Priority(priority) => {
             outcome_fields::set_priority(t, bits::from_signed(priority) as usize);
             Work { layout, escape }

@@ -2,6 +2,7 @@
 ghost use Prim.Native.Nat.{_≤_};
 ghost use Rattle.keys.specs.Table.{operatorOf};
 ghost use Rattle.engine.specs.Assign.{closing};
+ghost use Rattle.outcome.specs.Head.{headerSize};
 ghost use Rattle.outcome_target.specs.Held.{Holds, Changed};
 ghost use Rattle.outcome_fields.specs.Fields.{shut, Rewritten};
 ghost use Rattle.assign_operators.specs.Begun.{begun};
@@ -26,7 +27,7 @@ pub fn begin(t: &mut [u8], layout: Layout, section: Section, operator: Operator)
 }
 
 pub fn finish(t: &mut [u8], key: Closable, operator: Operator)
-    requires { ⌜ 11 ≤ length (now t) ⌝ }
+    requires { ⌜ headerSize ≤ length (now t) ⌝ }
     ensures { λ _. ⌜ Rewritten (closing (operatorOf operator) (shut key)) (now (t .entry)) (now (t .exit)) ⌝ }
 {
     match operator {

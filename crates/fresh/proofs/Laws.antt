@@ -13,6 +13,7 @@ use Rattle.lists.specs.Lists.{cat, isSome}
 use Rattle.lists.specs.Bytes.{Bytes}
 use Rattle.lists.specs.Checked.{line}
 use Rattle.lists.specs.Refusal.{target-short, device-bad}
+use Rattle.lists.specs.Sizes.{fullestOutcome}
 use Rattle.lists.proofs.Moves.{ap-at}
 use Rattle.bits.specs.Bits.{putAt, bytesOf, fromBits, toBits}
 use Rattle.bits.specs.Fields.{packed}
@@ -24,7 +25,7 @@ use Rattle.text.specs.Run.{refusal, acceptance}
 use Rattle.device.specs.Head as head
 use Rattle.device.specs.Device as device
 use Rattle.device.specs.Device.{Device, chain}
-use Rattle.outcome.specs.Head.{Head, header}
+use Rattle.outcome.specs.Head.{Head, headerSize, header}
 use Rattle.outcome.specs.State.{encode, fresh, headFor, open-all}
 use Rattle.outcome.proofs.Head.{header-length}
 use Rattle.outcome.proofs.Fits.{encode-size, fits}
@@ -37,7 +38,7 @@ use Rattle.engine.specs.Operations as operations
 
 -- ---- the bytes
 
--- the header of no edition and no entries, then with edition 1, then with a count of properties
+-- the header of no edition and no entries, then with edition 2, then with a count of properties
 head-with : ℕ → ℕ → Head
 head-with edition properties =
     record {
@@ -52,35 +53,38 @@ head-with edition properties =
       properties = properties;
       tags = 0;
       runs = 0;
+      output = 0;
+      watch = 0;
+      unused = 0;
     }
 
-zeros : header (head-with 0 0) ≡ replicate 11 0
+zeros : header (head-with 0 0) ≡ replicate headerSize 0
 unfolding header head-with packed bytesOf fromBits toBits
 zeros = refl
 
-module _ (m : ℕ) (t₀ t₁ t₂ t₃ : List ℕ) (room : 11 ≤ m) (e₀ : t₀ ≡ replicate m 0) (b₀ : Bytes t₀) (e₁ : t₁ ≡ putAt t₀ 0 4 1) (b₁ : Bytes t₁) where
-  pub made : (d : Device) (n : ℕ) (x : List ℕ) → n ≡ length (d .properties) → x ≡ cat encProp (d .properties) → t₂ ≡ putAt t₁ 72 6 n → t₃ ≡ stored t₂ 11 x → t₃ ≡ padded m (encode (fresh d))
+module _ (m : ℕ) (t₀ t₁ t₂ t₃ : List ℕ) (room : headerSize ≤ m) (e₀ : t₀ ≡ replicate m 0) (b₀ : Bytes t₀) (e₁ : t₁ ≡ putAt t₀ 0 4 2) (b₁ : Bytes t₁) where
+  pub made : (d : Device) (n : ℕ) (x : List ℕ) → n ≡ length (d .properties) → x ≡ cat encProp (d .properties) → t₂ ≡ putAt t₁ 72 6 n → t₃ ≡ stored t₂ headerSize x → t₃ ≡ padded m (encode (fresh d))
   unfolding encode fresh head-with
   made d n x f g e₂ e₃ =
       let u₀ : t₀ ≡ padded m (header (head-with 0 0) ++ []) =
       e₀
-      ∙ ap-at (λ i. replicate i 0) m (11 + (m - 11)) (omega arith)
-      ∙ sym (replicate-append-replicate 11 (m - 11) 0)
+      ∙ ap-at (λ i. replicate i 0) m (headerSize + (m - headerSize)) (omega arith)
+      ∙ sym (replicate-append-replicate headerSize (m - headerSize) 0)
       ∙ ap (λ (z : List ℕ). z ++ replicate (m - length z) 0) (sym zeros ∙ sym (append-nil (header (head-with 0 0))))
       in
-      let u₁ : t₁ ≡ padded m (header (head-with 1 0) ++ []) = put-header (head-with 0 0) (head-with 1 0) 0 1 m [] t₀ t₁ (omega arith) refl u₀ b₀ e₁ in
-      let u₂ : t₂ ≡ padded m (header (head-with 1 n) ++ []) = put-header (head-with 1 0) (head-with 1 n) 13 n m [] t₁ t₂ (omega arith) refl u₁ b₁ e₂ in
-      let h : header (head-with 1 n) ++ [] ≡ header (headFor (fresh d)) = append-nil (header (head-with 1 n)) ∙ ap (λ (i : ℕ). header (head-with 1 i)) f in
+      let u₁ : t₁ ≡ padded m (header (head-with 2 0) ++ []) = put-header (head-with 0 0) (head-with 2 0) 0 2 m [] t₀ t₁ (omega arith) refl u₀ b₀ e₁ in
+      let u₂ : t₂ ≡ padded m (header (head-with 2 n) ++ []) = put-header (head-with 2 0) (head-with 2 n) 13 n m [] t₁ t₂ (omega arith) refl u₁ b₁ e₂ in
+      let h : header (head-with 2 n) ++ [] ≡ header (headFor (fresh d)) = append-nil (header (head-with 2 n)) ∙ ap (λ (i : ℕ). header (head-with 2 i)) f in
       e₃
-      ∙ append-padded (header (headFor (fresh d))) x m 11 t₂ (u₂ ∙ ap (padded m) h) (header-length (headFor (fresh d)))
+      ∙ append-padded (header (headFor (fresh d))) x m headerSize t₂ (u₂ ∙ ap (padded m) h) (header-length (headFor (fresh d)))
       ∙ ap (λ (z : List ℕ). padded m (header (headFor (fresh d)) ++ z)) (g ∙ sym (append-nil (cat encProp (d .properties))))
 
-pub made-length : (d : Device) (x : List ℕ) → x ≡ cat encProp (d .properties) → 11 + length x ≡ length (encode (fresh d))
+pub made-length : (d : Device) (x : List ℕ) → x ≡ cat encProp (d .properties) → headerSize + length x ≡ length (encode (fresh d))
 unfolding encode fresh
-made-length d x g = ap (λ (z : List ℕ). 11 + length z) g ∙ sym (encode-size (fresh d) ∙ omega arith)
+made-length d x g = ap (λ (z : List ℕ). headerSize + length z) g ∙ sym (encode-size (fresh d) ∙ omega arith)
 
--- a record of 17,611 bytes at most
-pub made-fits : (bs : List ℕ) (d : Device) → device.decode bs ≡ some d → length (encode (fresh d)) ≤ 17611
+-- a record of 18,125 bytes at most
+pub made-fits : (bs : List ℕ) (d : Device) → device.decode bs ≡ some d → length (encode (fresh d)) ≤ fullestOutcome
 made-fits bs d e = fits (length (chain d)) (fresh d) (fresh-good bs d e)
 
 -- how many properties the header says
@@ -90,14 +94,14 @@ head-count l d r b e k h = ap (λ (x : head.Head). x .properties) (h .is) ∙ nu
 -- ---- what is given back
 
 module _ (dev : List ℕ) (room : ℕ) where
-  pub given-short : room < 17611 → operations.fresh dev room ≡ refusal room (line 0 target-short)
+  pub given-short : room < fullestOutcome → operations.fresh dev room ≡ refusal room (line 0 target-short)
   unfolding operations.fresh operations.freshChecked
-  given-short h = rw (lt-leb 17611 room h)
+  given-short h = rw (lt-leb fullestOutcome room h)
 
-  pub given-faulty : 17611 ≤ room → isSome (device.decode dev) ≡ false → operations.fresh dev room ≡ refusal room (line 0 device-bad)
+  pub given-faulty : fullestOutcome ≤ room → isSome (device.decode dev) ≡ false → operations.fresh dev room ≡ refusal room (line 0 device-bad)
   unfolding operations.fresh operations.freshChecked
-  given-faulty h k = rw (le-leb 17611 room h, is-none (device.decode dev) k)
+  given-faulty h k = rw (le-leb fullestOutcome room h, is-none (device.decode dev) k)
 
-  pub given-made : 17611 ≤ room → (d : Device) → device.decode dev ≡ some d → operations.fresh dev room ≡ acceptance room 0 0 (encode (fresh d))
+  pub given-made : fullestOutcome ≤ room → (d : Device) → device.decode dev ≡ some d → operations.fresh dev room ≡ acceptance room 0 0 (encode (fresh d))
   unfolding operations.fresh operations.freshChecked
-  given-made h d e = rw (le-leb 17611 room h, e)
+  given-made h d e = rw (le-leb fullestOutcome room h, e)

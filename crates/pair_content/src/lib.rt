@@ -24,6 +24,8 @@ fn is_setting(value: &[u8]) -> bool
     match signed::setting_of(value) {
         SettingRead::EscapeNone => true,
         SettingRead::EscapeReplace => true,
+        SettingRead::Watch => true,
+        SettingRead::NoWatch => true,
         SettingRead::Priority(_) => true,
         SettingRead::Faulty => false,
     }

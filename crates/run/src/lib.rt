@@ -195,7 +195,7 @@ fn run_any(text: &[u8], device: &[u8], outcome: &[u8], target: &mut [u8]) -> Giv
 pub fn run(text: &[u8], device: &[u8], outcome: &[u8], target: &mut [u8]) -> Given
     ensures { λ r. ⌜ answered r (now (target .exit)) ≡ run-answer (now (text .entry)) (now (device .entry)) (now (outcome .entry)) (length (now (target .entry))) ⌝ }
 {
-    if target.len() < 17611 {
+    if target.len() < outcome_target::FULLEST {
         splice::clear(target);
         return answers::refused(Refusal::TargetShort, 0);
     }

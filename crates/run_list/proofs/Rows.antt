@@ -24,7 +24,7 @@ use Rattle.entries.proofs.Entries.{prop-laws}
 use Rattle.template.specs.Template.{wellFormed}
 use Rattle.device.specs.Device.{Device, chain}
 use Rattle.device_lookup.specs.declared.Chain.{Chain}
-use Rattle.outcome.specs.Head.{header}
+use Rattle.outcome.specs.Head.{headerSize, header}
 use Rattle.outcome.specs.State.{State, Run, okRun, oneRun, headFor, body, encode, decode}
 use Rattle.outcome.proofs.Head.{header-length, head-there}
 use Rattle.outcome.proofs.Parts.{run-laws}
@@ -71,7 +71,7 @@ module _ {A : Type 0} {part : Section} {enc : A → List ℕ} {list : State → 
       let c : count ≡ length (list s) =
       q
       ∙ ap (λ (y : List ℕ). numberAt y (countPlace part) (countWidth part)) (sym w)
-      ∙ number-front h (body s) (countPlace part) (countWidth part) (omega (arith, T .inside, header-length (headFor s)))
+      ∙ number-front h (s .output ++ body s) (countPlace part) (countWidth part) (omega (arith, T .inside, header-length (headFor s)))
       ∙ T .counted s (head-there (headFor s) (good-fit n s g))
       in
       let v : rec ≡ (h ++ front) ++ (x ++ z) =
@@ -93,9 +93,9 @@ module _ (dev rec : List ℕ) (r : Chain) (lay : Layout) (d : Device) (s : State
   unfolding decodeFor
   decoded = w .outcome
 
-  pub both-header : 11 ≤ length rec
+  pub both-header : headerSize ≤ length rec
   unfolding encode
-  both-header = omega (arith, ap length (back (length (chain d)) rec s b decoded .0), length-append (header (headFor s)) (body s), header-length (headFor s))
+  both-header = omega (arith, ap length (back (length (chain d)) rec s b decoded .0), length-append (header (headFor s)) (s .output ++ body s), header-length (headFor s))
 
   pub properties-row-of : (n : ℕ) → n ≡ numberAt rec 72 6 → Row Property oneProp rec (s .properties) (lay .properties) n
   properties-row-of n e =

@@ -4,21 +4,6 @@ use borrow.Author.Needs.{needs}
 use Rattle.pair_content.proofs.is_setting.Statement.{statement}
 use Rattle.pair_content.proofs.is_setting.Tie as tie
 
-setting-of-requires : tie.Need-setting-of-requires
-setting-of-requires c κs = search needs
-
-enum-told : tie.Need-enum-told
-enum-told c = search needs
-
-enum-told-2 : tie.Need-enum-told-2
-enum-told-2 c = search needs
-
-enum-told-3 : tie.Need-enum-told-3
-enum-told-3 c = search needs
-
-enum-told-4 : tie.Need-enum-told-4
-enum-told-4 c = search needs
-
 returns : tie.Need-returns
 returns c = rw (← c .before .before .setting-of .ensures, c .enum-told .given .1)
 
@@ -31,16 +16,26 @@ returns-3 c = rw (← c .before .before .setting-of .ensures, c .enum-told3 .giv
 returns-4 : tie.Need-returns-4
 returns-4 c = rw (← c .before .before .setting-of .ensures, c .enum-told4 .given .1)
 
+returns-5 : tie.Need-returns-5
+returns-5 c = rw (← c .before .before .setting-of .ensures, c .enum-told5 .given .1)
+
+returns-6 : tie.Need-returns-6
+returns-6 c = rw (← c .before .before .setting-of .ensures, c .enum-told6 .given .1)
+
 pub is-setting-spec : {M : Type 1} → statement M
 is-setting-spec =
     tie.close
     (tie.spec
-    setting-of-requires
-    enum-told
-    enum-told-2
-    enum-told-3
-    enum-told-4
+    (λ c κs. search needs)
+    (λ c. search needs)
+    (λ c. search needs)
+    (λ c. search needs)
+    (λ c. search needs)
+    (λ c. search needs)
+    (λ c. search needs)
     returns
     returns-2
     returns-3
-    returns-4)
+    returns-4
+    returns-5
+    returns-6)
