@@ -1,4 +1,5 @@
-/* The library from C: checks rules texts, and takes a device from its fresh outcome record over a run to its run list. */
+/* The library from C: checks rules texts, takes a device from its fresh outcome record over a run to its run list, and converts the record to
+ * edition 1 and back. */
 #include <stdio.h>
 #include <string.h>
 
@@ -16,6 +17,7 @@ static const size_t device_length = sizeof device - 1;
 static uint8_t fresh[SPILLFINCH_OUTCOME_ROOM];
 static uint8_t outcome[SPILLFINCH_OUTCOME_ROOM];
 static uint8_t next[SPILLFINCH_OUTCOME_ROOM];
+static uint8_t old[SPILLFINCH_OLD_OUTCOME_ROOM];
 static uint8_t run_list[SPILLFINCH_RUN_LIST_ROOM];
 
 static void show_answer(const char *what, const uint32_t *answer)
@@ -54,6 +56,30 @@ static void try_mode(unsigned digit, size_t outcome_length)
     show_answer("close", answer);
 }
 
+/* The outcome as a record of edition 1, and that as one of edition 2 again. */
+static void convert(size_t outcome_length)
+{
+    uint32_t answer[SPILLFINCH_ANSWER_LENGTH];
+
+    spillfinch_older(device, device_length, outcome, outcome_length, old, sizeof old, answer);
+    show_answer("to edition 1", answer);
+    const size_t old_length = answer[SPILLFINCH_USED];
+    show_bytes(old, old_length);
+
+    spillfinch_run((const uint8_t *)rules, strlen(rules), device, device_length, old, old_length, next, sizeof next, answer);
+    show_answer("run from edition 1", answer);
+
+    spillfinch_newer(device, device_length, old, old_length, next, sizeof next, answer);
+    show_answer("to edition 2", answer);
+    printf("the same record: %s\n",
+           answer[SPILLFINCH_USED] == outcome_length && memcmp(next, outcome, sizeof next) == 0 ? "yes" : "no");
+
+    const char *watch = "OPTIONS=\"watch\"\n";
+    spillfinch_run((const uint8_t *)watch, strlen(watch), device, device_length, outcome, outcome_length, next, sizeof next, answer);
+    spillfinch_older(device, device_length, next, answer[SPILLFINCH_USED], old, sizeof old, answer);
+    show_answer("to edition 1 with watch", answer);
+}
+
 int main(void)
 {
     uint32_t answer[SPILLFINCH_ANSWER_LENGTH];
@@ -77,6 +103,8 @@ int main(void)
 
     spillfinch_close(device, device_length - 1, outcome, outcome_length, run_list, sizeof run_list, answer);
     show_answer("close beside a device record that is cut short", answer);
+
+    convert(outcome_length);
 
     try_mode(5, outcome_length);
     try_mode(2, outcome_length);

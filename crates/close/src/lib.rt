@@ -33,7 +33,7 @@ pub fn close(device: &[u8], outcome: &[u8], target: &mut [u8]) -> Given
     ensures { λ r. ⌜ answered r (now (target .exit)) ≡ close-answer (now (device .entry)) (now (outcome .entry)) (length (now (target .entry))) ⌝ }
 {
     splice::clear(target);
-    if target.len() < 8225 {
+    if target.len() < run_list::FULLEST {
         return answers::refused(Refusal::TargetShort, 0);
     }
     if !device_check::check(device) {

@@ -14,7 +14,7 @@ ghost use Rattle.listing_lines.specs.Behind.{Within, Behind, refusalLine
 
 // ---- texts as they are
 
-fn put_text(out: &mut [u8], front: Put, src: &[u8]) -> Put
+pub fn put_text(out: &mut [u8], front: Put, src: &[u8]) -> Put
     requires { ⌜ Within (length (now out)) front ⌝ }
     ensures { λ r. ⌜ Within (length (now (out .exit))) r × Behind (now (src .entry)) (now (out .entry)) front r (now (out .exit)) ⌝ }
 {

@@ -6,7 +6,7 @@ use Rattle.lists.specs.Lists.{cat}
 use Rattle.entries.specs.Entry.{Property}
 use Rattle.lists.specs.Quoted.{bytes}
 use Rattle.template.specs.Decimal.{decimal}
-use Rattle.engine.specs.Listing.{escaped, signed, lineOf, modeLine, setLine}
+use Rattle.engine.specs.Listing.{escaped, signed, lineOf, modeLine, setLine, watchLine}
 use Rattle.outcome.specs.State.{State}
 use Rattle.outcome_target.specs.Held.{Held}
 use Rattle.outcome_target.specs.declared.Layout.{Layout}
@@ -31,7 +31,7 @@ abbrev pub settingLines : State → List ℕ
 unfolding bytes
 settingLines s =
     lineOf (bytes "priority") (signed (s .priority))
-    ++ (modeLine (s .mode) ++ (setLine (bytes "owner") (s .owner) ++ setLine (bytes "group") (s .group)))
+    ++ (modeLine (s .mode) ++ (setLine (bytes "owner") (s .owner) ++ (setLine (bytes "group") (s .group) ++ watchLine (s .watch))))
 
 -- links, properties, tags
 abbrev pub listLines : State → List ℕ

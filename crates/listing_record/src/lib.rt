@@ -9,7 +9,7 @@ ghost use lib.ListN.{length};
 ghost use Rattle.lists.specs.Quoted.{bytes};
 ghost use Rattle.outcome_target.specs.Held.{Holds};
 ghost use Rattle.listing_lines.specs.Behind.{Within, Behind};
-ghost use Rattle.engine.specs.Listing.{signed, lineOf, modeLine, setLine};
+ghost use Rattle.engine.specs.Listing.{signed, lineOf, modeLine, setLine, watchLine};
 ghost use Rattle.outcome_target.specs.Texts.{textsIn};
 ghost use Rattle.listing_record.specs.Lines.{StateBehind, textLines, propertyLines, countLines, settingLines, listLines, recordLines};
 
@@ -34,7 +34,7 @@ fn put_priority(out: &mut [u8], front: Put, word: &[u8], t: &[u8], layout: Layou
     requires { ⌜ Within (length (now out)) front × Holds (now t) layout ⌝ }
     ensures { λ r. ⌜ Within (length (now (out .exit))) r × StateBehind (λ s. lineOf (now (word .entry)) (signed (s .priority))) (now (t .entry)) layout (now (out .entry)) front r (now (out .exit)) ⌝ }
 {
-    let priority = outcome_target::field(t, 35, 32);
+    let priority = outcome_target::field(t, outcome_target::PRIORITY);
     listing_lines::put_signed_line(out, front, word, priority as u32)
 }
 
@@ -43,11 +43,11 @@ fn put_mode(out: &mut [u8], front: Put, t: &[u8], layout: Layout) -> Put
     requires { ⌜ Within (length (now out)) front × Holds (now t) layout ⌝ }
     ensures { λ r. ⌜ Within (length (now (out .exit))) r × StateBehind (λ s. modeLine (s .mode)) (now (t .entry)) layout (now (out .entry)) front r (now (out .exit)) ⌝ }
 {
-    let set = outcome_target::field(t, 22, 1);
+    let set = outcome_target::field(t, outcome_target::MODE_SET);
     if set == 0 {
         return front;
     }
-    let mode = outcome_target::field(t, 23, 12);
+    let mode = outcome_target::field(t, outcome_target::MODE);
     listing_lines::put_mode_line(out, front, b"mode", mode as u32)
 }
 
@@ -55,8 +55,8 @@ fn put_owner(out: &mut [u8], front: Put, t: &[u8], layout: Layout) -> Put
     requires { ⌜ Within (length (now out)) front × Holds (now t) layout ⌝ }
     ensures { λ r. ⌜ Within (length (now (out .exit))) r × StateBehind (λ s. setLine (bytes "owner") (s .owner)) (now (t .entry)) layout (now (out .entry)) front r (now (out .exit)) ⌝ }
 {
-    let start = 11;
-    let end = start + outcome_target::field(t, 10, 6);
+    let end = layout.links - outcome_target::field(t, outcome_target::GROUP);
+    let start = end - outcome_target::field(t, outcome_target::OWNER);
     listing_lines::put_set_line(out, front, b"owner", &t[start..end])
 }
 
@@ -64,9 +64,24 @@ fn put_group(out: &mut [u8], front: Put, t: &[u8], layout: Layout) -> Put
     requires { ⌜ Within (length (now out)) front × Holds (now t) layout ⌝ }
     ensures { λ r. ⌜ Within (length (now (out .exit))) r × StateBehind (λ s. setLine (bytes "group") (s .group)) (now (t .entry)) layout (now (out .entry)) front r (now (out .exit)) ⌝ }
 {
-    let start = 11 + outcome_target::field(t, 10, 6);
     let end = layout.links;
+    let start = end - outcome_target::field(t, outcome_target::GROUP);
     listing_lines::put_set_line(out, front, b"group", &t[start..end])
+}
+
+// `watch` or `nowatch` alone, no line where neither is set.
+fn put_watch(out: &mut [u8], front: Put, t: &[u8], layout: Layout) -> Put
+    requires { ⌜ Within (length (now out)) front × Holds (now t) layout ⌝ }
+    ensures { λ r. ⌜ Within (length (now (out .exit))) r × StateBehind (λ s. watchLine (s .watch)) (now (t .entry)) layout (now (out .entry)) front r (now (out .exit)) ⌝ }
+{
+    let watch = outcome_target::field(t, outcome_target::WATCH);
+    if watch == 1 {
+        return listing_lines::put_text(out, front, b"watch\n");
+    }
+    if watch == 2 {
+        return listing_lines::put_text(out, front, b"nowatch\n");
+    }
+    front
 }
 
 // The rules visited and the devices tried by the run that left the record.
@@ -86,7 +101,8 @@ fn put_settings(out: &mut [u8], front: Put, t: &[u8], layout: Layout) -> Put
     let priority = put_priority(out, front, b"priority", t, layout);
     let mode = put_mode(out, priority, t, layout);
     let owner = put_owner(out, mode, t, layout);
-    put_group(out, owner, t, layout)
+    let group = put_group(out, owner, t, layout);
+    put_watch(out, group, t, layout)
 }
 
 fn put_lists(out: &mut [u8], front: Put, t: &[u8], layout: Layout) -> Put

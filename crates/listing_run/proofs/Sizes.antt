@@ -1,4 +1,4 @@
--- No listing is longer than 86,865 bytes.
+-- No listing is longer than 86,873 bytes.
 -- Assumes nothing.
 use Prim.Native.Nat.{ℕ, zero, suc, _+_, _-_, _*_, _/_, _%_, _≤_}
 use mathlib.Core.Path.{_≡_}
@@ -27,7 +27,7 @@ use Rattle.outcome.specs.State as O
 use Rattle.outcome.specs.State.{State, okTag}
 use Rattle.text.specs.Run.{runChecked}
 use Rattle.engine.specs.Operations.{engine, Command, commands}
-use Rattle.engine.specs.Listing.{shownByte, hex, escaped, signed, fourOctal, lineOf, modeLine, setLine, envLine, commandLine, listingOf, listed, printed, listingFrom}
+use Rattle.engine.specs.Listing.{shownByte, hex, escaped, signed, fourOctal, lineOf, modeLine, setLine, watchLine, envLine, commandLine, listingOf, listed, printed, listingFrom}
 use Rattle.engine.proofs.Laws.{engine-good}
 use Rattle.engine.proofs.Sizes.{Made, shortText, commands-made}
 use Rattle.listing_run.proofs.Laws.{Ends, run-ends}
@@ -84,6 +84,15 @@ set-size : (word x : List ℕ) → length (setLine word x) ≤ length word + 4 *
 set-size word [] = omega arith
 set-size word (b ∷ x) = text-size word (b ∷ x)
 
+watch-size : (w : ℕ) → length (watchLine w) ≤ 8
+unfolding bytes
+watch-size w = go (eqb w 1) (eqb w 2)
+  where
+    go : (a b : Bool) → length (pick a (119 ∷ 97 ∷ 116 ∷ 99 ∷ 104 ∷ 10 ∷ []) (pick b (110 ∷ 111 ∷ 119 ∷ 97 ∷ 116 ∷ 99 ∷ 104 ∷ 10 ∷ []) [])) ≤ 8
+    go true b = omega arith
+    go false true = omega arith
+    go false false = omega arith
+
 env-size : (p : Property) → okProp p ≡ true → length (envLine p) ≤ 1286
 unfolding bytes
 env-size p h =
@@ -120,7 +129,7 @@ owner-size word x h = omega (arith, set-size word x, leb-true (length x) mostOwn
 
 -- ---- listings
 
-listing-size : (visited tried n : ℕ) (s : State) (cs : List Command) → O.Good n s → Made (length (s .runs)) cs → length (listingOf visited tried s cs) ≤ 86865
+listing-size : (visited tried n : ℕ) (s : State) (cs : List Command) → O.Good n s → Made (length (s .runs)) cs → length (listingOf visited tried s cs) ≤ 86873
 unfolding listingOf bytes
 listing-size visited tried n s cs g m =
     let a = line-size (bytes "visited") (decimal visited) in
@@ -131,21 +140,21 @@ listing-size visited tried n s cs g m =
     let t = cat-size (λ x. lineOf (bytes "tag") (escaped x)) okTag 261 tag-size (s .tags) (g .tags .each) in
     let c = cat-size commandLine shortText 2057 command-size cs (m .each) in
     simp length-append
-    (omega (arith, a, k, b, l, p, t, c, decimal-size visited, decimal-size tried, signed-size (s .priority), mode-size (s .mode), owner-size (bytes "owner") (s .owner) (g .owner), owner-size (bytes "group") (s .group) (g .group), g .links .few, g .properties .few, g .tags .few, g .runs .few, m .count))
+    (omega (arith, a, k, b, l, p, t, c, decimal-size visited, decimal-size tried, signed-size (s .priority), mode-size (s .mode), owner-size (bytes "owner") (s .owner) (g .owner), owner-size (bytes "group") (s .group) (g .group), watch-size (s .watch), g .links .few, g .properties .few, g .tags .few, g .runs .few, m .count))
 
 refusal-size : (n : ℕ) (f : Refusal) → length (printed (refused (line n f))) ≤ 35
 unfolding printed bytes
 refusal-size n f = simp length-append (omega (arith, decimal-size (number f), decimal-size n))
 
-printed-size : (c : Checked (Placed Refusal) (List ℕ)) → Holds (λ (l : List ℕ). length l ≤ 86865) c → length (printed c) ≤ 86865
+printed-size : (c : Checked (Placed Refusal) (List ℕ)) → Holds (λ (l : List ℕ). length l ≤ 86873) c → length (printed c) ≤ 86873
 unfolding printed
 printed-size (refused (line n f)) h = omega (arith, refusal-size n f)
 printed-size (ok l) h = h
 
-pub listing-fits : (text dev out : List ℕ) → Bytes out → length (listingFrom text dev out) ≤ 86865
+pub listing-fits : (text dev out : List ℕ) → Bytes out → length (listingFrom text dev out) ≤ 86873
 unfolding listingFrom listed
 listing-fits text dev out by =
-    let Q : List ℕ → Type 0 = λ l. length l ≤ 86865 in
+    let Q : List ℕ → Type 0 = λ l. length l ≤ 86873 in
     printed-size (listed text dev out)
     (holds-bind (Ends text dev out) Q (runChecked engine text dev out fullestOutcome) _ (run-ends text dev out by) λ h w.
     holds-bind (λ (d : Device). D.decode dev ≡ some d) Q (found (D.decode dev) (line 0 device-bad)) _ (holds-found (D.decode dev) (line 0 device-bad)) λ d f.

@@ -33,7 +33,7 @@ fn list_closed(
     requires { ⌜ Left (now device) (now t) used ⌝ }
     ensures { λ r. ⌜ OfLeft visited tried (now (device .entry)) (now (t .entry)) used (now (out .entry)) r (now (out .exit)) ⌝ }
 {
-    let mut list: [u8; 8225] = [0; 8225];
+    let mut list: [u8; run_list::FULLEST] = [0; run_list::FULLEST];
     let closed = close::close(device, &t[..used], &mut list);
     if closed.number != 0 {
         return listing_lines::put_refusal_line(out, Put::Done(0), closed.number, closed.line);
@@ -49,7 +49,7 @@ fn list_closed(
 pub fn list_from(text: &[u8], device: &[u8], outcome: &[u8], out: &mut [u8]) -> Put
     ensures { λ r. ⌜ Appended (listingFrom (now (text .entry)) (now (device .entry)) (now (outcome .entry))) (now (out .entry)) 0 r (now (out .exit)) ⌝ }
 {
-    let mut target: [u8; 17611] = [0; 17611];
+    let mut target: [u8; outcome_target::FULLEST] = [0; outcome_target::FULLEST];
     let ran = run::run(text, device, outcome, &mut target);
     if ran.number != 0 {
         return listing_lines::put_refusal_line(out, Put::Done(0), ran.number, ran.line);
@@ -68,7 +68,7 @@ pub fn list_from(text: &[u8], device: &[u8], outcome: &[u8], out: &mut [u8]) -> 
 pub fn list(text: &[u8], device: &[u8], out: &mut [u8]) -> Put
     ensures { λ r. ⌜ Appended (listing (now (text .entry)) (now (device .entry))) (now (out .entry)) 0 r (now (out .exit)) ⌝ }
 {
-    let mut outcome: [u8; 17611] = [0; 17611];
+    let mut outcome: [u8; outcome_target::FULLEST] = [0; outcome_target::FULLEST];
     let made = fresh::fresh(device, &mut outcome);
     let used = made.used as usize;
     list_from(text, device, &outcome[..used], out)

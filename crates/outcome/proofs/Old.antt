@@ -76,16 +76,16 @@ module _ (n : ℕ) (s : State) (g : Good n s) where
   edition-is : numberAt (encode s) 0 4 ≡ 2
   edition-is = number-of 0 4 (omega arith) ∙ ap (λ (h : Head). h .edition) head-of
 
-  output-is : numberAt (encode s) 88 10 ≡ length (s .output)
+  pub output-is : numberAt (encode s) 88 10 ≡ length (s .output)
   output-is = number-of 88 10 (omega arith) ∙ ap (λ (h : Head). h .output) head-of
 
-  watch-is : numberAt (encode s) 98 2 ≡ s .watch
+  pub watch-is : numberAt (encode s) 98 2 ≡ s .watch
   watch-is = number-of 98 2 (omega arith) ∙ ap (λ (h : Head). h .watch) head-of
 
   unused-is : numberAt (encode s) 100 4 ≡ 0
   unused-is = number-of 100 4 (omega arith) ∙ ap (λ (h : Head). h .unused) head-of
 
-  long : 13 ≤ length (encode s)
+  pub long : 13 ≤ length (encode s)
   long = rw (encode-size s) (omega arith)
 
   -- ---- from edition 1
@@ -240,6 +240,21 @@ old-size n (b ∷ bs) s by e pl =
         let x = ap length (take-append-drop 12 bs) in
         let y : length (take 12 bs) ≡ 12 = length-take-le 12 bs (omega arith) in
         omega arith
+
+-- how long a sound record of edition 1 is
+pub old-lengths : (n : ℕ) (bs : List ℕ) (s : State) → Bytes bs → decodeOld n bs ≡ some s → (11 ≤ length bs) × (length bs ≤ 17611)
+unfolding decodeOld
+old-lengths n [] s by e = let z : _≡_ {A = ℕ} 0 1 = cc in absurd (omega arith)
+old-lengths n (b ∷ bs) s by e = at (eqb (b / 16) 1) refl
+  where
+    at : (t : Bool) → eqb (b / 16) 1 ≡ t → (11 ≤ length (b ∷ bs)) × (length (b ∷ bs) ≤ 17611)
+    at false h = let q : none ≡ some s = rw (h, decodeOld) at e in let z : _≡_ {A = ℕ} 0 1 = cc in absurd (omega arith)
+    at true h =
+        let q : decode n (renewed (b ∷ bs)) ≡ some s = rw (h, decodeOld) at e in
+        let r = renewed-bytes b bs h by in
+        let (p, g) = back n (renewed (b ∷ bs)) s r q in
+        let size = old-size n (renewed (b ∷ bs)) s r q (old-plain n s g b bs p) in
+        (omega (arith, old-long n s g b bs p), subst (λ (x : List ℕ). length x ≤ 17611) (back-old n (b ∷ bs) s by e .packs) size)
 
 -- ---- edition 1 as document 01 lays it out
 

@@ -20,6 +20,9 @@ ghost use Rattle.substitution.specs.Places.{Sourced, OfSource};
 ghost use Rattle.run_list.specs.Lists.{headFields, countFields, Short, Made, Listed, Written};
 ghost use Rattle.run_list.specs.Records.{RunsStand, OfRuns, RecordStands, OfRecord};
 
+// The bytes of the fullest list.
+pub const FULLEST: usize = 8225;
+
 // ---- heads
 
 fn bit_of(b: bool) -> usize
