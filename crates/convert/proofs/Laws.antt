@@ -6,7 +6,7 @@ use mathlib.Core.Bool.{Bool, true, false, _&&_}
 use mathlib.Core.List.{List, [], _∷_, _++_, append-assoc}
 use mathlib.Core.Option.{Option, none, some}
 use native.Mathlib.Omega.{arith}
-use borrow.Author.Tests.{le-leb, lt-leb, eq-eqb, ne-eqb, eqb-true}
+use borrow.Author.Tests.{le-leb, lt-leb, leb-true, eq-eqb, ne-eqb, eqb-true}
 use lib.Dec.{eqb, leb}
 use lib.ListN.{length, getD, set, take, drop, replicate, length-append, length-replicate, take-append-drop}
 use lib.Seq.{take-append-seam, length-take-le}
@@ -18,7 +18,7 @@ use Rattle.lists.specs.Sizes.{fullestOutcome, fullestOld}
 use Rattle.lists.proofs.Lists.{is-none, empty-list}
 use Rattle.lists.proofs.Moves.{ap-at}
 use Rattle.lists.proofs.Records.{bytes-first}
-use Rattle.lists.proofs.Tests.{both-and}
+use Rattle.lists.proofs.Tests.{and-both, both-and}
 use Rattle.bits.specs.Bits.{numberAt}
 use Rattle.splice.specs.Moves.{stored, padded}
 use Rattle.splice.proofs.Laws.{set-stored, clear-padded, append-padded}
@@ -37,7 +37,7 @@ use Rattle.outcome_check.specs.declared.Checked.the-variants.{Sound, Faulty}
 use Rattle.outcome_check.proofs.Answers.{sound-state, faulty-state}
 use Rattle.engine.specs.Operations.{given, decodeFor}
 use Rattle.engine.specs.Convert.{decodeOldFor, newerChecked, newer, olderChecked, older}
-use Rattle.convert.specs.Records.{newRecord, oldRecord}
+use Rattle.convert.specs.Records.{oldLike, newRecord, oldRecord}
 
 -- ---- moves in a target of zeros
 
@@ -48,7 +48,7 @@ eleven m b x t₀ t₁ t₂ h e₀ e₁ e₂ =
     let u : t₁ ≡ padded m (b ∷ []) = e₁ ∙ ap (λ (t : List ℕ). set t 0 b) e₀ ∙ set-stored z 0 b (omega (arith, zeros-length)) ∙ append-padded [] (b ∷ []) m 0 z (clear-padded m) refl in
     e₂ ∙ append-padded (b ∷ []) x m 1 t₁ u refl
   where
-    zeros-length : length (replicate m 0) ≡ m
+    zeros-length : length {A = ℕ} (replicate m 0) ≡ m
     zeros-length = length-replicate {A = ℕ} m 0
 
 -- zeros that stand there already
@@ -68,44 +68,77 @@ not-read : (o : Option State) → ((s : State) → o ≡ some s → ⊥) → o �
 not-read none h = refl
 not-read (some s) h = absurd (h s refl)
 
-module _ (n : ℕ) (old : List ℕ) (by : Bytes old) where
-  pub too-short : length old < 11 → decodeOld n old ≡ none
-  too-short h = not-read (decodeOld n old) (λ s e. let k = old-lengths n old s by e .0 in omega arith)
-
-  pub too-long : fullestOld < length old → decodeOld n old ≡ none
-  too-long h = not-read (decodeOld n old) (λ s e. let k = old-lengths n old s by e .1 in omega arith)
-
-pub other-edition : (n : ℕ) (old : List ℕ) → 11 ≤ length old → (getD old 0 0 / 16 ≡ 1 → ⊥) → decodeOld n old ≡ none
+-- edition 1 in the first byte
+edition-one : (n : ℕ) (old : List ℕ) (s : State) → decodeOld n old ≡ some s → eqb (getD old 0 0 / 16) 1 ≡ true
 unfolding decodeOld
-other-edition n [] h e = absurd (omega arith)
-other-edition n (b ∷ bs) h e = rw (ne-eqb (b / 16) 1 e)
+edition-one n [] s e = let z : _≡_ {A = ℕ} 0 1 = cc in absurd (omega arith)
+edition-one n (b ∷ bs) s e = at (eqb (b / 16) 1) refl
+  where
+    at : (t : Bool) → eqb (b / 16) 1 ≡ t → eqb (b / 16) 1 ≡ true
+    at true h = h
+    at false h = let q : none ≡ some s = rw (h, decodeOld) at e in let z : _≡_ {A = ℕ} 0 1 = cc in absurd (omega arith)
 
--- what is in the target once all bytes are moved
-pub record Renewed (n : ℕ) (old : List ℕ) (m : ℕ) (t : List ℕ) : Type 0 where
-  pub bytes : t ≡ padded m (renewed old)
-  pub size : length old + 2 ≡ length (renewed old)
-  pub read : decodeOld n old ≡ decode n (renewed old)
+pub not-old : (n : ℕ) (old : List ℕ) → Bytes old → oldLike old ≡ false → decodeOld n old ≡ none
+not-old n old by h = not-read (decodeOld n old) (λ s e. differ (like s e))
+  where
+    like : (s : State) → decodeOld n old ≡ some s → oldLike old ≡ true
+    like s e =
+        let k = old-lengths n old s by e in
+        both-and (leb 11 (length old)) (leb (length old) fullestOld && eqb (getD old 0 0 / 16) 1) (le-leb 11 (length old) (k .0))
+        (both-and (leb (length old) fullestOld) (eqb (getD old 0 0 / 16) 1) (le-leb (length old) fullestOld (k .1)) (edition-one n old s e))
 
-pub renewed-in : (n : ℕ) (old : List ℕ) (m : ℕ) (t₀ t₁ t₂ t₃ : List ℕ) → 11 ≤ length old → length old + 2 ≤ m → getD old 0 0 / 16 ≡ 1
-    → t₀ ≡ replicate m 0 → t₁ ≡ set t₀ 0 (getD old 0 0 + 16) → t₂ ≡ stored t₁ 1 (take 10 (drop 1 old)) → t₃ ≡ stored t₂ 13 (drop 11 old) → Renewed n old m t₃
-unfolding renewed decodeOld
-renewed-in n [] m t₀ t₁ t₂ t₃ h r e e₀ e₁ e₂ e₃ = absurd (omega arith)
-renewed-in n (b ∷ bs) m t₀ t₁ t₂ t₃ h r e e₀ e₁ e₂ e₃ =
+    differ : oldLike old ≡ true → ⊥
+    differ e = let q : true ≡ false = sym e ∙ h in let z : _≡_ {A = ℕ} 0 1 = cc in omega arith
+
+-- what the test says
+pub record OldLike (old : List ℕ) : Type 0 where
+  pub header : 11 ≤ length old
+  pub short : length old ≤ fullestOld
+  pub edition : getD old 0 0 / 16 ≡ 1
+
+pub old-like : (old : List ℕ) → oldLike old ≡ true → OldLike old
+old-like old h =
+    let (a, r) = and-both (leb 11 (length old)) (leb (length old) fullestOld && eqb (getD old 0 0 / 16) 1) h in
+    let (b, c) = and-both (leb (length old) fullestOld) (eqb (getD old 0 0 / 16) 1) r in
+    record { header = leb-true 11 (length old) a; short = leb-true (length old) fullestOld b; edition = eqb-true (getD old 0 0 / 16) 1 c }
+
+-- the bytes as they are moved
+pub renewed-in : (old : List ℕ) (m : ℕ) (t₀ t₁ t₂ t₃ : List ℕ) → 11 ≤ length old → length old + 2 ≤ m
+    → t₀ ≡ replicate m 0 → t₁ ≡ set t₀ 0 (getD old 0 0 + 16) → t₂ ≡ stored t₁ 1 (take 10 (drop 1 old)) → t₃ ≡ stored t₂ 13 (drop 11 old) → t₃ ≡ padded m (renewed old)
+unfolding renewed
+renewed-in [] m t₀ t₁ t₂ t₃ h r e₀ e₁ e₂ e₃ = absurd (omega arith)
+renewed-in (b ∷ bs) m t₀ t₁ t₂ t₃ h r e₀ e₁ e₂ e₃ =
     let x : List ℕ = take 10 bs in
     let l : length x ≡ 10 = length-take-le 10 bs (omega arith) in
     let y : List ℕ = (b + 16) ∷ x in
     let z : List ℕ = 0 ∷ 0 ∷ [] in
     let w : List ℕ = drop 10 bs in
-    let whole : length x + length w ≡ length bs = sym (length-append x w) ∙ ap length (take-append-drop 10 bs) in
     let u : t₂ ≡ padded m (y ++ z) = eleven m (b + 16) x t₀ t₁ t₂ (omega arith) e₀ e₁ e₂ ∙ two-zeros m y (omega arith) in
-    record {
-      bytes =
-          e₃
-          ∙ append-padded (y ++ z) w m 13 t₂ u (omega (arith, length-append y z))
-          ∙ ap (λ (q : List ℕ). padded m ((b + 16) ∷ q)) (append-assoc x z w);
-      size = omega (arith, length-append x (0 ∷ 0 ∷ w));
-      read = rw (eq-eqb (b / 16) 1 e);
-    }
+    e₃
+    ∙ append-padded (y ++ z) w m 13 t₂ u (omega (arith, length-append y z))
+    ∙ ap (λ (q : List ℕ). padded m ((b + 16) ∷ q)) (append-assoc x z w)
+
+-- what the target holds then
+pub record Renewed (n : ℕ) (old : List ℕ) (m : ℕ) (t : List ℕ) : Type 0 where
+  pub bytes : t ≡ padded m (renewed old)
+  pub size : length old + 2 ≡ length (renewed old)
+  pub read : decodeOld n old ≡ decode n (renewed old)
+
+pub renewed-held : (n : ℕ) (old : List ℕ) (m : ℕ) (t : List ℕ) → OldLike old → t ≡ padded m (renewed old) → Renewed n old m t
+unfolding renewed decodeOld
+renewed-held n old m t k e = record { bytes = e; size = sized old (k .header); read = reads old (k .header) (k .edition) }
+  where
+    sized : (l : List ℕ) → 11 ≤ length l → length l + 2 ≡ length (renewed l)
+    sized [] h = absurd (omega arith)
+    sized (b ∷ bs) h =
+        let x : List ℕ = take 10 bs in
+        let w : List ℕ = drop 10 bs in
+        let whole : length x + length w ≡ length bs = sym (length-append x w) ∙ ap length (take-append-drop 10 bs) in
+        omega (arith, length-append x (0 ∷ 0 ∷ w))
+
+    reads : (l : List ℕ) → 11 ≤ length l → getD l 0 0 / 16 ≡ 1 → decodeOld n l ≡ decode n (renewed l)
+    reads [] h q = absurd (omega arith)
+    reads (b ∷ bs) h q = rw (eq-eqb (b / 16) 1 q, decodeOld)
 
 module _ (n : ℕ) (old : List ℕ) (m : ℕ) (t : List ℕ) (r : Renewed n old m t) where
   -- the record, as the check is lent it

@@ -1,13 +1,21 @@
 -- The record that a conversion makes of a state, or its refusal.
 -- Assumes nothing.
-use Prim.Native.Nat.{ℕ}
+use Prim.Native.Nat.{ℕ, _/_}
 use mathlib.Core.Path.{_≡_}
+use mathlib.Core.Bool.{Bool, _&&_}
 use mathlib.Core.List.{List}
 use mathlib.Core.Option.{Option, none, some}
+use lib.Dec.{leb, eqb}
+use lib.ListN.{length, getD}
+use Rattle.lists.specs.Sizes.{fullestOld}
 use Rattle.lists.specs.Checked.{Checked, _>>_, refused, ok, require, Placed, line}
 use Rattle.lists.specs.Refusal.{Refusal, outcome-bad, too-new}
 use Rattle.outcome.specs.State.{State, encode, decode}
 use Rattle.outcome.specs.Old.{plain, encodeOld}
+
+-- the length and the edition of a record of edition 1
+abbrev pub oldLike : List ℕ → Bool
+oldLike bs = leb 11 (length bs) && (leb (length bs) fullestOld && eqb (getD bs 0 0 / 16) 1)
 
 -- to edition 2, of what was read of edition 1
 abbrev pub newRecord : Option State → Checked (Placed Refusal) (List ℕ)

@@ -5,14 +5,17 @@ use answers::Given;
 use outcome_check::Checked;
 use refusals::Refusal;
 ghost use mathlib.Core.Path.{_≡_};
-ghost use Prim.Native.Nat.{_≤_};
-ghost use lib.ListN.{length, replicate};
+ghost use mathlib.Core.Bool.{true};
+ghost use Prim.Native.Nat.{_+_, _≤_};
+ghost use lib.ListN.{length, getD, replicate};
 ghost use Rattle.lists.specs.Sizes.{fullestOutcome, fullestOld};
 ghost use Rattle.engine.specs.Operations.{given};
 ghost use Rattle.engine.specs.Convert.{newer as newer-answer, older as older-answer};
-ghost use Rattle.outcome.specs.Old.{decodeOld};
+ghost use Rattle.splice.specs.Moves.{padded};
+ghost use Rattle.outcome.specs.Head.{headerSize};
+ghost use Rattle.outcome.specs.Old.{renewed, aged, decodeOld};
 ghost use Rattle.answers.specs.Answers.{answered};
-ghost use Rattle.convert.specs.Records.{newRecord, Sound, OfSound, oldRecord};
+ghost use Rattle.convert.specs.Records.{oldLike, newRecord, Sound, OfSound, oldRecord};
 
 // The header's bytes of edition 1, and those of its fullest record.
 const OLD_HEADER: usize = 11;
@@ -21,26 +24,39 @@ const OLD_FULLEST: usize = 17611;
 
 // ---- to edition 2
 
-// The record of edition 1 as one of edition 2, in a target of zeros: the edition one higher, and two bytes of zeros behind the old header.
+// Whether a record may be one of edition 1, by its length and its edition.
+fn is_old(rec: &[u8]) -> bool
+    ensures { λ r. ⌜ r ≡ oldLike (now (rec .entry)) ⌝ }
+{
+    if rec.len() < OLD_HEADER {
+        return false;
+    }
+    if OLD_FULLEST < rec.len() {
+        return false;
+    }
+    rec[0] / 16 == 1
+}
+
+// The edition one higher, and two bytes of zeros behind the old header, in a target of zeros.
+fn write_newer(t: &mut [u8], old: &[u8])
+    requires { ⌜ (oldLike (now old) ≡ true) × (fullestOutcome ≤ length (now t)) × (now t ≡ replicate (length (now t)) 0) ⌝ }
+    ensures { λ _. ⌜ now (t .exit) ≡ padded (length (now (t .entry))) (renewed (now (old .entry))) ⌝ }
+{
+    t[0] = old[0] + 16;
+    splice::store(t, 1, &old[1..OLD_HEADER]);
+    splice::store(t, outcome_target::HEADER, &old[OLD_HEADER..]);
+}
+
+// What is written is checked as any record of edition 2 is.
 fn renew(t: &mut [u8], old: &[u8], chain: usize) -> Given
     requires { ⌜ (fullestOutcome ≤ length (now t)) × (now t ≡ replicate (length (now t)) 0) ⌝ }
     ensures { λ r. ⌜ answered r (now (t .exit)) ≡ given (length (now (t .entry))) (newRecord (decodeOld chain (now (old .entry)))) ⌝ }
 {
-    let n = old.len();
-    if n < OLD_HEADER {
+    if !is_old(old) {
         return answers::refused(Refusal::OutcomeBad, 0);
     }
-    if OLD_FULLEST < n {
-        return answers::refused(Refusal::OutcomeBad, 0);
-    }
-    let first = old[0];
-    if first / 16 != 1 {
-        return answers::refused(Refusal::OutcomeBad, 0);
-    }
-    t[0] = first + 16;
-    splice::store(t, 1, &old[1..OLD_HEADER]);
-    splice::store(t, outcome_target::HEADER, &old[OLD_HEADER..]);
-    let used = n + 2;
+    write_newer(t, old);
+    let used = old.len() + 2;
     match outcome_check::check(&t[..used], chain) {
         Checked::Sound(_) => answers::accepted(0, 0, used),
         Checked::Faulty => {
@@ -66,7 +82,17 @@ pub fn newer(device: &[u8], outcome: &[u8], target: &mut [u8]) -> Given
 
 // ---- to edition 1
 
-// A sound record of edition 2 without the two bytes, in a target of zeros; refused where they are not zero.
+// The edition one lower, and the two bytes behind the old header left out, in a target of zeros.
+fn write_older(t: &mut [u8], rec: &[u8])
+    requires { ⌜ (headerSize ≤ length (now rec)) × (length (now rec) ≤ length (now t) + 2) × (16 ≤ getD (now rec) 0 0) × (now t ≡ replicate (length (now t)) 0) ⌝ }
+    ensures { λ _. ⌜ now (t .exit) ≡ padded (length (now (t .entry))) (aged (now (rec .entry))) ⌝ }
+{
+    t[0] = rec[0] - 16;
+    splice::store(t, 1, &rec[1..OLD_HEADER]);
+    splice::store(t, OLD_HEADER, &rec[outcome_target::HEADER..]);
+}
+
+// A sound record of edition 2 that has neither an output nor a watch setting.
 fn age(t: &mut [u8], rec: &[u8]) -> Given
     requires { ⌜ (fullestOld ≤ length (now t)) × (now t ≡ replicate (length (now t)) 0) × Sound (now rec) ⌝ }
     ensures { λ r. ⌜ OfSound (now (rec .entry)) (λ s. answered r (now (t .exit)) ≡ given (length (now (t .entry))) (oldRecord s)) ⌝ }
@@ -77,9 +103,7 @@ fn age(t: &mut [u8], rec: &[u8]) -> Given
     if outcome_target::field(rec, outcome_target::WATCH) != 0 {
         return answers::refused(Refusal::TooNew, 0);
     }
-    t[0] = rec[0] - 16;
-    splice::store(t, 1, &rec[1..OLD_HEADER]);
-    splice::store(t, OLD_HEADER, &rec[outcome_target::HEADER..]);
+    write_older(t, rec);
     answers::accepted(0, 0, rec.len() - 2)
 }
 

@@ -6,7 +6,7 @@ ghost use mathlib.Core.List.{List, []};
 ghost use lib.ListN.{length};
 ghost use Rattle.answers.specs.Answers.{answered};
 ghost use Rattle.engine.specs.Operations.{fresh as fresh-answer, close as close-answer};
-ghost use Rattle.spillfinch.specs.Exports.{numbers, Gives, CheckGives, RunGives};
+ghost use Rattle.spillfinch.specs.Exports.{numbers, Gives, CheckGives, RunGives, NewerGives, OlderGives};
 
 fn put_answer(given: Given, answer: &mut [u32; 8])
     ensures { λ _. ⌜ now (answer .exit) ≡ numbers (answered given []) ⌝ }
@@ -60,4 +60,28 @@ pub extern "C" fn spillfinch_close(
     ensures { λ _. ⌜ Gives (now (answer .exit)) (now (target .exit)) (close-answer (now (device .entry)) (now (outcome .entry)) (length (now (target .entry)))) ⌝ }
 {
     put_answer(close::close(device, outcome, target), answer);
+}
+
+#[no_mangle]
+pub extern "C" fn spillfinch_newer(
+    device: &[u8],
+    outcome: &[u8],
+    target: &mut [u8],
+    answer: &mut [u32; 8],
+)
+    ensures { λ _. ⌜ NewerGives (now (device .entry)) (now (outcome .entry)) (length (now (target .entry))) (now (answer .exit)) (now (target .exit)) ⌝ }
+{
+    put_answer(convert::newer(device, outcome, target), answer);
+}
+
+#[no_mangle]
+pub extern "C" fn spillfinch_older(
+    device: &[u8],
+    outcome: &[u8],
+    target: &mut [u8],
+    answer: &mut [u32; 8],
+)
+    ensures { λ _. ⌜ OlderGives (now (device .entry)) (now (outcome .entry)) (length (now (target .entry))) (now (answer .exit)) (now (target .exit)) ⌝ }
+{
+    put_answer(convert::older(device, outcome, target), answer);
 }

@@ -146,7 +146,7 @@ fn hints_of_every_fault() {
             "OPTIONS=\"link_priority=0x1\"",
             "15 a priority has 1 to 10 digits, from -2147483648 to 2147483647",
         ),
-        ("OPTIONS=\"watch\"", "15 udev's watch is not read here"),
+        ("OPTIONS=\"Watch\"", "15 did you mean watch?"),
         (
             "OPTIONS=\"static_node=a\"",
             "15 udev's static_node is not read here",
@@ -157,7 +157,7 @@ fn hints_of_every_fault() {
         ),
         (
             "OPTIONS=\"x\"",
-            "15 OPTIONS takes link_priority=N, string_escape=none or string_escape=replace",
+            "15 OPTIONS takes link_priority=N, string_escape=none, string_escape=replace, watch or nowatch",
         ),
         ("LABEL=\"\"", "15 a label has a name"),
         (&tag, "15 the tag has 65 bytes; 64 are taken"),

@@ -5,7 +5,7 @@ mod common;
 use common::{program, repository, run_in, Folder};
 use std::process::Command;
 
-const COMMANDS: [&str; 5] = ["check", "run", "test", "show", "import"];
+const COMMANDS: [&str; 6] = ["check", "run", "test", "show", "import", "convert"];
 
 fn help(command: &str) -> String {
     let said = run_in(&repository(), &[command, "--help"], b"");
