@@ -28,8 +28,9 @@
 extern "C" {
 #endif
 
-/* The room that a target must have: the length of the fullest outcome record, and of the fullest run list. */
-#define SPILLFINCH_OUTCOME_ROOM 17611
+/* The room that a target must have: the length of the fullest outcome record, of the fullest one of edition 1, and of the fullest run list. */
+#define SPILLFINCH_OUTCOME_ROOM 18125
+#define SPILLFINCH_OLD_OUTCOME_ROOM 17611
 #define SPILLFINCH_RUN_LIST_ROOM 8225
 
 /* The longest input that can be accepted. */
@@ -43,13 +44,14 @@ extern "C" {
 #define SPILLFINCH_RULES_MOST 512
 
 /* Limits of the records: devices of a chain (the event device, then its parents), attributes of a device, properties; entries of an
- * outcome record; bytes of a substituted text. */
+ * outcome record; bytes of the output that it may hold; bytes of a substituted text. */
 #define SPILLFINCH_CHAIN_MOST 16
 #define SPILLFINCH_ATTRIBUTES_MOST 31
 #define SPILLFINCH_PROPERTIES_MOST 32
 #define SPILLFINCH_LINKS_MOST 16
 #define SPILLFINCH_TAGS_MOST 16
 #define SPILLFINCH_RUNS_MOST 16
+#define SPILLFINCH_OUTPUT_MOST 512
 #define SPILLFINCH_SUBSTITUTED_MOST 512
 
 enum spillfinch_answer {
@@ -67,7 +69,8 @@ enum spillfinch_refusal {
     SPILLFINCH_TARGET_SHORT = 1,
     SPILLFINCH_TEXT_LONG = 2,
     SPILLFINCH_DEVICE_BAD = 3,
-    SPILLFINCH_OUTCOME_BAD = 4,        /* an outcome record that is faulty: one whose mode lets others write is, too */
+    SPILLFINCH_OUTCOME_BAD = 4,        /* an outcome record that is faulty: one whose mode lets others write, or of another edition, is, too */
+    SPILLFINCH_TOO_NEW = 5,            /* an outcome record that says what edition 1 cannot: an output, watch or nowatch */
     SPILLFINCH_LINE_BAD = 10,          /* a line that is too long or holds NUL */
     SPILLFINCH_KEY_BAD = 11,           /* a key that is unknown or missing */
     SPILLFINCH_ARGUMENT_BAD = 12,      /* an argument in braces that is missing, faulty or not taken by the key */
@@ -106,6 +109,16 @@ void spillfinch_run(const uint8_t *text, size_t text_length, const uint8_t *devi
 /* Writes the run list of an outcome record: each program or builtin, its template substituted with the record's properties and with
  * the device. Refusals: 1, 3, 4, 30, all with line 0. */
 void spillfinch_close(const uint8_t *device, size_t device_length, const uint8_t *outcome, size_t outcome_length, uint8_t *target,
+                      size_t target_length, uint32_t answer[SPILLFINCH_ANSWER_LENGTH]);
+
+/* Outcome records are of edition 2 everywhere but here. */
+
+/* Writes an outcome record of edition 1 as one of edition 2. Refusals: 1, 3, 4. */
+void spillfinch_newer(const uint8_t *device, size_t device_length, const uint8_t *outcome, size_t outcome_length, uint8_t *target,
+                      size_t target_length, uint32_t answer[SPILLFINCH_ANSWER_LENGTH]);
+
+/* Writes an outcome record of edition 2 as one of edition 1, into a target of SPILLFINCH_OLD_OUTCOME_ROOM. Refusals: 1, 3, 4, 5. */
+void spillfinch_older(const uint8_t *device, size_t device_length, const uint8_t *outcome, size_t outcome_length, uint8_t *target,
                       size_t target_length, uint32_t answer[SPILLFINCH_ANSWER_LENGTH]);
 
 #ifdef __cplusplus

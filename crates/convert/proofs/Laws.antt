@@ -205,10 +205,10 @@ module _ (n : ℕ) (rec : List ℕ) (s : State) (by : Bytes rec) (is : decode n 
         at (x ∷ xs) b e h = let k = eqb-true ((x - 16) / 16) 1 (ages n x xs s b e is-plain .edition) in omega arith
 
     pub aged-size : (length rec - 2 ≡ length (aged rec)) × (length rec - 2 ≤ fullestOld)
+    unfolding aged
     aged-size = let k = sized rec header-in in (k, omega (arith, aged-fits, k))
       where
         sized : (l : List ℕ) → 13 ≤ length l → length l - 2 ≡ length (aged l)
-        unfolding aged
         sized [] h = absurd (omega arith)
         sized (x ∷ xs) h =
             let a = length-append (take 10 xs) (drop 12 xs) in

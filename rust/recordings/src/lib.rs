@@ -13,5 +13,5 @@ pub mod recording;
 pub mod sizes;
 
 pub use device::{Action, ChainDevice, Device, Node};
-pub use outcome::{Outcome, RunList};
+pub use outcome::{Outcome, RunList, Watch};
 pub use packed::Entry;

@@ -2,10 +2,10 @@
 
 use crate::packed::{Entry, Reader, Writer};
 
-const EDITION: usize = 1;
-/// Edition, the closed keys, owner, group, whether there is a mode, mode, priority, then the
-/// counts of links, properties, tags and runs.
-const HEAD: [u32; 16] = [4, 1, 1, 1, 1, 1, 1, 6, 6, 1, 12, 32, 5, 6, 5, 5];
+const EDITION: usize = 2;
+/// Edition, the closed keys, owner, group, whether there is a mode, mode, priority, the counts
+/// of links, properties, tags and runs, then output, watch, unused.
+const HEAD: [u32; 19] = [4, 1, 1, 1, 1, 1, 1, 6, 6, 1, 12, 32, 5, 6, 5, 5, 10, 2, 4];
 const NAME: [u32; 1] = [8];
 /// Builtin, place, template, unused.
 const RUN: [u32; 4] = [1, 5, 9, 1];
@@ -39,6 +39,35 @@ impl RunType {
     }
 }
 
+/// Whether the device is watched for changes, as OPTIONS says.
+#[derive(Clone, Copy, Debug, Default, PartialEq, Eq)]
+pub enum Watch {
+    #[default]
+    Unset,
+    Watch,
+    NoWatch,
+}
+
+impl Watch {
+    fn of_number(number: usize) -> Option<Watch> {
+        match number {
+            0 => Some(Watch::Unset),
+            1 => Some(Watch::Watch),
+            2 => Some(Watch::NoWatch),
+            _ => None,
+        }
+    }
+
+    /// The value of OPTIONS that sets it.
+    pub fn word(self) -> Option<&'static str> {
+        match self {
+            Watch::Unset => None,
+            Watch::Watch => Some("watch"),
+            Watch::NoWatch => Some("nowatch"),
+        }
+    }
+}
+
 #[derive(Clone, Debug, PartialEq, Eq)]
 pub struct Run {
     pub run_type: RunType,
@@ -56,6 +85,9 @@ pub struct Outcome {
     pub group: Vec<u8>,
     pub mode: Option<u32>,
     pub priority: i32,
+    /// What a program said last; empty if none did.
+    pub output: Vec<u8>,
+    pub watch: Watch,
     pub links: Vec<Vec<u8>>,
     pub properties: Vec<Entry>,
     pub tags: Vec<Vec<u8>>,
@@ -86,8 +118,12 @@ impl Outcome {
                 self.properties.len(),
                 self.tags.len(),
                 self.runs.len(),
+                self.output.len(),
+                self.watch as usize,
+                0,
             ],
         );
+        writer.text(&self.output);
         writer.text(&self.owner);
         writer.text(&self.group);
         encode_names(&mut writer, &self.links);
@@ -104,17 +140,21 @@ impl Outcome {
     /// What a record says, or `None` if it is cut short or laid out otherwise.
     pub fn decode(record: &[u8]) -> Option<Outcome> {
         let mut reader = Reader::new(record);
-        let [edition, closed @ .., owner, group, has_mode, mode, priority, links, properties, tags, runs] =
+        let [edition, closed @ .., owner, group, has_mode, mode, priority, links, properties, tags, runs, output, watch, _] =
             reader.fields(HEAD)?;
         if edition != EDITION {
             return None;
         }
+        let watch = Watch::of_number(watch)?;
+        let output = reader.text(output)?;
         let outcome = Outcome {
             closed: closed.map(|flag| flag == 1),
             owner: reader.text(owner)?,
             group: reader.text(group)?,
             mode: (has_mode == 1).then_some(mode as u32),
             priority: priority as u32 as i32,
+            output,
+            watch,
             links: decode_names(&mut reader, links)?,
             properties: reader.entries(properties)?,
             tags: decode_names(&mut reader, tags)?,

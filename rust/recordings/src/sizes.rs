@@ -23,3 +23,4 @@ pub const RUN_MOST: usize = 256;
 /// Of an owner and of a group.
 pub const OWNER_MOST: usize = 32;
 pub const MODE_DIGITS_MOST: usize = 4;
+pub const OUTPUT_MOST: usize = 512;

@@ -100,19 +100,28 @@ fn outcomes_at_fault() {
         ("mode 1\nmode 1", "line 2: a second `mode`"),
         ("priority 2147483648", "line 1: `2147483648` is no number from -2147483648 to 2147483647"),
         ("priority 1\npriority 1", "line 2: a second `priority`"),
+        ("watch yes", "line 1: `watch` stands alone"),
+        ("nowatch no", "line 1: `nowatch` stands alone"),
+        ("watch\nwatch", "line 2: a second `watch` or `nowatch`"),
+        ("nowatch\nwatch", "line 2: a second `watch` or `nowatch`"),
+        ("output \\x00", "line 1: a record holds no NUL byte"),
+        ("output a\noutput a", "line 2: a second `output`"),
         ("link /a", "line 1: a link starts with no `/` and has no empty, `.` or `..` component"),
         ("link a/../b", "line 1: a link starts with no `/` and has no empty, `.` or `..` component"),
         ("link a\nlink a", "line 2: the same `link` a second time"),
         ("tag a\ntag a", "line 2: the same `tag` a second time"),
         ("program 0", "line 1: `program` takes a place (0 for none) and a template"),
         ("builtin 17 a", "line 1: `17` is no number from 0 to 16"),
-        ("links a", "line 1: unknown word `links`; an outcome has closed, owner, group, mode, priority, link, property, tag, program and builtin"),
+        ("links a", "line 1: unknown word `links`; an outcome has closed, owner, group, mode, priority, watch, nowatch, output, link, property, tag, program and builtin"),
         (&lines("", link, 17), "line 17: more than 16 lines of `link`"),
         (&lines("", run, 17), "line 17: more than 16 runs"),
     ];
     for (form, expected) in table {
         assert_eq!(message(read_outcome(form.as_bytes())), expected);
     }
+    let long = format!("output {}", "o".repeat(513));
+    let expected = "line 1: the output has 513 bytes; it takes 0 to 512";
+    assert_eq!(message(read_outcome(long.as_bytes())), expected);
     let long = format!("tag {}", "t".repeat(65));
     let expected = "line 1: the tag has 65 bytes; it takes 1 to 64";
     assert_eq!(message(read_outcome(long.as_bytes())), expected);

@@ -13,6 +13,7 @@ fn sizes_are_those_of_the_header() {
         ("LINKS_MOST", sizes::LINKS_MOST),
         ("TAGS_MOST", sizes::TAGS_MOST),
         ("RUNS_MOST", sizes::RUNS_MOST),
+        ("OUTPUT_MOST", sizes::OUTPUT_MOST),
     ] {
         let definition = format!("#define SPILLFINCH_{name} {size}");
         assert!(header.lines().any(|line| line == definition), "{name}");

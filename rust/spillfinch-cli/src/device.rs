@@ -9,7 +9,7 @@ use recordings::escape::escape;
 use recordings::form::{read_device, read_outcome, FormError};
 use recordings::import::{import, Named};
 use recordings::recording::{is_recording, read_recording, Block};
-use recordings::{Action, Device, Entry};
+use recordings::{Action, Device, Entry, Outcome};
 use spillfinch::Refused;
 
 use crate::files;
@@ -99,16 +99,22 @@ pub fn read(argument: &OsStr, rules: &[u8]) -> Result<Recorded, Failure> {
 /// The packed record of an outcome, from a packed record or a text form.
 pub fn read_start(file: &Path) -> Result<Vec<u8>, Failure> {
     let bytes = files::read(file)?;
-    if is_packed(&bytes) {
+    if is_packed(&bytes) || Outcome::decode(&bytes).is_some() {
         return Ok(bytes);
     }
     let outcome = read_outcome(&bytes).map_err(|error| at_line(file, &error))?;
     packed(file, outcome.encode())
 }
 
-/// A record begins with its edition, 1, in four bits; a text form holds no NUL.
+/// Records of edition 1 have that number in their first four bits, which no byte of a text
+/// form has; a text form holds no NUL.
 fn is_packed(bytes: &[u8]) -> bool {
-    matches!(bytes, [0x10..=0x1f, ..]) || bytes.contains(&0)
+    is_old(bytes) || bytes.contains(&0)
+}
+
+/// Whether a record is of edition 1.
+pub fn is_old(record: &[u8]) -> bool {
+    matches!(record, [0x10..=0x1f, ..])
 }
 
 /// What was made of a file; its lengths were looked at before, so it fits.

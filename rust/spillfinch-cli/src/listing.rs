@@ -47,6 +47,10 @@ fn lines(ran: &Ran, list: &[u8]) -> String {
             lines.add(word, name);
         }
     }
+    if let Some(word) = outcome.watch.word() {
+        lines.0 += word;
+        lines.0.push('\n');
+    }
     for link in &outcome.links {
         lines.add("link", link);
     }

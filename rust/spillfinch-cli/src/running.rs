@@ -57,22 +57,28 @@ impl Rules {
     }
 
     /// The refusal with the file and the line that it is about.
-    fn explain(&self, refused: &Refused, device: &str) -> String {
+    fn explain(&self, refused: &Refused, name: &str) -> String {
         let Refused { refusal, line } = *refused;
         let number = refusal.number();
         let rules = files::shown(&self.path);
         let file = match (refusal, &self.start) {
-            (Refusal::DeviceBad, _) => device.to_string(),
+            (Refusal::DeviceBad, _) => name.to_string(),
             (Refusal::OutcomeBad, Some(start)) => files::shown(&start.path),
             _ if line > 0 => format!("{rules}:{line}"),
             _ => rules,
         };
         let is_of_run = refusal >= Refusal::SubstitutionLong;
-        let device = match is_of_run {
-            true => format!(", for {device}"),
+        let of_device = match is_of_run {
+            true => format!(", for {name}"),
             false => String::new(),
         };
-        format!("{file}: refused {number}: {refusal}{device}")
+        let hint = match (refusal, &self.start) {
+            (Refusal::OutcomeBad, Some(start)) if device::is_old(&start.record) => {
+                "; it is of edition 1, of which `spillfinch convert` makes edition 2"
+            }
+            _ => "",
+        };
+        format!("{file}: refused {number}: {refusal}{hint}{of_device}")
     }
 }
 

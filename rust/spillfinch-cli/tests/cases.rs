@@ -153,7 +153,7 @@ fn cases_that_cannot_be_read() {
         spillfinch: none: a listing is expected, but no file ends in .device or .umockdev\n\
         spillfinch: odd/expected: Is a directory\n\
         spillfinch: start/from:1: unknown word `links`; an outcome has closed, owner, group, mode, \
-        priority, output, watch, link, property, tag, program and builtin\n\
+        priority, watch, nowatch, output, link, property, tag, program and builtin\n\
         spillfinch: two: more than one rules file\n";
     let said = folder.run(&["test"]);
     assert_eq!((said.status, said.err.as_str()), (2, errors));

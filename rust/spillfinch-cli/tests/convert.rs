@@ -51,7 +51,11 @@ fn refused() {
     run("convert new --device dev").is(1, "", &format!("new: refused 4: {faulty}"));
     run("convert old --device dev --edition 1").is(1, "", &format!("old: refused 4: {faulty}"));
     run("convert form --device dev").is(1, "", &format!("form: refused 4: {faulty}"));
-    run("convert old --device bad.device").is(1, "", "bad.device: refused 3: the device record is faulty\n");
+    run("convert old --device bad.device").is(
+        1,
+        "",
+        "bad.device: refused 3: the device record is faulty\n",
+    );
     let said = run("run watch.rules --device dev --from new --record watched");
     assert_eq!(said.status, 0, "{}", said.err);
     let expected = "watched: refused 5: edition 1 has no room for an output, watch or nowatch\n";
@@ -83,7 +87,7 @@ fn the_listing_says_watch_behind_the_group() {
     };
     run("none.rules").is(0, &lines(""), "");
     run("watch.rules").is(0, &lines("nowatch\n"), "");
-    folder.file("start", format!("{FORM}watch watch\noutput a b\\x0a\n"));
+    folder.file("start", format!("{FORM}watch\noutput a b\\x0a\n"));
     run("none.rules").is(0, &lines("").replace("link", "watch\nlink"), "");
 }
 
@@ -91,7 +95,8 @@ fn the_listing_says_watch_behind_the_group() {
 fn records_without_a_zero_byte_are_no_text() {
     let folder = folder("no_zero_byte");
     // Closed keys, mode, priority, counts and the output's length leave no byte zero.
-    let record = b"\x2f\xc1\x06\x3f\xa1\x11\x11\x11\x21\x04\x21\x01\x10ooooog\x01l\x02\x01kv\x01t\x04\x02a";
+    let record =
+        b"\x2f\xc1\x06\x3f\xa1\x11\x11\x11\x21\x04\x21\x01\x10ooooog\x01l\x02\x01kv\x01t\x04\x02a";
     assert!(!record.contains(&0));
     folder.file("start", record);
     let said = run_in(

@@ -42,6 +42,26 @@ extern "C" {
         target_length: usize,
         answer: *mut Answer,
     );
+
+    fn spillfinch_newer(
+        device: *const u8,
+        device_length: usize,
+        outcome: *const u8,
+        outcome_length: usize,
+        target: *mut u8,
+        target_length: usize,
+        answer: *mut Answer,
+    );
+
+    fn spillfinch_older(
+        device: *const u8,
+        device_length: usize,
+        outcome: *const u8,
+        outcome_length: usize,
+        target: *mut u8,
+        target_length: usize,
+        answer: *mut Answer,
+    );
 }
 
 // Each call gives pointers and lengths of slices that live through it; what is written is
@@ -82,6 +102,34 @@ pub fn run(text: &[u8], device: &[u8], outcome: &[u8], target: &mut [u8], answer
 pub fn close(device: &[u8], outcome: &[u8], target: &mut [u8], answer: &mut Answer) {
     unsafe {
         spillfinch_close(
+            device.as_ptr(),
+            device.len(),
+            outcome.as_ptr(),
+            outcome.len(),
+            target.as_mut_ptr(),
+            target.len(),
+            answer,
+        );
+    }
+}
+
+pub fn newer(device: &[u8], outcome: &[u8], target: &mut [u8], answer: &mut Answer) {
+    unsafe {
+        spillfinch_newer(
+            device.as_ptr(),
+            device.len(),
+            outcome.as_ptr(),
+            outcome.len(),
+            target.as_mut_ptr(),
+            target.len(),
+            answer,
+        );
+    }
+}
+
+pub fn older(device: &[u8], outcome: &[u8], target: &mut [u8], answer: &mut Answer) {
+    unsafe {
+        spillfinch_older(
             device.as_ptr(),
             device.len(),
             outcome.as_ptr(),

@@ -56,6 +56,22 @@ pub fn close(device: &[u8], outcome: &[u8]) -> Result<Vec<u8>, Refused> {
     Ok(list)
 }
 
+/// An outcome record of edition 1 as one of edition 2.
+pub fn newer(device: &[u8], outcome: &[u8]) -> Result<Vec<u8>, Refused> {
+    let (_, record) = written(sizes::OUTCOME_ROOM, |target, answer| {
+        calls::newer(device, outcome, target, answer);
+    })?;
+    Ok(record)
+}
+
+/// An outcome record of edition 2 as one of edition 1.
+pub fn older(device: &[u8], outcome: &[u8]) -> Result<Vec<u8>, Refused> {
+    let (_, record) = written(sizes::OLD_OUTCOME_ROOM, |target, answer| {
+        calls::older(device, outcome, target, answer);
+    })?;
+    Ok(record)
+}
+
 fn accepted(answer: &Answer) -> Result<(), Refused> {
     match answer[calls::NUMBER] {
         0 => Ok(()),

@@ -1,7 +1,9 @@
 //! Rooms and limits of `include/spillfinch.h`, in bytes or entries.
 
 /// The fullest outcome record.
-pub const OUTCOME_ROOM: usize = 17_611;
+pub const OUTCOME_ROOM: usize = 18_125;
+/// The fullest outcome record of edition 1.
+pub const OLD_OUTCOME_ROOM: usize = 17_611;
 /// The fullest run list.
 pub const RUN_LIST_ROOM: usize = 8_225;
 

@@ -36,6 +36,7 @@ fn sizes_are_those_of_the_header() {
     let defined = defined();
     for (name, size) in [
         ("OUTCOME_ROOM", sizes::OUTCOME_ROOM),
+        ("OLD_OUTCOME_ROOM", sizes::OLD_OUTCOME_ROOM),
         ("RUN_LIST_ROOM", sizes::RUN_LIST_ROOM),
         ("TEXT_MOST", sizes::TEXT_MOST),
         ("LINE_MOST", sizes::LINE_MOST),

@@ -1,6 +1,6 @@
 //! Each operation once accepted and once refused.
 
-use spillfinch::{check, close, fresh, run, Refusal, Refused};
+use spillfinch::{check, close, fresh, newer, older, run, sizes, Refusal, Refused};
 
 /// ttyUSB0 with one property and no parents.
 const DEVICE: &[u8] = b"\x10\x10\xbc\x00\x00\x00\x40\x10\x07ID_MODELcounter\x0a\x86\x00\x00\
@@ -24,12 +24,102 @@ fn checks() {
 #[test]
 fn runs_and_closes() {
     let start = fresh(DEVICE).expect("a sound device");
-    assert_eq!(start[11..], *b"\x10\x07ID_MODELcounter");
+    assert_eq!(start[13..], *b"\x10\x07ID_MODELcounter");
     let ran = run(RULES, DEVICE, &start).expect("an accepted run");
     assert_eq!(ran.visited, 1);
-    assert_eq!(ran.record[11..20], *b"\x08counter0");
+    assert_eq!(ran.record[13..22], *b"\x08counter0");
     let list = close(DEVICE, &ran.record).expect("an accepted close");
     assert_eq!(list, b"\x08\x01\xa0tally counter");
+}
+
+#[test]
+fn converts() {
+    let start = fresh(DEVICE).expect("a sound device");
+    let ran = run(RULES, DEVICE, &start).expect("an accepted run");
+    let old = older(DEVICE, &ran.record).expect("nothing that edition 1 lacks");
+    assert_eq!(old[0], ran.record[0] - 16);
+    assert_eq!(old[11..], ran.record[13..]);
+    assert_eq!(newer(DEVICE, &old).as_ref(), Ok(&ran.record));
+    assert_eq!(newer(DEVICE, &ran.record), refused(Refusal::OutcomeBad, 0));
+    assert_eq!(older(DEVICE, &old), refused(Refusal::OutcomeBad, 0));
+    assert_eq!(close(DEVICE, &old), refused(Refusal::OutcomeBad, 0));
+    let watched = run(b"OPTIONS=\"watch\"", DEVICE, &start).expect("an accepted run");
+    assert_eq!(older(DEVICE, &watched.record), refused(Refusal::TooNew, 0));
+}
+
+/// Names of so many bytes that differ in their first one.
+fn names(count: u8, length: usize) -> impl Iterator<Item = Vec<u8>> {
+    (0..count).map(move |index| {
+        let mut name = vec![b'x'; length];
+        name[0] = b'A' + index;
+        name
+    })
+}
+
+/// The parts of a record with as much of everything as there may be, behind its output.
+fn fullest_parts() -> Vec<u8> {
+    let mut parts = vec![b'o'; 64];
+    for link in names(16, 128) {
+        parts.push(128);
+        parts.extend(link);
+    }
+    for key in names(32, 64) {
+        parts.extend([64 << 1 | 1, 0]);
+        parts.extend(key);
+        parts.extend([b'v'; 256]);
+    }
+    for tag in names(16, 64) {
+        parts.push(64);
+        parts.extend(tag);
+    }
+    for _ in 0..16 {
+        parts.extend([0x06, 0x00]);
+        parts.extend([b'r'; 256]);
+    }
+    parts
+}
+
+/// Every key closed, owner and group of 32, mode 7775, priority -1, then the counts.
+fn fullest_header(edition: u128) -> u128 {
+    let fields = [
+        (4, edition),
+        (6, 63),
+        (6, 32),
+        (6, 32),
+        (1, 1),
+        (12, 0o7775),
+        (32, 0xffff_ffff),
+        (5, 16),
+        (6, 32),
+        (5, 16),
+        (5, 16),
+    ];
+    fields
+        .iter()
+        .fold(0, |header, (width, number)| header << width | number)
+}
+
+#[test]
+fn fullest_records() {
+    let parts = fullest_parts();
+    let header = (fullest_header(2) << 10 | 512) << 6 | 2 << 4;
+    let output = [b'y'; 512];
+    let new = [&header.to_be_bytes()[3..], &output, &parts].concat();
+    assert_eq!(new.len(), sizes::OUTCOME_ROOM);
+    let ran = run(b"", DEVICE, &new).expect("the fullest record");
+    assert_eq!(ran.record, new);
+    assert_eq!(older(DEVICE, &new), refused(Refusal::TooNew, 0));
+
+    let old = [&fullest_header(1).to_be_bytes()[5..], &parts].concat();
+    assert_eq!(old.len(), sizes::OLD_OUTCOME_ROOM);
+    let newer = newer(DEVICE, &old).expect("the fullest record of edition 1");
+    assert_eq!(newer.len(), old.len() + 2);
+    assert_eq!(older(DEVICE, &newer).as_ref(), Ok(&old));
+    let longer = [&old[..], b"x"].concat();
+    assert_eq!(
+        spillfinch::newer(DEVICE, &longer),
+        refused(Refusal::OutcomeBad, 0)
+    );
 }
 
 #[test]
@@ -37,6 +127,10 @@ fn refuses() {
     assert_eq!(fresh(b""), refused(Refusal::DeviceBad, 0));
     assert_eq!(run(RULES, DEVICE, b""), refused(Refusal::OutcomeBad, 0));
     assert_eq!(close(DEVICE, b""), refused(Refusal::OutcomeBad, 0));
+    assert_eq!(newer(b"", b""), refused(Refusal::DeviceBad, 0));
+    assert_eq!(newer(DEVICE, b""), refused(Refusal::OutcomeBad, 0));
+    assert_eq!(older(b"", b""), refused(Refusal::DeviceBad, 0));
+    assert_eq!(older(DEVICE, b""), refused(Refusal::OutcomeBad, 0));
     let start = fresh(DEVICE).expect("a sound device");
     assert_eq!(
         run(b"SYMLINK=\"../x\"", DEVICE, &start),

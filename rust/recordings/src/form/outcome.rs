@@ -2,7 +2,7 @@
 
 use super::{bytes_within, each_line, entry_line, is_blank, number, trim, FormError, Line, Taken};
 use crate::escape::escape_for_form;
-use crate::outcome::{Outcome, Run, RunType, CLOSABLE};
+use crate::outcome::{Outcome, Run, RunType, Watch, CLOSABLE};
 use crate::sizes;
 
 /// The outcome that a text form describes. Whether its templates are well formed, and its
@@ -32,6 +32,12 @@ pub fn write_outcome(outcome: &Outcome) -> String {
         form += &format!("mode {mode:04o}\n");
     }
     form += &format!("priority {}\n", outcome.priority);
+    if let Some(word) = outcome.watch.word() {
+        form += &format!("{word}\n");
+    }
+    if !outcome.output.is_empty() {
+        form += &format!("output {}\n", escape_for_form(&outcome.output));
+    }
     for link in &outcome.links {
         form += &format!("link {}\n", escape_for_form(link));
     }
@@ -55,6 +61,8 @@ struct Reading {
     group: Option<Vec<u8>>,
     mode: Option<u32>,
     priority: Option<i32>,
+    watch: Option<Watch>,
+    output: Option<Vec<u8>>,
     lists: Outcome,
 }
 
@@ -70,6 +78,12 @@ impl Reading {
                 let priority = number(line.text, i32::MIN..=i32::MAX)?;
                 line.set_once(&mut self.priority, priority)
             }
+            "watch" => self.set_watch(line, Watch::Watch),
+            "nowatch" => self.set_watch(line, Watch::NoWatch),
+            "output" => {
+                let output = line.bytes(0..=sizes::OUTPUT_MOST)?;
+                line.set_once(&mut self.output, output)
+            }
             "link" => line.add_name(&mut lists.links, link(line)?, sizes::LINKS_MOST),
             "property" => line.add_entry(&mut lists.properties, sizes::PROPERTIES_MOST),
             "tag" => {
@@ -79,10 +93,20 @@ impl Reading {
             "program" => add_run(&mut lists.runs, line, RunType::Program),
             "builtin" => add_run(&mut lists.runs, line, RunType::Builtin),
             word => Err(format!(
-                "unknown word `{}`; an outcome has closed, owner, group, mode, priority, link, \
-                 property, tag, program and builtin",
+                "unknown word `{}`; an outcome has closed, owner, group, mode, priority, watch, \
+                 nowatch, output, link, property, tag, program and builtin",
                 escape_for_form(word.as_bytes())
             )),
+        }
+    }
+
+    fn set_watch(&mut self, line: &Line, watch: Watch) -> Taken<()> {
+        if !line.text.is_empty() {
+            return Err(format!("`{}` stands alone", line.word));
+        }
+        match self.watch.replace(watch) {
+            None => Ok(()),
+            Some(_) => Err(String::from("a second `watch` or `nowatch`")),
         }
     }
 
@@ -93,6 +117,8 @@ impl Reading {
             group: self.group.unwrap_or_default(),
             mode: self.mode,
             priority: self.priority.unwrap_or(0),
+            watch: self.watch.unwrap_or_default(),
+            output: self.output.unwrap_or_default(),
             ..self.lists
         }
     }

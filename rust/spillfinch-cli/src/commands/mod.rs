@@ -1,6 +1,7 @@
 //! The commands: for each, its arguments and its work.
 
 mod check;
+mod convert;
 mod import;
 mod run;
 mod show;
@@ -18,12 +19,13 @@ type Done = Result<Report, Failure>;
 /// A command and what carries it out.
 type Row = (fn() -> Command, fn(&ArgMatches) -> Done);
 
-const COMMANDS: [Row; 5] = [
+const COMMANDS: [Row; 6] = [
     (check::command, check::run),
     (run::command, run::run),
     (test::command, test::run),
     (show::command, show::run),
     (import::command, import::run),
+    (convert::command, convert::run),
 ];
 
 pub fn command() -> Command {

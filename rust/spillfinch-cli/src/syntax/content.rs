@@ -14,17 +14,16 @@ pub struct ContentFault {
 const TAG_MOST: usize = 64;
 const DIGITS_MOST: usize = 10;
 const PRIORITY: &str = "link_priority=";
-const OPTIONS: [&str; 3] = ["string_escape=none", "string_escape=replace", PRIORITY];
+const OPTIONS: [&str; 5] = [
+    "string_escape=none",
+    "string_escape=replace",
+    "watch",
+    "nowatch",
+    PRIORITY,
+];
 
 /// Settings of udev that the engine does not read, or how they begin.
-const UNREAD_OPTIONS: [&str; 6] = [
-    "db_persist",
-    "dump",
-    "log_level=",
-    "nowatch",
-    "static_node=",
-    "watch",
-];
+const UNREAD_OPTIONS: [&str; 4] = ["db_persist", "dump", "log_level=", "static_node="];
 
 pub fn fault(key: Key, operator: Operator, value: &[u8]) -> Option<ContentFault> {
     if operator.is_match() {
@@ -82,7 +81,7 @@ pub fn priority(value: &[u8]) -> Option<i32> {
 }
 
 fn option_fault(value: &[u8]) -> Option<ContentFault> {
-    if OPTIONS[..2].iter().any(|option| option.as_bytes() == value) || priority(value).is_some() {
+    if OPTIONS[..4].iter().any(|option| option.as_bytes() == value) || priority(value).is_some() {
         return None;
     }
     let written = String::from_utf8_lossy(value);
@@ -101,7 +100,8 @@ fn option_fault(value: &[u8]) -> Option<ContentFault> {
         let alike = did_you_mean(&written, OPTIONS);
         alike.unwrap_or_else(|| {
             String::from(
-                "OPTIONS takes link_priority=N, string_escape=none or string_escape=replace",
+                "OPTIONS takes link_priority=N, string_escape=none, string_escape=replace, watch or \
+                 nowatch",
             )
         })
     };
