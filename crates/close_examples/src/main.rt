@@ -13,8 +13,8 @@ const DEVICE: [u8; 116] =
     *b"\x11\x10\xbc\x00\x00P@\x02\x06Ddevice\x08\x86\x00\x80/usb/tty/ttyUSB12tty\x0a\x05modelE 1 \x09\x0a\x00empty\x02\x06@\xc0/usbusbftdi sio\x0a\x06modelparent\x0c\x06serialRC 7 \x0a\x0a\x04emptyfull";
 
 // The header, and properties A=`x y`, B of 64 bytes, E of none.
-const FRONT: [u8; 87] =
-    *b"\x10\x00\x00\x00\x00\x00\x00\x00\x00\x0c\x01\x02\x03Ax y\x02@Bbbbbbbbbbbbbbbbbbbbbbbbbbbbbbbbbbbbbbbbbbbbbbbbbbbbbbbbbbbbbbbbb\x02\x00E";
+const FRONT: [u8; 89] =
+    *b" \x00\x00\x00\x00\x00\x00\x00\x00\x0c\x01\x00\x00\x02\x03Ax y\x02@Bbbbbbbbbbbbbbbbbbbbbbbbbbbbbbbbbbbbbbbbbbbbbbbbbbbbbbbbbbbbbbbbb\x02\x00E";
 
 fn say(word: &[u8]) {
     io::write_all(STDOUT_FILENO, word);
@@ -48,13 +48,13 @@ fn digit_of(b: u8) -> usize
 fn show_close(place: usize, template: &[u8])
     requires { ⌜ length (now template) ≤ 256 ⌝ }
 {
-    let mut rec = [0u8; 345];
+    let mut rec = [0u8; 347];
     splice::store(&mut rec, 0, &FRONT);
-    let len_at = BitCursor { at: 697 }.put(&mut rec, 5, place);
+    let len_at = BitCursor { at: 713 }.put(&mut rec, 5, place);
     len_at.put(&mut rec, 9, template.len());
-    splice::store(&mut rec, 89, template);
+    splice::store(&mut rec, 91, template);
     let mut target = [0u8; 8225];
-    let end = 89 + template.len();
+    let end = 91 + template.len();
     let given = close::close(&DEVICE, &rec[0..end], &mut target);
     if given.number == 0 {
         say_text(&target, given.used as usize);

@@ -8,9 +8,9 @@ use libc::STDOUT_FILENO;
 const DEVICE: [u8; 89] =
     *b"\x11\x10\xbc\x00\x00\x00\x00\x10\x86\x00\x00/devices/usb1/1-2/1-2:1.0/ttyUSB0tty\x08\x86\x18@/devices/usb1/1-2usbusb\x0c\x07serialRC-0417";
 
-// Owner u, mode 0600, priority 5, link old, property K=V, tag g, program x.
-const OUTCOME: [u8; 25] =
-    *b"\x10\x01\x020\x00\x00\x00\x00\xa1\x04!u\x03old\x02\x01KV\x01g\x00\x02x";
+// Owner u, mode 0600, priority 5, the output `said`, nowatch, link old, property K=V, tag g, program x.
+const OUTCOME: [u8; 31] =
+    *b" \x01\x020\x00\x00\x00\x00\xa1\x04!\x01 saidu\x03old\x02\x01KV\x01g\x00\x02x";
 
 fn say(word: &[u8]) {
     io::write_all(STDOUT_FILENO, word);
@@ -79,6 +79,11 @@ fn main() {
         &DEVICE,
     );
     show(
+        b"watch",
+        b"OPTIONS=\"nowatch\", GROUP=\"g\"\x0aOPTIONS+=\"watch\", SYMLINK=\"l\"\x0aKERNEL==\"none\", OPTIONS=\"nowatch\"",
+        &DEVICE,
+    );
+    show(
         b"a jump without its label",
         b"\x0a\x0a# jump\x0aKERNEL==\"a\", GOTO=\"end\"\x0a",
         &DEVICE,
@@ -106,11 +111,16 @@ fn main() {
     );
     show_from(b"from a record", b"SYMLINK+=\"new\", ENV{K}=\"\"", &OUTCOME);
     show(b"a faulty device", b"TAG+=\"t\"", &DEVICE[..88]);
-    show_from(b"a faulty record", b"TAG+=\"t\"", &OUTCOME[..24]);
+    show_from(b"a faulty record", b"TAG+=\"t\"", &OUTCOME[..30]);
     show_from(
         b"a record of mode 0606, closed",
         b"TAG+=\"t\"",
-        b"\x10A\x020\xc0\x00\x00\x00\xa1\x04!u\x03old\x02\x01KV\x01g\x00\x02x",
+        b" A\x020\xc0\x00\x00\x00\xa1\x04!\x00\x00u\x03old\x02\x01KV\x01g\x00\x02x",
+    );
+    show_from(
+        b"a record of edition 1",
+        b"TAG+=\"t\"",
+        b"\x10\x01\x020\x00\x00\x00\x00\xa1\x04!u\x03old\x02\x01KV\x01g\x00\x02x",
     );
     show(
         b"a faulty text and a faulty device",

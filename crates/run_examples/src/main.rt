@@ -15,8 +15,11 @@ const TTY: [u8; 116] =
 // Property P=`a b`; the device /block/sda of subsystem block.
 const BLOCK: [u8; 32] = *b"\x10\x00\x00\x00\x00\x00@\x02\x03Pa b\x05\x0a\x00\x00/block/sdablock";
 
-// Edition 2: no device record, and no outcome record.
-const FAULTY: [u8; 11] = *b" \x00\x00\x00\x00\x00\x00\x00\x00\x00\x00";
+// No device record: its edition is 2.
+const FAULTY: [u8; 13] = *b" \x00\x00\x00\x00\x00\x00\x01\x00\x00\x00/a";
+
+// No outcome record: its edition is 1.
+const OLD: [u8; 11] = *b"\x10\x00\x00\x00\x00\x00\x00\x00\x00\x00\x00";
 
 fn say(word: &[u8]) {
     io::write_all(STDOUT_FILENO, word);
@@ -184,18 +187,20 @@ fn agree_name(want: &[u8], from: Spot, word: &[u8], t: &[u8], len: u32) -> Spot 
     agree_text(want, from.n, word, t, from.at, len)
 }
 
-// The flags of closed keys, the priority and the mode as numbers.
+// The flags of closed keys, the priority, the mode and watch as numbers.
 fn agree_fields(want: &[u8], n: usize, t: &[u8]) -> usize {
     let closed = (byte(t, 0) & 15) << 2 | byte(t, 1) >> 6;
     let low = byte(t, 5) << 19 | byte(t, 6) << 11 | byte(t, 7) << 3 | byte(t, 8) >> 5;
     let mode = (byte(t, 2) & 1) << 11 | byte(t, 3) << 3 | byte(t, 4) >> 5;
     let a = agree_field(want, n, b"; closed ", closed);
     let b = agree_field(want, a, b"; priority ", byte(t, 4) << 27 | low);
-    agree_field(want, b, b"; mode ", mode)
+    let c = agree_field(want, b, b"; mode ", mode);
+    agree_field(want, c, b"; watch ", byte(t, 12) >> 4 & 3)
 }
 
 fn agree_names(want: &[u8], from: Spot, t: &[u8]) -> Spot {
-    let owner = agree_name(want, from, b"; owner ", t, byte(t, 1) & 63);
+    let output = agree_name(want, from, b"; output ", t, pair(t, 11) >> 6);
+    let owner = agree_name(want, output, b"; owner ", t, byte(t, 1) & 63);
     agree_name(want, owner, b"; group ", t, byte(t, 2) >> 2)
 }
 
@@ -212,7 +217,7 @@ fn agree_back(want: &[u8], from: Spot, t: &[u8]) -> Spot {
 
 fn agree_record(want: &[u8], n: usize, t: &[u8]) -> usize {
     let fields = agree_fields(want, n, t);
-    let names = agree_names(want, Spot { n: fields, at: 11 }, t);
+    let names = agree_names(want, Spot { n: fields, at: 13 }, t);
     let front = agree_front(want, names, t);
     let back = agree_back(want, front, t);
     back.n
@@ -304,7 +309,7 @@ fn show_run(
 
 // In the room that the case names.
 fn show_from(case: &[u8], device: &[u8], outcome: &[u8], want: &[u8]) {
-    let mut target = [0xaau8; 17611];
+    let mut target = [0xaau8; 18125];
     let first = scan::byte_end(case, 0, b'\n');
     if first < 4 {
         return;
@@ -315,7 +320,7 @@ fn show_from(case: &[u8], device: &[u8], outcome: &[u8], want: &[u8]) {
     let name = &case[4..first];
     let text = &case[first + 1..];
     if scan::byte_at(case, 2) == b'<' {
-        show_run(name, text, device, outcome, &mut target[..17610], want);
+        show_run(name, text, device, outcome, &mut target[..18124], want);
     } else {
         show_run(name, text, device, outcome, &mut target, want);
     }
@@ -329,10 +334,10 @@ fn show_fresh(case: &[u8], device: &[u8], start: &[u8], used: usize, want: &[u8]
 
 fn show_on(case: &[u8], device: &[u8], want: &[u8]) {
     if scan::byte_at(case, 1) != b'f' {
-        show_from(case, device, &FAULTY, want);
+        show_from(case, device, &OLD, want);
         return;
     }
-    let mut start = [0u8; 17611];
+    let mut start = [0u8; 18125];
     let given = fresh::fresh(device, &mut start);
     show_fresh(case, device, &start, given.used as usize, want);
 }

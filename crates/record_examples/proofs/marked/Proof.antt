@@ -1,10 +1,10 @@
--- `fresh_examples::marked` meets its contract.
+-- `record_examples::marked` meets its contract.
 -- Assumes nothing.
 use Prim.Native.Nat.{_-_}
 use lib.ListN.{length}
 use borrow.Author.Needs.{needs}
-use Rattle.fresh_examples.proofs.marked.Statement.{statement}
-use Rattle.fresh_examples.proofs.marked.Tie as tie
+use Rattle.record_examples.proofs.marked.Statement.{statement}
+use Rattle.record_examples.proofs.marked.Tie as tie
 
 abbrev Inv-loop : tie.InvT-loop
 Inv-loop s from n₀ i₀ n i = Unit {0}

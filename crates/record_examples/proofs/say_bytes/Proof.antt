@@ -1,10 +1,10 @@
--- `fresh_examples::say_bytes` meets its contract.
+-- `record_examples::say_bytes` meets its contract.
 -- Assumes nothing.
 use Prim.Native.Nat.{_-_}
 use lib.ListN.{length}
 use borrow.Author.Needs.{needs}
-use Rattle.fresh_examples.proofs.say_bytes.Statement.{statement}
-use Rattle.fresh_examples.proofs.say_bytes.Tie as tie
+use Rattle.record_examples.proofs.say_bytes.Statement.{statement}
+use Rattle.record_examples.proofs.say_bytes.Tie as tie
 
 abbrev Inv-loop : tie.InvT-loop
 Inv-loop s i₀ i = Unit {0}
