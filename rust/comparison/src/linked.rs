@@ -32,6 +32,8 @@ fn call(request: &Request, written: &mut Written, answer: &mut AnswerArray) {
             outcome,
         } => calls::run(text, device, outcome, target, answer),
         Request::Close { device, outcome } => calls::close(device, outcome, target, answer),
+        Request::Newer { device, outcome } => calls::newer(device, outcome, target, answer),
+        Request::Older { device, outcome } => calls::older(device, outcome, target, answer),
     }
 }
 
@@ -55,6 +57,14 @@ impl Engine for LinkedApart {
                 outcome: &own(outcome),
             }),
             Request::Close { device, outcome } => call(Request::Close {
+                device: &own(device),
+                outcome: &own(outcome),
+            }),
+            Request::Newer { device, outcome } => call(Request::Newer {
+                device: &own(device),
+                outcome: &own(outcome),
+            }),
+            Request::Older { device, outcome } => call(Request::Older {
                 device: &own(device),
                 outcome: &own(outcome),
             }),

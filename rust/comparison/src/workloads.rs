@@ -1,7 +1,7 @@
 //! The texts that the benchmark runs, and the device that it runs them on.
 
 use reference::device::Device;
-use reference::generate::{fullest, Case, Rooms};
+use reference::generate::{fullest, Case, Extra, Rooms};
 use reference::text_form::parse_device;
 use reference::{sizes, Outcome};
 
@@ -29,6 +29,7 @@ impl Workload {
                 run: sizes::OUTCOME_TARGET,
                 close: sizes::RUN_LIST_TARGET,
             },
+            extra: Extra::Nothing,
         }
     }
 }

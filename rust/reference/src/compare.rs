@@ -6,7 +6,7 @@ use std::io;
 use std::ops::Range;
 use std::path::Path;
 
-use crate::generate::{self, Case, Rooms};
+use crate::generate::{self, Case, Extra, Rooms};
 use crate::joined;
 use crate::request::Written;
 pub use crate::request::{AnswerArray, Engine, Reference, Request};
@@ -19,6 +19,10 @@ pub enum Operation {
     Close,
     /// The close of the record that the run has left.
     CloseAfterRun,
+    Newer,
+    OlderAfterNewer,
+    Older,
+    NewerAfterOlder,
 }
 
 /// What an operation gave: its answer and all that it wrote to.
@@ -110,15 +114,48 @@ pub fn replies(engine: &dyn Engine, case: &Case) -> Vec<Reply> {
         replies.push(close_of(Operation::CloseAfterRun, run.record()));
     }
     replies.insert(2, run);
+    replies.extend(extra_replies(engine, case));
     replies
 }
 
-/// The number of the first refusal of fresh, run and the close after it; 0 without one.
+fn extra_replies(engine: &dyn Engine, case: &Case) -> Vec<Reply> {
+    match &case.extra {
+        Extra::Nothing => Vec::new(),
+        Extra::Convert { old, newer, older } => convert_replies(engine, case, old, *newer, *older),
+    }
+}
+
+/// There and back from either edition.
+fn convert_replies(
+    engine: &dyn Engine,
+    case: &Case,
+    old: &[u8],
+    newer_room: usize,
+    older_room: usize,
+) -> Vec<Reply> {
+    let device = &case.device;
+    let newer = |operation, outcome| {
+        let request = Request::Newer { device, outcome };
+        reply(engine, operation, &request, newer_room)
+    };
+    let older = |operation, outcome| {
+        let request = Request::Older { device, outcome };
+        reply(engine, operation, &request, older_room)
+    };
+    let there = newer(Operation::Newer, old);
+    let back = older(Operation::OlderAfterNewer, there.record());
+    let other_way = older(Operation::Older, &case.outcome);
+    let back_again = newer(Operation::NewerAfterOlder, other_way.record());
+    vec![there, back, other_way, back_again]
+}
+
+/// The number of the first refusal of fresh, run, the close after it, and what else is asked
+/// for; 0 without one.
 pub fn first_number(replies: &[Reply]) -> u32 {
-    let in_a_row = [Operation::Fresh, Operation::Run, Operation::CloseAfterRun];
+    let apart = [Operation::Check, Operation::Close];
     replies
         .iter()
-        .filter(|reply| in_a_row.contains(&reply.operation))
+        .filter(|reply| !apart.contains(&reply.operation))
         .map(Reply::number)
         .find(|&number| number != 0)
         .unwrap_or(0)
@@ -252,10 +289,15 @@ pub fn write_case(directory: &Path, case: &Case) -> io::Result<()> {
     fs::write(directory.join("text"), &case.text)?;
     fs::write(directory.join("device"), &case.device)?;
     fs::write(directory.join("outcome"), &case.outcome)?;
-    fs::write(
-        directory.join("rooms"),
-        format!("fresh {fresh}\nrun {run}\nclose {close}\n"),
-    )
+    let mut rooms = format!("fresh {fresh}\nrun {run}\nclose {close}\n");
+    match &case.extra {
+        Extra::Nothing => {}
+        Extra::Convert { old, newer, older } => {
+            fs::write(directory.join("old"), old)?;
+            rooms += &format!("newer {newer}\nolder {older}\n");
+        }
+    }
+    fs::write(directory.join("rooms"), rooms)
 }
 
 /// Reads a case that `write_case` has written.
@@ -267,6 +309,15 @@ pub fn read_case(directory: &Path) -> io::Result<Case> {
             .find_map(|line| line.strip_prefix(word)?.trim().parse().ok())
             .ok_or_else(|| io::Error::other(format!("no length for {word} in the file rooms")))
     };
+    let extra = if directory.join("old").exists() {
+        Extra::Convert {
+            old: fs::read(directory.join("old"))?,
+            newer: room("newer")?,
+            older: room("older")?,
+        }
+    } else {
+        Extra::Nothing
+    };
     Ok(Case {
         shape: String::from("replayed"),
         text: fs::read(directory.join("text"))?,
@@ -277,5 +328,6 @@ pub fn read_case(directory: &Path) -> io::Result<Case> {
             run: room("run")?,
             close: room("close")?,
         },
+        extra,
     })
 }

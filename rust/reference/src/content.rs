@@ -1,7 +1,7 @@
 //! What a pair means: the reading of its value.
 
 use crate::key::{Key, Operator};
-use crate::outcome::RunType;
+use crate::outcome::{RunType, Watch};
 use crate::pattern::Pattern;
 use crate::sizes;
 use crate::template::Template;
@@ -53,6 +53,7 @@ pub enum Assignment {
     Run(RunType, Template),
     StringEscape(StringEscape),
     LinkPriority(i32),
+    Watch(Watch),
 }
 
 #[derive(Clone, Copy, Debug, PartialEq, Eq)]
@@ -146,6 +147,8 @@ fn read_option(value: &[u8]) -> Option<Assignment> {
     match value {
         b"string_escape=none" => Some(Assignment::StringEscape(StringEscape::None)),
         b"string_escape=replace" => Some(Assignment::StringEscape(StringEscape::Replace)),
+        b"watch" => Some(Assignment::Watch(Watch::Watch)),
+        b"nowatch" => Some(Assignment::Watch(Watch::Nowatch)),
         _ => {
             let number = value.strip_prefix(b"link_priority=")?;
             Some(Assignment::LinkPriority(read_priority(number)?))

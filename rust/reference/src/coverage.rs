@@ -163,7 +163,7 @@ impl Coverage {
                 Operation::CloseAfterRun => {
                     self.fact_if(reply.record().len() > 1, Fact::RunListHasEntries);
                 }
-                Operation::Check | Operation::Fresh | Operation::Close => {}
+                _ => {}
             }
         }
     }

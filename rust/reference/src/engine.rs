@@ -232,6 +232,10 @@ impl Assigner<'_> {
                 self.outcome.priority = *priority;
                 Ok(())
             }
+            Assignment::Watch(watch) => {
+                self.outcome.watch = *watch;
+                Ok(())
+            }
         }
     }
 
@@ -348,9 +352,10 @@ pub fn is_closed(assignment: &Assignment, outcome: &Outcome) -> bool {
         Assignment::Owner(_) => closed.owner,
         Assignment::Group(_) => closed.group,
         Assignment::Mode(_) => closed.mode,
-        Assignment::Property { .. } | Assignment::StringEscape(_) | Assignment::LinkPriority(_) => {
-            false
-        }
+        Assignment::Property { .. }
+        | Assignment::StringEscape(_)
+        | Assignment::LinkPriority(_)
+        | Assignment::Watch(_) => false,
     }
 }
 

@@ -1,8 +1,9 @@
-//! Generated cases: a rules text, a device record, an outcome record and target lengths.
+//! Generated cases: a rules text, a device record, an outcome record, target lengths, and what else is asked for.
 
 mod damage;
 mod edge_cases;
 pub mod edges;
+mod extra;
 pub mod faults;
 pub mod joins;
 mod pairs;
@@ -17,6 +18,8 @@ use crate::sizes;
 use damage::{damage, damage_text, random_bytes};
 pub use edge_cases::fullest;
 use edges::{Edge, EDGES};
+use extra::extra;
+pub use extra::Extra;
 use faults::FAULTY_PAIRS;
 use pairs::{assignment_pair, pair};
 use rng::Rng;
@@ -31,6 +34,7 @@ pub struct Case {
     pub device: Vec<u8>,
     pub outcome: Vec<u8>,
     pub rooms: Rooms,
+    pub extra: Extra,
 }
 
 /// The lengths of the targets.
@@ -44,17 +48,19 @@ pub struct Rooms {
 /// The case of a seed.
 pub fn case(seed: u64) -> Case {
     let rng = &mut Rng::new(seed);
-    match rng.below(1_000) {
+    let mut case = match rng.below(1_000) {
         0..=559 => meaningful(rng),
         560..=659 => with_faulty_pair(rng),
         660..=709 => with_any_pairing(rng),
-        710..=799 => at_an_edge(rng),
+        710..=799 => return at_an_edge(rng),
         800..=859 => with_damaged_text(rng),
         860..=909 => with_damaged_device(rng),
         910..=959 => with_damaged_outcome(rng),
         960..=979 => of_random_bytes(rng),
         _ => with_small_rooms(rng),
-    }
+    };
+    case.extra = extra(rng, &case);
+    case
 }
 
 fn case_of(shape: &str, text: Vec<u8>, world: &World, rng: &mut Rng) -> Case {
@@ -64,6 +70,7 @@ fn case_of(shape: &str, text: Vec<u8>, world: &World, rng: &mut Rng) -> Case {
         device: world.device.encode(),
         outcome: world.outcome.encode(),
         rooms: enough_room(rng),
+        extra: Extra::Nothing,
     }
 }
 
@@ -181,8 +188,8 @@ fn with_small_rooms(rng: &mut Rng) -> Case {
     let mut case = meaningful(rng);
     case.shape = String::from("small room");
     case.rooms = Rooms {
-        fresh: rng.pick(&[0, 1, 11, 17_610, 17_611]),
-        run: rng.pick(&[0, 1, 11, 8_225, 17_610, 17_611]),
+        fresh: rng.pick(&[0, 1, 13, 17_611, 18_124, 18_125]),
+        run: rng.pick(&[0, 1, 13, 8_225, 17_611, 18_124, 18_125]),
         close: rng.pick(&[0, 1, 8_224, 8_225]),
     };
     case

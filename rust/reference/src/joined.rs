@@ -2,7 +2,7 @@
 
 use crate::compare::{check_reply, run_reply, Engine, Reply};
 use crate::generate::joins::{CutText, JoinList};
-use crate::generate::{Case, Rooms};
+use crate::generate::{Case, Extra, Rooms};
 use crate::rules::{self, Rule};
 use crate::sizes;
 
@@ -112,6 +112,7 @@ fn case(shape: &str, text: &[u8], device: &[u8], outcome: &[u8]) -> Case {
             run: sizes::OUTCOME_TARGET,
             close: sizes::RUN_LIST_TARGET,
         },
+        extra: Extra::Nothing,
     }
 }
 

@@ -28,5 +28,5 @@ pub mod text_form;
 
 pub use device::Device;
 pub use listing::listing;
-pub use operations::{check, close, fresh, run, Answer};
+pub use operations::{check, close, fresh, newer, older, run, Answer};
 pub use outcome::Outcome;

@@ -53,6 +53,9 @@ fn lines(finished: &Finished, run_list: &RunList) -> Vec<u8> {
     if let Some(group) = &outcome.group {
         lines.add("group", group);
     }
+    if let Some(word) = outcome.watch.word() {
+        lines.add_word(word);
+    }
     for link in &outcome.links {
         lines.add("link", link);
     }
@@ -71,6 +74,11 @@ fn lines(finished: &Finished, run_list: &RunList) -> Vec<u8> {
 struct Lines(Vec<u8>);
 
 impl Lines {
+    fn add_word(&mut self, word: &str) {
+        self.0.extend_from_slice(word.as_bytes());
+        self.0.push(b'\n');
+    }
+
     fn add(&mut self, word: &str, text: &[u8]) {
         self.0.extend_from_slice(word.as_bytes());
         self.0.push(b' ');

@@ -2,7 +2,7 @@
 
 use crate::device::Device;
 use crate::engine::Runner;
-use crate::outcome::Outcome;
+use crate::outcome::{Edition, Outcome};
 use crate::refusal::{Fault, Refusal};
 use crate::rules;
 use crate::run_list::RunList;
@@ -60,6 +60,18 @@ pub fn close(device: &[u8], outcome: &[u8], target: &mut [u8]) -> Answer {
     deliver(result, target)
 }
 
+/// Writes an outcome record of edition 1 in edition 2.
+pub fn newer(device: &[u8], outcome: &[u8], target: &mut [u8]) -> Answer {
+    let result = make_newer(device, outcome, target.len());
+    deliver(result, target)
+}
+
+/// Writes an outcome record of edition 2 in edition 1.
+pub fn older(device: &[u8], outcome: &[u8], target: &mut [u8]) -> Answer {
+    let result = make_older(device, outcome, target.len());
+    deliver(result, target)
+}
+
 fn deliver(result: Result<Accepted, Refusal>, target: &mut [u8]) -> Answer {
     target.fill(0);
     match result {
@@ -110,6 +122,29 @@ fn make_close(device: &[u8], outcome: &[u8], room: usize) -> Result<Accepted, Re
     })
 }
 
+fn make_newer(device: &[u8], outcome: &[u8], room: usize) -> Result<Accepted, Refusal> {
+    check_room(room, sizes::OUTCOME_TARGET)?;
+    let device = decode_device(device)?;
+    let outcome = decode_outcome_edition(Edition::First, outcome, &device)?;
+    Ok(Accepted {
+        record: outcome.encode_edition(Edition::Second),
+        ..Accepted::default()
+    })
+}
+
+fn make_older(device: &[u8], outcome: &[u8], room: usize) -> Result<Accepted, Refusal> {
+    check_room(room, sizes::OLD_OUTCOME_TARGET)?;
+    let device = decode_device(device)?;
+    let outcome = decode_outcome_edition(Edition::Second, outcome, &device)?;
+    if !outcome.fits_edition_1() {
+        return Err(Fault::NotInEdition1.without_line());
+    }
+    Ok(Accepted {
+        record: outcome.encode_edition(Edition::First),
+        ..Accepted::default()
+    })
+}
+
 fn check_room(room: usize, needed: usize) -> Result<(), Refusal> {
     if room < needed {
         return Err(Fault::Target.without_line());
@@ -122,7 +157,16 @@ pub fn decode_device(record: &[u8]) -> Result<Device, Refusal> {
 }
 
 pub fn decode_outcome(record: &[u8], device: &Device) -> Result<Outcome, Refusal> {
-    Outcome::decode(record, device.chain.len()).ok_or(Fault::OutcomeRecord.without_line())
+    decode_outcome_edition(Edition::Second, record, device)
+}
+
+fn decode_outcome_edition(
+    edition: Edition,
+    record: &[u8],
+    device: &Device,
+) -> Result<Outcome, Refusal> {
+    Outcome::decode_edition(edition, record, device.chain.len())
+        .ok_or(Fault::OutcomeRecord.without_line())
 }
 
 pub fn make_run_list(outcome: &Outcome, device: &Device) -> Result<RunList, Refusal> {

@@ -8,7 +8,21 @@ use crate::record::{BitReader, BitWriter};
 use crate::sizes;
 use crate::template::Template;
 
-const EDITION: u32 = 1;
+/// The layouts of the record. All but the converters read and write the second.
+#[derive(Clone, Copy, Debug, PartialEq, Eq)]
+pub enum Edition {
+    First,
+    Second,
+}
+
+impl Edition {
+    fn number(self) -> u32 {
+        match self {
+            Edition::First => 1,
+            Edition::Second => 2,
+        }
+    }
+}
 
 /// The keys that `:=` has closed.
 #[derive(Clone, Copy, Debug, Default, PartialEq, Eq)]
@@ -35,6 +49,15 @@ pub struct Run {
     pub template: Template,
 }
 
+/// Whether the device node is to be watched.
+#[derive(Clone, Copy, Debug, Default, PartialEq, Eq)]
+pub enum Watch {
+    #[default]
+    Unset,
+    Watch,
+    Nowatch,
+}
+
 #[derive(Clone, Debug, Default, PartialEq, Eq)]
 pub struct Outcome {
     pub closed: Closed,
@@ -46,6 +69,9 @@ pub struct Outcome {
     pub properties: Vec<Property>,
     pub tags: Vec<Vec<u8>>,
     pub runs: Vec<Run>,
+    /// What a program said last.
+    pub output: Vec<u8>,
+    pub watch: Watch,
 }
 
 impl Outcome {
@@ -58,14 +84,18 @@ impl Outcome {
 
     /// The outcome of a record for a chain of that length, or `None` if the record is faulty.
     pub fn decode(record: &[u8], chain_length: usize) -> Option<Outcome> {
+        Outcome::decode_edition(Edition::Second, record, chain_length)
+    }
+
+    pub fn decode_edition(edition: Edition, record: &[u8], chain_length: usize) -> Option<Outcome> {
         let mut reader = BitReader::new(record);
-        let outcome = Outcome::read(&mut reader)?;
+        let outcome = Outcome::read(&mut reader, edition)?;
         reader.end()?;
         outcome.is_sound(chain_length).then_some(outcome)
     }
 
-    fn read(reader: &mut BitReader) -> Option<Outcome> {
-        if reader.field(4)? != EDITION {
+    fn read(reader: &mut BitReader, edition: Edition) -> Option<Outcome> {
+        if reader.field(4)? != edition.number() {
             return None;
         }
         let closed = read_closed(reader)?;
@@ -77,7 +107,13 @@ impl Outcome {
         let property_count = reader.count(6)?;
         let tag_count = reader.count(5)?;
         let run_count = reader.count(5)?;
+        let (output, watch) = match edition {
+            Edition::First => (Vec::new(), Watch::Unset),
+            Edition::Second => read_output_and_watch(reader)?,
+        };
         Some(Outcome {
+            output,
+            watch,
             closed,
             owner: read_optional_text(reader, owner_length)?,
             group: read_optional_text(reader, group_length)?,
@@ -108,14 +144,24 @@ impl Outcome {
             && all_distinct(self.tags.iter().map(Vec::as_slice))
             && self.runs.len() <= sizes::RUNS
             && self.runs.iter().all(|run| run.is_sound(chain_length))
+            && self.output.len() <= sizes::OUTPUT
+    }
+
+    /// Whether a record of edition 1 can say all of it.
+    pub fn fits_edition_1(&self) -> bool {
+        self.output.is_empty() && self.watch == Watch::Unset
     }
 
     /// The record of an outcome whose lengths and numbers fit into their fields.
     pub fn encode(&self) -> Vec<u8> {
+        self.encode_edition(Edition::Second)
+    }
+
+    pub fn encode_edition(&self, edition: Edition) -> Vec<u8> {
         let mut writer = BitWriter::new();
         let owner = self.owner.as_deref().unwrap_or_default();
         let group = self.group.as_deref().unwrap_or_default();
-        writer.field(4, EDITION);
+        writer.field(4, edition.number());
         write_closed(&mut writer, &self.closed);
         writer.count(6, owner.len());
         writer.count(6, group.len());
@@ -126,6 +172,12 @@ impl Outcome {
         writer.count(6, self.properties.len());
         writer.count(5, self.tags.len());
         writer.count(5, self.runs.len());
+        if edition == Edition::Second {
+            writer.count(10, self.output.len());
+            writer.field(2, self.watch as u32);
+            writer.unused(4);
+            writer.text(&self.output);
+        }
         writer.text(owner);
         writer.text(group);
         write_entries(&mut writer, &self.links);
@@ -182,6 +234,30 @@ impl RunType {
         match self {
             RunType::Program => "program",
             RunType::Builtin => "builtin",
+        }
+    }
+}
+
+/// The end of the header, and the text that comes right after it.
+fn read_output_and_watch(reader: &mut BitReader) -> Option<(Vec<u8>, Watch)> {
+    let length = reader.count(10)?;
+    let watch = match reader.field(2)? {
+        0 => Watch::Unset,
+        1 => Watch::Watch,
+        2 => Watch::Nowatch,
+        _ => return None,
+    };
+    reader.unused(4)?;
+    Some((reader.text(length)?, watch))
+}
+
+impl Watch {
+    /// The setting of OPTIONS, and the word of the listing.
+    pub fn word(self) -> Option<&'static str> {
+        match self {
+            Watch::Unset => None,
+            Watch::Watch => Some("watch"),
+            Watch::Nowatch => Some("nowatch"),
         }
     }
 }

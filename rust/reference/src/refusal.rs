@@ -8,6 +8,7 @@ pub enum Fault {
     Text = 2,
     DeviceRecord = 3,
     OutcomeRecord = 4,
+    NotInEdition1 = 5,
     Line = 10,
     Key = 11,
     Argument = 12,
@@ -28,11 +29,12 @@ pub enum Fault {
 }
 
 impl Fault {
-    pub const ALL: [Fault; 21] = [
+    pub const ALL: [Fault; 22] = [
         Fault::Target,
         Fault::Text,
         Fault::DeviceRecord,
         Fault::OutcomeRecord,
+        Fault::NotInEdition1,
         Fault::Line,
         Fault::Key,
         Fault::Argument,

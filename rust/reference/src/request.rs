@@ -23,6 +23,14 @@ pub enum Request<'a> {
         device: &'a [u8],
         outcome: &'a [u8],
     },
+    Newer {
+        device: &'a [u8],
+        outcome: &'a [u8],
+    },
+    Older {
+        device: &'a [u8],
+        outcome: &'a [u8],
+    },
 }
 
 /// What an operation writes to beside its answer.
@@ -61,6 +69,8 @@ impl Engine for Reference {
                 outcome,
             } => operations::run(text, device, outcome, target),
             Request::Close { device, outcome } => operations::close(device, outcome, target),
+            Request::Newer { device, outcome } => operations::newer(device, outcome, target),
+            Request::Older { device, outcome } => operations::older(device, outcome, target),
         };
         answer.into()
     }

@@ -1,4 +1,4 @@
-//! The limits of document 01, in bytes or entries.
+//! The limits of documents 01 and 02, in bytes or entries.
 
 pub const TEXT: usize = 32_768;
 pub const LINE: usize = 1_024;
@@ -31,7 +31,12 @@ pub const RUN: usize = 256;
 pub const OWNER: usize = 32;
 pub const MODE_DIGITS: usize = 4;
 
+/// The output of a program that an outcome keeps.
+pub const OUTPUT: usize = 512;
+
 /// The fullest outcome record, and so the least room for a target of one.
-pub const OUTCOME_TARGET: usize = 17_611;
+pub const OUTCOME_TARGET: usize = 18_125;
+/// The same of edition 1.
+pub const OLD_OUTCOME_TARGET: usize = 17_611;
 /// The fullest run list, and so the least room for a target of one.
 pub const RUN_LIST_TARGET: usize = 8_225;

@@ -7,7 +7,7 @@ use crate::device::{is_parent_path, is_sound_path, Action, ChainDevice, Device, 
 use crate::engine::read_mode;
 use crate::link::is_sound_link;
 use crate::outcome::{
-    is_sound_owner_or_group, is_sound_tag, lets_others_write, Closed, Outcome, Run, RunType,
+    is_sound_owner_or_group, is_sound_tag, lets_others_write, Closed, Outcome, Run, RunType, Watch,
 };
 use crate::property::{value_of, Property};
 use crate::run_list::{RunEntry, RunList};
@@ -200,6 +200,8 @@ impl DeviceForm {
 struct Once {
     closed: Option<()>,
     priority: Option<()>,
+    watch: Option<()>,
+    output: Option<()>,
 }
 
 fn take_outcome_line(
@@ -226,6 +228,20 @@ fn take_outcome_line(
             outcome.priority = parse_number(rest, i32::MIN, i32::MAX)?;
             set_once(&mut once.priority, word, ())
         }
+        "watch" | "nowatch" => {
+            if !rest.is_empty() {
+                return Err(format!("`{word}` stands alone"));
+            }
+            outcome.watch = match word {
+                "watch" => Watch::Watch,
+                _ => Watch::Nowatch,
+            };
+            set_once(&mut once.watch, "watch` or `nowatch", ())
+        }
+        "output" => {
+            outcome.output = text_within(word, rest, 0..=sizes::OUTPUT)?;
+            set_once(&mut once.output, word, ())
+        }
         "link" => {
             let link = text_within(word, rest, 1..=sizes::LINK)?;
             if !is_sound_link(&link) {
@@ -245,7 +261,7 @@ fn take_outcome_line(
         "builtin" => add_run(&mut outcome.runs, RunType::Builtin, rest),
         _ => Err(format!(
             "unknown word `{word}`; an outcome record has closed, owner, group, mode, \
-             priority, link, property, tag, program and builtin"
+             priority, watch, nowatch, output, link, property, tag, program and builtin"
         )),
     }
 }
@@ -475,6 +491,12 @@ pub fn show_outcome(outcome: &Outcome) -> String {
         form += &format!("mode {mode:04o}\n");
     }
     form += &format!("priority {}\n", outcome.priority);
+    if let Some(word) = outcome.watch.word() {
+        form += &format!("{word}\n");
+    }
+    if !outcome.output.is_empty() {
+        form += &format!("output {}\n", escape(&outcome.output));
+    }
     for link in &outcome.links {
         form += &format!("link {}\n", escape(link));
     }

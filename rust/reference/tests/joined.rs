@@ -123,14 +123,14 @@ fn joins_by_hand() {
         "GOTO=\"x\", TAG+=\"d\"\nTAG+=\"e\"\nLABEL=\"x\"",
     ]);
     // The header, and one tag with its length.
-    assert_eq!(answer, [0, 0, 5, 13, 0, 0, 0, 0]);
+    assert_eq!(answer, [0, 0, 5, 15, 0, 0, 0, 0]);
     // So do the devices that are tried: 2 of 2 in vain, then 1, then none and 2.
     let answer = run_of_join(&[
         "KERNELS==\"no\"\n",
         "SUBSYSTEMS==\"tty\"\n",
         "KERNEL==\"no\", KERNELS==\"1-1\"\nKERNELS==\"1-1\"",
     ]);
-    assert_eq!(answer, [0, 0, 4, 11, 5, 0, 0, 0]);
+    assert_eq!(answer, [0, 0, 4, 13, 5, 0, 0, 0]);
     // The line counts on: two lines and one before the second of the third text.
     let answer = run_of_join(&["\nTAG=\"a\"\n", "# b\n", "\nSYMLINK=\"/\"\n", "MODE=\"9\""]);
     assert_eq!(answer, [31, 5, 0, 0, 0, 0, 0, 0]);

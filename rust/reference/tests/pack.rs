@@ -50,7 +50,8 @@ fn packs_and_shows() {
     let out = directory.file("out", b"");
     let form = directory.file("outcome", b"tag seat\n");
     assert!(pack(&["outcome", &form, "-o", &out]).stdout.is_empty());
-    let record = [&[0x10, 0, 0, 0, 0, 0, 0, 0, 0, 0, 0x20, 4], &b"seat"[..]].concat();
+    let header = [0x20, 0, 0, 0, 0, 0, 0, 0, 0, 0, 0x20, 0, 0];
+    let record = [&header, &b"\x04seat"[..]].concat();
     assert_eq!(fs::read(&out).expect("the record is written"), record);
     let shown = pack(&["show", "outcome", &out]);
     assert_eq!(shown.stdout, b"priority 0\ntag seat\n");

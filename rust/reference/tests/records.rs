@@ -4,7 +4,7 @@ mod common;
 
 use common::*;
 use reference::device::{Action, ChainDevice, Device, Node};
-use reference::outcome::{Closed, Outcome, Run, RunType};
+use reference::outcome::{Closed, Outcome, Run, RunType, Watch};
 use reference::property::Property;
 use reference::run_list::RunList;
 use reference::sizes::{OUTCOME_TARGET, RUN_LIST_TARGET};
@@ -21,7 +21,9 @@ const DEVICE: &[u8] = &[
 
 /// An outcome record for it, written by hand.
 const OUTCOME: &[u8] = &[
-    0x1A, 0x01, 0x0A, 0x36, 0x1F, 0xFF, 0xFF, 0xFF, 0xE1, 0x04, 0x21, // see the test
+    0x2A, 0x01, 0x0A, 0x36, 0x1F, 0xFF, 0xFF, 0xFF, 0xE1, 0x04, 0x21, 0x00,
+    0xA0, // see the test
+    b'x', b'y', // output
     b'o', b'g', b'h', // owner and group
     0x01, b'a', // link
     0x02, 0x01, b'K', b'V', // property
@@ -48,7 +50,7 @@ fn device_of_record() -> Device {
 
 fn outcome_of_record() -> Outcome {
     Outcome {
-        // Edition 0001, then 101000: links and runs closed.
+        // Edition 0010, then 101000: links and runs closed.
         closed: Closed {
             links: true,
             runs: true,
@@ -62,6 +64,8 @@ fn outcome_of_record() -> Outcome {
         properties: vec![property("K", "V")],
         tags: vec![b"t".to_vec()],
         runs: vec![run_entry("%k", 1)],
+        output: b"xy".to_vec(),
+        watch: Watch::Nowatch,
     }
 }
 
@@ -128,16 +132,18 @@ fn device_record_by_hand() {
 
 #[test]
 fn outcome_record_by_hand() {
-    // 0001 101000 000001 000010 1 000110110000 (priority: 32 ones) 00001 000001 00001 00001
-    let bits = ["0001", "101000", "000001", "000010", "1", "000110110000"].concat()
+    // 0010 101000 000001 000010 1 000110110000 (priority: 32 ones) 00001 000001 00001 00001, then
+    // 0000000010 10 0000: 2 bytes of output, nowatch.
+    let bits = ["0010", "101000", "000001", "000010", "1", "000110110000"].concat()
         + &"1".repeat(32)
-        + &["00001", "000001", "00001", "00001"].concat();
+        + &["00001", "000001", "00001", "00001"].concat()
+        + &["0000000010", "10", "0000"].concat();
     let header: Vec<u8> = bits
         .as_bytes()
         .chunks(8)
         .map(|byte| byte.iter().fold(0, |byte, bit| 2 * byte + (bit - b'0')))
         .collect();
-    assert_eq!(header, OUTCOME[..11]);
+    assert_eq!(header, OUTCOME[..13]);
     assert_eq!(Outcome::decode(OUTCOME, 1), Some(outcome_of_record()));
     assert_eq!(outcome_of_record().encode(), OUTCOME);
 }
@@ -147,12 +153,12 @@ fn fresh_record() {
     let mut target = vec![0xAA; OUTCOME_TARGET + 5];
     let answer = reference::fresh(DEVICE, &mut target);
     let record = [
-        0x10, 0, 0, 0, 0, 0, 0, 0, 0, 0x04, 0, 0x02, 0x01, b'A', b'b',
+        0x20, 0, 0, 0, 0, 0, 0, 0, 0, 0x04, 0, 0, 0, 0x02, 0x01, b'A', b'b',
     ];
     assert_eq!((answer.number, answer.line, answer.visited), (0, 0, 0));
-    assert_eq!(answer.used, 15);
-    assert_eq!(target[..15], record);
-    assert!(target[15..].iter().all(|&byte| byte == 0));
+    assert_eq!(answer.used, 17);
+    assert_eq!(target[..17], record);
+    assert!(target[17..].iter().all(|&byte| byte == 0));
 }
 
 #[test]
@@ -160,7 +166,7 @@ fn mode_and_lowest_priority_in_the_record() {
     let text = "MODE=\"0660\", OPTIONS=\"link_priority=-2147483648\"";
     let device = device_at("/a");
     let (_, record) = run_from(text, &device, &Outcome::fresh(&device));
-    assert_eq!(record, [0x10, 0, 0x02, 0x36, 0x10, 0, 0, 0, 0, 0, 0]);
+    assert_eq!(record, [0x20, 0, 0x02, 0x36, 0x10, 0, 0, 0, 0, 0, 0, 0, 0]);
 }
 
 #[test]
@@ -202,6 +208,8 @@ fn fullest_records() {
             .collect(),
         tags: (0..16).map(|i| long(i, 64).into_bytes()).collect(),
         runs: (0..16).map(|i| run_entry(&long(i, 256), 1)).collect(),
+        output: vec![b'p'; 512],
+        watch: Watch::Watch,
     };
     assert_eq!(outcome.encode().len(), OUTCOME_TARGET);
     assert_eq!(outcome_number(&outcome.encode()), 0);
@@ -279,8 +287,9 @@ fn each_bit_of_the_lengths_of_a_device_flipped() {
 fn each_bit_of_the_outcome_header_flipped() {
     // Closed flags and priority may have any value, and so may a mode that is set, but for the
     // bit by which others write.
-    let may_differ = |bit| matches!(bit, 4..=9 | 23..=32 | 34..=66);
-    for bit in 0..88 {
+    // The watch bits, 10, may become 00 but not 11.
+    let may_differ = |bit| matches!(bit, 4..=9 | 23..=32 | 34..=66 | 98);
+    for bit in 0..104 {
         let expected = if may_differ(bit) { 0 } else { 4 };
         let record = with_bit_flipped(OUTCOME, bit);
         assert_eq!(outcome_number(&record), expected, "bit {bit}");
@@ -290,10 +299,10 @@ fn each_bit_of_the_outcome_header_flipped() {
 #[test]
 fn each_bit_of_an_empty_outcome_flipped() {
     let record = Outcome::default().encode();
-    assert_eq!(record, [0x10, 0, 0, 0, 0, 0, 0, 0, 0, 0, 0]);
-    // Closed flags, the bit that sets the mode 0, and the priority.
-    let may_differ = |bit| matches!(bit, 4..=9 | 22 | 35..=66);
-    for bit in 0..88 {
+    assert_eq!(record, [0x20, 0, 0, 0, 0, 0, 0, 0, 0, 0, 0, 0, 0]);
+    // Closed flags, the bit that sets the mode 0, the priority, and the watch bits.
+    let may_differ = |bit| matches!(bit, 4..=9 | 22 | 35..=66 | 98 | 99);
+    for bit in 0..104 {
         let expected = if may_differ(bit) { 0 } else { 4 };
         let record = with_bit_flipped(&record, bit);
         assert_eq!(outcome_number(&record), expected, "bit {bit}");

@@ -389,7 +389,9 @@ fn refusal_15_other_content() {
         15,
         &[
             "OPTIONS=\"\"",
-            "OPTIONS=\"watch\"",
+            "OPTIONS=\"Watch\"",
+            "OPTIONS=\"watch \"",
+            "OPTIONS=\"watch nowatch\"",
             "OPTIONS=\"string_escape\"",
             "OPTIONS=\"string_escape=\"",
             "OPTIONS=\"string_escape=None\"",

@@ -4,7 +4,7 @@ mod common;
 
 use common::*;
 use reference::generate;
-use reference::outcome::{Closed, Outcome, RunType};
+use reference::outcome::{Closed, Outcome, RunType, Watch};
 use reference::sizes::CHAIN;
 use reference::text_form::{parse_device, parse_outcome, show_device, show_outcome};
 use reference::Device;
@@ -52,6 +52,8 @@ fn outcome_of_the_readme() {
         }
     );
     assert_eq!((outcome.owner.as_ref(), outcome.priority), (None, -3));
+    assert_eq!(outcome.watch, Watch::Watch);
+    assert_eq!(outcome.output, b"RC-0417");
     assert_eq!(outcome.properties, [property("ID_SERIAL", "RC-0417 ")]);
     assert_eq!(outcome.runs[0].run_type, RunType::Program);
     assert_eq!(outcome.runs[0].matched, 2);
@@ -181,6 +183,10 @@ fn errors_of_outcomes() {
             "priority 2147483648",
             "line 1: `2147483648` is no number from -2147483648 to",
         ),
+        ("watch 1", "line 1: `watch` stands alone"),
+        ("watch\nnowatch", "line 2: a second `watch` or `nowatch`"),
+        ("output a\noutput b", "line 2: a second `output`"),
+        ("output \\x00", "line 1: a record holds no NUL"),
         ("link /a", "line 1: a link starts with no `/`"),
         ("link a\nlink a", "line 2: the same `link` a second time"),
         ("tag", "line 1: the tag has 0 bytes; it takes 1 to 64"),

@@ -9,6 +9,7 @@ use reference::compare::{
     first_difference, read_case, replies, Engine, Operation, Reference, Reply,
 };
 use reference::generate::Case;
+use reference::outcome::Edition;
 use reference::run_list::RunList;
 use reference::text_form::{show_device, show_outcome, show_run_list};
 use reference::{Device, Outcome};
@@ -77,7 +78,15 @@ fn show_replies(case: &Case, replies: &[Reply]) {
             Operation::Close | Operation::CloseAfterRun => {
                 RunList::decode(record).map(|run_list| show_run_list(&run_list))
             }
-            Operation::Check | Operation::Fresh | Operation::Run => {
+            Operation::Older | Operation::OlderAfterNewer => {
+                Outcome::decode_edition(Edition::First, record, chain_length)
+                    .map(|outcome| show_outcome(&outcome))
+            }
+            Operation::Check
+            | Operation::Fresh
+            | Operation::Run
+            | Operation::Newer
+            | Operation::NewerAfterOlder => {
                 Outcome::decode(record, chain_length).map(|outcome| show_outcome(&outcome))
             }
         };

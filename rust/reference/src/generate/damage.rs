@@ -29,7 +29,7 @@ fn damage_once(rng: &mut Rng, bytes: &mut Vec<u8>) {
 }
 
 fn flip_header_bit(rng: &mut Rng, bytes: &mut [u8]) {
-    let at = rng.below(bytes.len().min(11));
+    let at = rng.below(bytes.len().min(13));
     bytes[at] ^= 1 << rng.below(8);
 }
 

@@ -2,9 +2,9 @@
 
 use super::rng::Rng;
 use super::world;
-use super::{Case, Rooms};
+use super::{Case, Extra, Rooms};
 use crate::device::{Action, ChainDevice, Device};
-use crate::outcome::{Closed, Outcome, Run, RunType};
+use crate::outcome::{Closed, Edition, Outcome, Run, RunType, Watch};
 use crate::property::Property;
 use crate::sizes;
 use crate::template::Template;
@@ -24,6 +24,7 @@ fn case(text: Vec<u8>, device: Vec<u8>, outcome: Vec<u8>) -> Case {
         device,
         outcome,
         rooms: full_rooms(),
+        extra: Extra::Nothing,
     }
 }
 
@@ -398,7 +399,38 @@ pub fn fullest() -> Outcome {
             .iter()
             .map(|template| run(template, 1))
             .collect(),
+        output: vec![b'p'; 512],
+        watch: Watch::Nowatch,
     }
+}
+
+/// Conversions of an outcome, in both directions with the same content as far as can be.
+pub fn of_conversion(change: fn(&mut Outcome, usize), rng: &mut Rng) -> Case {
+    of_conversion_with_room(
+        change,
+        sizes::OUTCOME_TARGET,
+        sizes::OLD_OUTCOME_TARGET,
+        rng,
+    )
+}
+
+pub fn of_conversion_with_room(
+    change: fn(&mut Outcome, usize),
+    newer: usize,
+    older: usize,
+    rng: &mut Rng,
+) -> Case {
+    let mut case = of_outcome(|_, _| {}, rng);
+    let device = Device::decode(&case.device).expect("a sound device");
+    let mut outcome = Outcome::fresh(&device);
+    change(&mut outcome, device.chain.len());
+    case.extra = Extra::Convert {
+        old: outcome.encode_edition(Edition::First),
+        newer,
+        older,
+    };
+    case.outcome = outcome.encode();
+    case
 }
 
 pub fn longest_runs() -> Outcome {

@@ -4,11 +4,13 @@ use super::edge_cases::*;
 use super::rng::Rng;
 use super::rules_text::broken;
 use super::Case;
+use crate::outcome::Watch;
 use crate::property::Property;
 
 pub struct Edge {
     pub name: &'static str,
-    /// The number of the first refusal of fresh, run and the close after it; 0 without one.
+    /// The number of the first refusal of fresh, run, the close after it, and what else is asked
+    /// for; 0 without one.
     pub number: u32,
     pub build: fn(&mut Rng) -> Case,
 }
@@ -703,6 +705,36 @@ pub const OUTCOME_EDGES: &[Edge] = &[
     edge("outcome of edition 0", 4, |rng| {
         of_outcome_bytes(|record| record[0] &= 0x0f, rng)
     }),
+    edge("outcome of edition 1", 4, |rng| {
+        of_outcome_bytes(
+            |record| {
+                record[0] = record[0] & 0x0f | 0x10;
+                record.drain(11..13);
+            },
+            rng,
+        )
+    }),
+    edge("outcome of edition 3", 4, |rng| {
+        of_outcome_bytes(|record| record[0] |= 0x30, rng)
+    }),
+    edge("output of 512", 0, |rng| {
+        of_outcome(|outcome, _| outcome.output = vec![b'p'; 512], rng)
+    }),
+    edge("output of 513", 4, |rng| {
+        of_outcome(|outcome, _| outcome.output = vec![b'p'; 513], rng)
+    }),
+    edge("output that ends in a newline", 0, |rng| {
+        of_outcome(|outcome, _| outcome.output = b"a\n".to_vec(), rng)
+    }),
+    edge("output with NUL", 4, |rng| {
+        of_outcome(|outcome, _| outcome.output = b"a\0".to_vec(), rng)
+    }),
+    edge("watch of 3", 4, |rng| {
+        of_outcome_bytes(|record| record[12] |= 0x30, rng)
+    }),
+    edge("unused bit of the outcome header", 4, |rng| {
+        of_outcome_bytes(|record| record[12] |= 1, rng)
+    }),
     edge("byte after the outcome", 4, |rng| {
         of_outcome_bytes(|record| record.push(0), rng)
     }),
@@ -719,23 +751,26 @@ pub const OUTCOME_EDGES: &[Edge] = &[
 
 pub const ROOM_EDGES: &[Edge] = &[
     edge("just enough room", 0, |rng| {
-        of_rooms(17_611, 17_611, 8_225, rng)
+        of_rooms(18_125, 18_125, 8_225, rng)
     }),
     edge("more than enough room", 0, |rng| {
-        of_rooms(17_700, 20_000, 9_000, rng)
+        of_rooms(18_200, 20_000, 9_000, rng)
     }),
     edge("fresh with a byte less", 1, |rng| {
-        of_rooms(17_610, 17_611, 8_225, rng)
+        of_rooms(18_124, 18_125, 8_225, rng)
     }),
     edge("run with a byte less", 1, |rng| {
-        of_rooms(17_611, 17_610, 8_225, rng)
+        of_rooms(18_125, 18_124, 8_225, rng)
+    }),
+    edge("run with the room of edition 1", 1, |rng| {
+        of_rooms(18_125, 17_611, 8_225, rng)
     }),
     edge("close with a byte less", 1, |rng| {
-        of_rooms(17_611, 17_611, 8_224, rng)
+        of_rooms(18_125, 18_125, 8_224, rng)
     }),
     edge("no room", 1, |rng| of_rooms(0, 0, 0, rng)),
     edge("room and everything else faulty", 1, |rng| {
-        let mut case = of_rooms(17_610, 17_610, 8_224, rng);
+        let mut case = of_rooms(18_124, 18_124, 8_224, rng);
         case.text = vec![b'x'; 32_769];
         case.device.clear();
         case.outcome.clear();
@@ -743,7 +778,49 @@ pub const ROOM_EDGES: &[Edge] = &[
     }),
 ];
 
-pub const EDGES: [&[Edge]; 6] = [
+pub const CONVERSION_EDGES: &[Edge] = &[
+    edge("conversions", 0, |rng| of_conversion(|_, _| {}, rng)),
+    edge("conversions of the fullest of edition 1", 0, |rng| {
+        of_conversion(
+            |outcome, _| {
+                *outcome = fullest();
+                outcome.output.clear();
+                outcome.watch = Watch::Unset;
+            },
+            rng,
+        )
+    }),
+    edge("conversion of an output", 5, |rng| {
+        of_conversion(|outcome, _| outcome.output = b"p".to_vec(), rng)
+    }),
+    edge("conversion of watch", 5, |rng| {
+        of_conversion(|outcome, _| outcome.watch = Watch::Watch, rng)
+    }),
+    edge("conversion of nowatch", 5, |rng| {
+        of_conversion(|outcome, _| outcome.watch = Watch::Nowatch, rng)
+    }),
+    edge("conversion of a place beyond the chain", 4, |rng| {
+        of_conversion(
+            |outcome, chain| {
+                outcome.watch = Watch::Watch;
+                outcome.runs = vec![run(b"%b", chain + 1)];
+            },
+            rng,
+        )
+    }),
+    edge("conversion of a world-writable mode", 4, |rng| {
+        of_conversion(|outcome, _| outcome.mode = Some(0o666), rng)
+    }),
+    edge("conversion with a byte less", 1, |rng| {
+        of_conversion_with_room(|_, _| {}, 18_124, 17_611, rng)
+    }),
+    edge("conversion back with a byte less", 1, |rng| {
+        of_conversion_with_room(|_, _| {}, 18_125, 17_610, rng)
+    }),
+];
+
+pub const EDGES: [&[Edge]; 7] = [
+    CONVERSION_EDGES,
     TEXT_EDGES,
     JOIN_EDGES,
     RUN_EDGES,

@@ -336,6 +336,8 @@ pub fn options_pair(rng: &mut Rng) -> Vec<u8> {
         b"link_priority=-7",
         b"link_priority=0000000012",
         b"link_priority=-0",
+        b"watch",
+        b"nowatch",
     ];
     let operator = rng.pick(&[Assign, Add]);
     let value = rng.pick(options);

@@ -7,7 +7,7 @@ use super::vocabulary::{
     VALUES,
 };
 use crate::device::{Action, ChainDevice, Device, Node};
-use crate::outcome::{Closed, Outcome, Run, RunType};
+use crate::outcome::{Closed, Outcome, Run, RunType, Watch};
 use crate::property::{value_of, Property};
 use crate::sizes;
 use crate::template::Template;
@@ -167,12 +167,23 @@ fn used_outcome(rng: &mut Rng, device: &Device, limit: usize) -> Outcome {
         },
         tags: distinct(rng, TAGS, limit),
         runs: Vec::new(),
+        output: output(rng),
+        watch: rng.pick(&[Watch::Unset, Watch::Unset, Watch::Watch, Watch::Nowatch]),
     };
     for _ in 0..rng.below(limit) {
         let run = run(rng, device, &outcome);
         outcome.runs.push(run);
     }
     outcome
+}
+
+/// What a program may have said last, if one was asked.
+fn output(rng: &mut Rng) -> Vec<u8> {
+    match rng.below(100) {
+        0..=59 => Vec::new(),
+        60..=97 => value(rng),
+        _ => vec![b'o'; rng.pick(&[257, sizes::OUTPUT - 1, sizes::OUTPUT])],
+    }
 }
 
 fn closed(rng: &mut Rng) -> Closed {

@@ -1,0 +1,66 @@
+//! What is asked for beside the check, the fresh record, the run and the close.
+
+use super::damage::damage;
+use super::rng::Rng;
+use super::Case;
+use crate::device::Device;
+use crate::outcome::{Edition, Outcome, Watch};
+use crate::sizes;
+
+#[derive(Clone, Debug, PartialEq, Eq)]
+pub enum Extra {
+    Nothing,
+    /// The conversion of a record of edition 1, that of the case's outcome record, and back.
+    Convert {
+        old: Vec<u8>,
+        /// The lengths of the targets.
+        newer: usize,
+        older: usize,
+    },
+}
+
+pub fn extra(rng: &mut Rng, case: &Case) -> Extra {
+    match rng.below(100) {
+        0..=5 => convert(rng, case),
+        _ => Extra::Nothing,
+    }
+}
+
+/// The room that is needed, seldom less or more.
+fn room(rng: &mut Rng, needed: usize) -> usize {
+    match rng.below(100) {
+        0..=89 => needed,
+        90..=94 => needed + rng.below(100),
+        95..=97 => needed - 1,
+        _ => rng.below(needed),
+    }
+}
+
+fn convert(rng: &mut Rng, case: &Case) -> Extra {
+    let mut old = record_of_edition_1(case);
+    match rng.below(100) {
+        0..=69 => {}
+        70..=94 => damage(rng, &mut old),
+        _ => old = case.outcome.clone(),
+    }
+    Extra::Convert {
+        old,
+        newer: room(rng, sizes::OUTCOME_TARGET),
+        older: room(rng, sizes::OLD_OUTCOME_TARGET),
+    }
+}
+
+/// The case's outcome record in edition 1, without what that cannot say; a fresh one if the case
+/// has no sound one.
+fn record_of_edition_1(case: &Case) -> Vec<u8> {
+    let Some(device) = Device::decode(&case.device) else {
+        return Outcome::default().encode_edition(Edition::First);
+    };
+    let outcome = Outcome::decode(&case.outcome, device.chain.len());
+    let outcome = Outcome {
+        output: Vec::new(),
+        watch: Watch::Unset,
+        ..outcome.unwrap_or_else(|| Outcome::fresh(&device))
+    };
+    outcome.encode_edition(Edition::First)
+}
