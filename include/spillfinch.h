@@ -10,13 +10,13 @@
  *   answer[SPILLFINCH_NUMBER]   0, or why the input is refused (enum spillfinch_refusal)
  *   answer[SPILLFINCH_LINE]     the line of the rules text that is refused, from 1; 0 if the refusal is about no line
  *   answer[SPILLFINCH_VISITED]  how many rules had their matching begun; 0 for all but a run
- *   answer[SPILLFINCH_USED]     the length of the record at the start of the target; 0 after a refusal and for a check
+ *   answer[SPILLFINCH_USED]     the length of the record, list or text at the start of the target; 0 after a refusal and for a check
  *   answer[SPILLFINCH_TRIED]    how many devices were tried for the parent keys (KERNELS, SUBSYSTEMS, DRIVERS, ATTRS) of all rules: for a
  *                               visited rule with such keys whose other keys hold, the place of the nearest device that has them all, from 1, or
  *                               the length of the chain if none has; at most the visited count times that length; 0 for all but a run
  *   answer[5] to answer[7]      0, kept for later counts
  *
- * All bytes of `target` are written in every call: behind the record they are zero, after a refusal all of them are.
+ * All bytes of `target` are written in every call: behind what was made they are zero, after a refusal all of them are.
  */
 #ifndef SPILLFINCH_H
 #define SPILLFINCH_H
@@ -33,7 +33,7 @@ extern "C" {
 #define SPILLFINCH_OLD_OUTCOME_ROOM 17611
 #define SPILLFINCH_RUN_LIST_ROOM 8225
 
-/* The longest input that can be accepted. */
+/* The longest input that can be accepted. A target for a rules text must have the room of the longest. */
 #define SPILLFINCH_TEXT_MOST 32768
 #define SPILLFINCH_DEVICE_MOST 16384
 
@@ -120,6 +120,13 @@ void spillfinch_newer(const uint8_t *device, size_t device_length, const uint8_t
 /* Writes an outcome record of edition 2 as one of edition 1, into a target of SPILLFINCH_OLD_OUTCOME_ROOM. Refusals: 1, 3, 4, 5. */
 void spillfinch_older(const uint8_t *device, size_t device_length, const uint8_t *outcome, size_t outcome_length, uint8_t *target,
                       size_t target_length, uint32_t answer[SPILLFINCH_ANSWER_LENGTH]);
+
+/* Writes the rules of a text back: a line for each, nothing between their parts, one comma between pairs, one newline after each rule,
+ * comments and blank lines gone. A value is written as e"..." only where it holds a newline or ends in a backslash. What is written reads back to
+ * the same rules in the same order, is written the same again, and is no longer than the text and one newline. Refusals: 1, 2, those of the
+ * check with their lines, and last 2 where the written text has 32,769 bytes, with line 0. */
+void spillfinch_write(const uint8_t *text, size_t text_length, uint8_t *target, size_t target_length,
+                      uint32_t answer[SPILLFINCH_ANSWER_LENGTH]);
 
 #ifdef __cplusplus
 }

@@ -1,5 +1,5 @@
-/* The library from C: checks rules texts, takes a device from its fresh outcome record over a run to its run list, and converts the record to
- * edition 1 and back. */
+/* The library from C: checks rules texts, takes a device from its fresh outcome record over a run to its run list, converts the record to
+ * edition 1 and back, and writes rules back. */
 #include <stdio.h>
 #include <string.h>
 
@@ -19,6 +19,7 @@ static uint8_t outcome[SPILLFINCH_OUTCOME_ROOM];
 static uint8_t next[SPILLFINCH_OUTCOME_ROOM];
 static uint8_t old[SPILLFINCH_OLD_OUTCOME_ROOM];
 static uint8_t run_list[SPILLFINCH_RUN_LIST_ROOM];
+static uint8_t written[SPILLFINCH_TEXT_MOST];
 
 static void show_answer(const char *what, const uint32_t *answer)
 {
@@ -113,5 +114,10 @@ int main(void)
 
     spillfinch_fresh(device, device_length, fresh, SPILLFINCH_OUTCOME_ROOM - 1, answer);
     show_answer("fresh into a target that is too short", answer);
+
+    const char *spaced = "# counters\n  KERNEL == \"tty*\" ,\tTAG += \"a\"\n";
+    spillfinch_write((const uint8_t *)spaced, strlen(spaced), written, sizeof written, answer);
+    show_answer("rules written back", answer);
+    printf("%.*s", (int)answer[SPILLFINCH_USED], (const char *)written);
     return 0;
 }

@@ -14,7 +14,7 @@ use Rattle.lists.specs.Runs.{Part}
 use Rattle.lists.proofs.Bytes.{same-refl, same-eq}
 use Rattle.rules.specs.Reading.{quoted, quotedStep, startsMark, unescape, unescapeStep}
 
-abbrev escapeStep : Bool → ℕ → List ℕ → List ℕ
+abbrev pub escapeStep : Bool → ℕ → List ℕ → List ℕ
 escapeStep true b bs = 92 ∷ b ∷ bs
 escapeStep false b bs = b ∷ bs
 

@@ -398,10 +398,10 @@ content-ok k o v a t r g h e = by k r (subst (λ (b : Bool). soundBy b k v ≡ t
     by GOTO r h = tt
     by OPTIONS r h = tt
 
-abbrev PairOk : Part Pair → Type 0
+abbrev pub PairOk : Part Pair → Type 0
 PairOk p = SoundPair (p .value) × (clean (p .rest) ≡ true)
 
-pair-ok : (bs : List ℕ) → clean bs ≡ true → Holds PairOk (readPair bs)
+pub pair-ok : (bs : List ℕ) → clean bs ≡ true → Holds PairOk (readPair bs)
 unfolding readPair
 pair-ok bs h =
     holds-bind KeyOk PairOk (readKey (unblank bs)) _ (key-ok (unblank bs) (unblank-clean bs h))

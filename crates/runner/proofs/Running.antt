@@ -27,10 +27,10 @@ use Rattle.engine.specs.Operations.{engine}
 use Rattle.engine.specs.Match.{tried}
 use Rattle.engine.specs.Step.{step}
 use Rattle.records.specs.Records.{Denotes, Ready}
-use Rattle.table.specs.Table.{rulesFrom, Rows, Segment}
+use Rattle.table.specs.Table.{rulesFrom}
 use Rattle.table.specs.Rules.{pairsOf}
 use Rattle.reader.specs.declared.Counts.{Counts}
-use Rattle.table.proofs.Rules.{rules-step, rules-end}
+use Rattle.table.proofs.Rules.{segment, rules-step, rules-end}
 use Rattle.jumps.specs.Jumps.{Resolved, Jumps}
 use Rattle.reader.specs.Texts.{Read}
 use Rattle.runner.proofs.Seek.{seek-jump}
@@ -53,14 +53,6 @@ module _ (v r t : List ℕ) where
   rules-sound i zero a j h = absurd (omega arith)
   rules-sound i (suc k) (a, b) zero h = subst (λ (m : ℕ). Assignables (pairsOf v r t m)) (let e : i ≡ i + 0 = omega arith in e) a
   rules-sound i (suc k) (a, b) (suc j) h = subst (λ (m : ℕ). Assignables (pairsOf v r t m)) (let e : suc i + j ≡ i + suc j = omega arith in e) (rules-sound (suc i) k b j (omega arith))
-
-segment : (v r : List ℕ) (m used n : ℕ) → Rows v r m used → n ≤ m → Segment v r n
-segment v r m used n w h = record {
-  room = omega (arith, w .room);
-  within = λ i k.
-      let x = w .within i (omega arith) in
-      record { argument = x .argument; value = x .value; within = omega (arith, x .within, w .filled) };
-}
 
 pub runnable : (x v r t l js : List ℕ) (c : Counts) → Read x v r t l js c → mostRules * 4 ≤ length t → mostRules ≤ length js → Runnable v r t js (c .rules)
 runnable x v r t l js c w a b = record {

@@ -6,7 +6,7 @@ ghost use mathlib.Core.List.{List, []};
 ghost use lib.ListN.{length};
 ghost use Rattle.answers.specs.Answers.{answered};
 ghost use Rattle.engine.specs.Operations.{fresh as fresh-answer, close as close-answer};
-ghost use Rattle.spillfinch.specs.Exports.{numbers, Gives, CheckGives, RunGives, NewerGives, OlderGives};
+ghost use Rattle.spillfinch.specs.Exports.{numbers, Gives, CheckGives, RunGives, WriteGives, NewerGives, OlderGives};
 
 fn put_answer(given: Given, answer: &mut [u32; 8])
     ensures { λ _. ⌜ now (answer .exit) ≡ numbers (answered given []) ⌝ }
@@ -84,4 +84,12 @@ pub extern "C" fn spillfinch_older(
     ensures { λ _. ⌜ OlderGives (now (device .entry)) (now (outcome .entry)) (length (now (target .entry))) (now (answer .exit)) (now (target .exit)) ⌝ }
 {
     put_answer(convert::older(device, outcome, target), answer);
+}
+
+// Document 02, Item 2.
+#[no_mangle]
+pub extern "C" fn spillfinch_write(text: &[u8], target: &mut [u8], answer: &mut [u32; 8])
+    ensures { λ _. ⌜ WriteGives (now (text .entry)) (length (now (target .entry))) (now (answer .exit)) (now (target .exit)) ⌝ }
+{
+    put_answer(write::write(text, target), answer);
 }

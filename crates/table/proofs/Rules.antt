@@ -1,4 +1,4 @@
--- The rules of a table one by one.
+-- The rules of a table one by one, and their rows.
 -- Assumes nothing.
 use Prim.Native.Nat.{ℕ, zero, suc, _+_, _-_, _≤_, _<_}
 use mathlib.Core.Path.{_≡_, ap, _∙_}
@@ -8,7 +8,7 @@ use native.Mathlib.Omega.{arith}
 use Rattle.lists.specs.Checked.{Placed}
 use Rattle.lists.proofs.Moves.{ap-at}
 use Rattle.rules.specs.Pair.{Rule}
-use Rattle.table.specs.Table.{ruleAt, rulesFrom}
+use Rattle.table.specs.Table.{ruleAt, rulesFrom, Rows, Segment}
 
 module _ (v r t : List ℕ) where
   pub rules-step : (i n : ℕ) → i < n → rulesFrom v r t i (n - i) ≡ ruleAt v r t i ∷ rulesFrom v r t (i + 1) (n - (i + 1))
@@ -30,3 +30,12 @@ module _ (v r t : List ℕ) where
 
   pub rules-snoc : (n : ℕ) → rulesFrom v r t 0 (n + 1) ≡ rulesFrom v r t 0 n ++ (ruleAt v r t n ∷ [])
   rules-snoc n = rw add-one (snoc 0 n ∙ ap-at (λ k. rulesFrom v r t 0 n ++ (ruleAt v r t k ∷ [])) (0 + n) n (omega arith))
+
+-- the first rows of those that there are
+pub segment : (v r : List ℕ) (m used n : ℕ) → Rows v r m used → n ≤ m → Segment v r n
+segment v r m used n w h = record {
+  room = omega (arith, w .room);
+  within = λ i k.
+      let x = w .within i (omega arith) in
+      record { argument = x .argument; value = x .value; within = omega (arith, x .within, w .filled) };
+}

@@ -6,6 +6,7 @@ use reference::generate::case;
 use spillfinch::{Refusal, Refused};
 use spillfinch_cli::check::{check, Subject};
 use spillfinch_cli::listing::{list, refused};
+use spillfinch_cli::syntax::line::read_line;
 use spillfinch_cli::syntax::{lines, quote, Key, Line};
 
 const CASES: u64 = 4_000;

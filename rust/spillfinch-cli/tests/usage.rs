@@ -5,7 +5,7 @@ mod common;
 use common::{program, repository, run_in, Folder};
 use std::process::Command;
 
-const COMMANDS: [&str; 6] = ["check", "run", "test", "show", "import", "convert"];
+const COMMANDS: [&str; 7] = ["check", "run", "test", "write", "show", "import", "convert"];
 
 fn help(command: &str) -> String {
     let said = run_in(&repository(), &[command, "--help"], b"");
@@ -80,6 +80,11 @@ fn bad_usage() {
         (&["import"], "<RECORDING>..."),
         (&["test", "a", "b"], "Found argument 'b'"),
         (&["test", "--updat"], "--update"),
+        (&["write"], "<FILE|DIR>..."),
+        (
+            &["write", "--check", "--in-place", "a"],
+            "cannot be used with",
+        ),
     ] {
         let said = folder.run(arguments);
         assert_eq!(said.status, 2, "{arguments:?}");

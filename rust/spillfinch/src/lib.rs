@@ -72,6 +72,14 @@ pub fn older(device: &[u8], outcome: &[u8]) -> Result<Vec<u8>, Refused> {
     Ok(record)
 }
 
+/// The rules of a text written back: a line for each, nothing between their parts.
+pub fn write(text: &[u8]) -> Result<Vec<u8>, Refused> {
+    let (_, text) = written(sizes::TEXT_MOST, |target, answer| {
+        calls::write(text, target, answer);
+    })?;
+    Ok(text)
+}
+
 fn accepted(answer: &Answer) -> Result<(), Refused> {
     match answer[calls::NUMBER] {
         0 => Ok(()),

@@ -33,7 +33,7 @@ pub enum Refusal {
 use Refusal::*;
 
 impl Refusal {
-    pub const ALL: [Refusal; 21] = [
+    pub const ALL: [Refusal; 22] = [
         TargetShort,
         TextLong,
         DeviceBad,
@@ -80,7 +80,9 @@ impl Refusal {
             KeyBad => "unknown or missing key",
             ArgumentBad => "argument in braces missing, faulty or not taken",
             OperatorBad => "operator missing, or not one of this key",
-            ValueBad => "value not in quotation marks, with an unknown escape, or longer than 256 bytes",
+            ValueBad => {
+                "value not in quotation marks, with an unknown escape, or longer than 256 bytes"
+            }
             ContentBad => "value not of the kind that its key takes",
             PairExtra => "more than 32 pairs, or a second LABEL or GOTO",
             CommaMissing => "neither a comma nor the end of the line",

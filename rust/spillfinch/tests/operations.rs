@@ -1,6 +1,6 @@
 //! Each operation once accepted and once refused.
 
-use spillfinch::{check, close, fresh, newer, older, run, sizes, Refusal, Refused};
+use spillfinch::{check, close, fresh, newer, older, run, sizes, write, Refusal, Refused};
 
 /// ttyUSB0 with one property and no parents.
 const DEVICE: &[u8] = b"\x10\x10\xbc\x00\x00\x00\x40\x10\x07ID_MODELcounter\x0a\x86\x00\x00\
@@ -120,6 +120,33 @@ fn fullest_records() {
         spillfinch::newer(DEVICE, &longer),
         refused(Refusal::OutcomeBad, 0)
     );
+}
+
+#[test]
+fn writes() {
+    let text = b"# c\n KERNEL == \"tty*\" ,\tENV{a} = e\"\\x41\\\\\" , \\\n RUN=\"b\"\n\n";
+    let written = b"KERNEL==\"tty*\",ENV{a}=e\"A\\\\\",RUN=\"b\"\n";
+    assert_eq!(write(text), Ok(written.to_vec()));
+    assert_eq!(write(written), Ok(written.to_vec()));
+    assert_eq!(write(b"#"), Ok(Vec::new()));
+    assert_eq!(write(b"\nGOTO=\"a\""), refused(Refusal::LabelMissing, 2));
+    assert_eq!(write(&[b'#'; 32_769]), refused(Refusal::TextLong, 0));
+}
+
+/// Written back, a text without a final newline is one byte longer.
+#[test]
+fn writes_no_text_that_is_too_long() {
+    let rule = format!("TAG=\"{}\"\n", "a".repeat(57)).repeat(512);
+    let rules = rule.as_bytes();
+    assert_eq!(rules.len(), 32_768);
+    assert_eq!(write(rules), Ok(rules.to_vec()));
+    let mut tight = rules.to_vec();
+    tight.pop();
+    tight.pop();
+    tight.extend(b"a\"");
+    assert_eq!(tight.len(), 32_768);
+    assert_eq!(check(&tight), Ok(()));
+    assert_eq!(write(&tight), refused(Refusal::TextLong, 0));
 }
 
 #[test]

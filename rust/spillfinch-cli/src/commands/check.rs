@@ -2,24 +2,18 @@
 
 use std::env;
 use std::io::{self, IsTerminal};
-use std::path::{Path, PathBuf};
 
 use clap::{Arg, ArgAction, ArgMatches, Command};
 
-use super::{file, paths, Done};
+use super::{rules_argument, rules_files, Done};
 use crate::check::{check, json, long, short, warnings, Checked, Counts};
 use crate::files;
-use crate::report::{Failure, Report, Status};
+use crate::report::{Report, Status};
 
 pub fn command() -> Command {
     Command::new("check")
         .about("Show the faults of rules files")
-        .arg(
-            file("files", "FILE|DIR")
-                .required(true)
-                .num_args(1..)
-                .help("Rules files; of a directory all files that end in .rules"),
-        )
+        .arg(rules_argument())
         .arg(
             Arg::new("format")
                 .long("format")
@@ -57,7 +51,7 @@ pub fn run(matches: &ArgMatches) -> Done {
     let allowed = matches.get_many("allow").into_iter().flatten();
     let allowed: Vec<u8> = allowed.copied().collect();
     let mut checked = Vec::new();
-    for path in files_of(&paths(matches, "files"))? {
+    for path in rules_files(matches)? {
         let text = files::read(&path)?;
         checked.push(check(path, text, &allowed));
     }
@@ -68,24 +62,6 @@ pub fn run(matches: &ArgMatches) -> Done {
         report.ends(Status::Refused);
     }
     Ok(report)
-}
-
-/// The files that are meant, those of a directory in its place.
-fn files_of(paths: &[&PathBuf]) -> Result<Vec<PathBuf>, Failure> {
-    let mut files = Vec::new();
-    for path in paths {
-        if files::is_standard_input(path) || !path.is_dir() {
-            files.push(path.to_path_buf());
-            continue;
-        }
-        let mut rules = files::list(path, &[".rules"])?;
-        if rules.is_empty() {
-            let path = files::shown(Path::new(path));
-            return Err(Failure(format!("{path}: no file here ends in .rules")));
-        }
-        files.append(&mut rules);
-    }
-    Ok(files)
 }
 
 fn shown(checked: &[Checked], format: Option<&str>) -> String {

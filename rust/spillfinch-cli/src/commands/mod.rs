@@ -6,12 +6,14 @@ mod import;
 mod run;
 mod show;
 mod test;
+mod write;
 
 use std::ffi::OsString;
 use std::path::PathBuf;
 
 use clap::{value_parser, Arg, ArgMatches, Command};
 
+use crate::files;
 use crate::report::{Failure, Report};
 
 type Done = Result<Report, Failure>;
@@ -19,10 +21,11 @@ type Done = Result<Report, Failure>;
 /// A command and what carries it out.
 type Row = (fn() -> Command, fn(&ArgMatches) -> Done);
 
-const COMMANDS: [Row; 6] = [
+const COMMANDS: [Row; 7] = [
     (check::command, check::run),
     (run::command, run::run),
     (test::command, test::run),
+    (write::command, write::run),
     (show::command, show::run),
     (import::command, import::run),
     (convert::command, convert::run),
@@ -57,6 +60,32 @@ fn file(id: &'static str, name: &'static str) -> Arg {
     Arg::new(id)
         .value_name(name)
         .value_parser(value_parser!(PathBuf))
+}
+
+/// The argument that names rules files.
+fn rules_argument() -> Arg {
+    file("files", "FILE|DIR")
+        .required(true)
+        .num_args(1..)
+        .help("Rules files; of a directory all files that end in .rules")
+}
+
+/// The rules files that are meant, those of a directory in its place.
+fn rules_files(matches: &ArgMatches) -> Result<Vec<PathBuf>, Failure> {
+    let mut files = Vec::new();
+    for path in paths(matches, "files") {
+        if files::is_standard_input(path) || !path.is_dir() {
+            files.push(path.to_path_buf());
+            continue;
+        }
+        let mut rules = files::list(path, &[".rules"])?;
+        if rules.is_empty() {
+            let path = files::shown(path);
+            return Err(Failure(format!("{path}: no file here ends in .rules")));
+        }
+        files.append(&mut rules);
+    }
+    Ok(files)
 }
 
 /// An argument that names a device: a file, maybe with the path of one device in it.

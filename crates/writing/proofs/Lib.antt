@@ -1,0 +1,5 @@
+pub mod Values
+pub mod Pairs
+pub mod Lines
+pub mod Texts
+pub mod Examples
