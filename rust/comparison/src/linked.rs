@@ -32,6 +32,7 @@ fn call(request: &Request, written: &mut Written, answer: &mut AnswerArray) {
             outcome,
         } => calls::run(text, device, outcome, target, answer),
         Request::Close { device, outcome } => calls::close(device, outcome, target, answer),
+        Request::Write { text } => calls::write(text, target, answer),
         Request::Newer { device, outcome } => calls::newer(device, outcome, target, answer),
         Request::Older { device, outcome } => calls::older(device, outcome, target, answer),
     }
@@ -60,6 +61,7 @@ impl Engine for LinkedApart {
                 device: &own(device),
                 outcome: &own(outcome),
             }),
+            Request::Write { text } => call(Request::Write { text: &own(text) }),
             Request::Newer { device, outcome } => call(Request::Newer {
                 device: &own(device),
                 outcome: &own(outcome),

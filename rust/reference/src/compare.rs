@@ -23,6 +23,9 @@ pub enum Operation {
     OlderAfterNewer,
     Older,
     NewerAfterOlder,
+    Write,
+    /// Of the text that was written.
+    WriteAgain,
 }
 
 /// What an operation gave: its answer and all that it wrote to.
@@ -122,7 +125,15 @@ fn extra_replies(engine: &dyn Engine, case: &Case) -> Vec<Reply> {
     match &case.extra {
         Extra::Nothing => Vec::new(),
         Extra::Convert { old, newer, older } => convert_replies(engine, case, old, *newer, *older),
+        Extra::Write { room } => write_replies(engine, &case.text, *room),
     }
+}
+
+fn write_replies(engine: &dyn Engine, text: &[u8], room: usize) -> Vec<Reply> {
+    let write = |operation, text| reply(engine, operation, &Request::Write { text }, room);
+    let once = write(Operation::Write, text);
+    let again = write(Operation::WriteAgain, once.record());
+    vec![once, again]
 }
 
 /// There and back from either edition.
@@ -296,6 +307,7 @@ pub fn write_case(directory: &Path, case: &Case) -> io::Result<()> {
             fs::write(directory.join("old"), old)?;
             rooms += &format!("newer {newer}\nolder {older}\n");
         }
+        Extra::Write { room } => rooms += &format!("write {room}\n"),
     }
     fs::write(directory.join("rooms"), rooms)
 }
@@ -315,6 +327,8 @@ pub fn read_case(directory: &Path) -> io::Result<Case> {
             newer: room("newer")?,
             older: room("older")?,
         }
+    } else if let Ok(room) = room("write") {
+        Extra::Write { room }
     } else {
         Extra::Nothing
     };

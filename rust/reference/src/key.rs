@@ -24,6 +24,13 @@ pub enum Key {
     Options,
 }
 
+impl Key {
+    pub fn name(self) -> &'static str {
+        let row = KEYS.iter().find(|row| row.key == self);
+        row.expect("every key has a row").name
+    }
+}
+
 #[derive(Clone, Copy, Debug, PartialEq, Eq, PartialOrd, Ord)]
 pub enum Operator {
     Equal,

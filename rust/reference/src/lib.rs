@@ -25,8 +25,9 @@ pub mod run_list;
 pub mod sizes;
 pub mod template;
 pub mod text_form;
+pub mod writer;
 
 pub use device::Device;
 pub use listing::listing;
-pub use operations::{check, close, fresh, newer, older, run, Answer};
+pub use operations::{check, close, fresh, newer, older, run, write, Answer};
 pub use outcome::Outcome;

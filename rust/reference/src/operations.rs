@@ -7,6 +7,7 @@ use crate::refusal::{Fault, Refusal};
 use crate::rules;
 use crate::run_list::RunList;
 use crate::sizes;
+use crate::writer;
 
 #[derive(Clone, Copy, Debug, Default, PartialEq, Eq)]
 pub struct Answer {
@@ -57,6 +58,12 @@ pub fn run(text: &[u8], device: &[u8], outcome: &[u8], target: &mut [u8]) -> Ans
 /// Writes the run list of an outcome.
 pub fn close(device: &[u8], outcome: &[u8], target: &mut [u8]) -> Answer {
     let result = make_close(device, outcome, target.len());
+    deliver(result, target)
+}
+
+/// Writes the rules of a text back.
+pub fn write(text: &[u8], target: &mut [u8]) -> Answer {
+    let result = make_text(text, target.len());
     deliver(result, target)
 }
 
@@ -141,6 +148,18 @@ fn make_older(device: &[u8], outcome: &[u8], room: usize) -> Result<Accepted, Re
     }
     Ok(Accepted {
         record: outcome.encode_edition(Edition::First),
+        ..Accepted::default()
+    })
+}
+
+fn make_text(text: &[u8], room: usize) -> Result<Accepted, Refusal> {
+    check_room(room, sizes::TEXT)?;
+    let written = writer::write(&rules::read(text)?);
+    if written.len() > sizes::TEXT {
+        return Err(Fault::Text.without_line());
+    }
+    Ok(Accepted {
+        record: written,
         ..Accepted::default()
     })
 }

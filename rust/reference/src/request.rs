@@ -23,6 +23,9 @@ pub enum Request<'a> {
         device: &'a [u8],
         outcome: &'a [u8],
     },
+    Write {
+        text: &'a [u8],
+    },
     Newer {
         device: &'a [u8],
         outcome: &'a [u8],
@@ -69,6 +72,7 @@ impl Engine for Reference {
                 outcome,
             } => operations::run(text, device, outcome, target),
             Request::Close { device, outcome } => operations::close(device, outcome, target),
+            Request::Write { text } => operations::write(text, target),
             Request::Newer { device, outcome } => operations::newer(device, outcome, target),
             Request::Older { device, outcome } => operations::older(device, outcome, target),
         };

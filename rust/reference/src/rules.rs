@@ -19,6 +19,8 @@ pub struct Rule {
 #[derive(Clone, Debug, PartialEq, Eq)]
 pub struct Pair {
     pub key: Key,
+    /// Without its braces; `None` if there are none.
+    pub argument: Option<Vec<u8>>,
     pub operator: Operator,
     /// What the text between the quotation marks stands for.
     pub value: Vec<u8>,
@@ -126,9 +128,11 @@ fn read_pair(cursor: &mut Cursor) -> Result<Pair, Fault> {
         .ok_or(Fault::Operator)?;
     cursor.skip_blanks();
     let value = read_value(cursor).ok_or(Fault::Value)?;
-    let content = read_content(row.key, argument, operator, &value).ok_or(Fault::Content)?;
+    let content = read_content(row.key, argument.unwrap_or_default(), operator, &value)
+        .ok_or(Fault::Content)?;
     Ok(Pair {
         key: row.key,
+        argument: argument.map(<[u8]>::to_vec),
         operator,
         value,
         content,
@@ -140,10 +144,10 @@ fn read_key(cursor: &mut Cursor) -> Option<&'static KeyRow> {
     KEYS.iter().find(|row| row.name.as_bytes() == name)
 }
 
-/// The argument without its braces; empty where it may be absent and is.
-fn read_argument<'a>(cursor: &mut Cursor<'a>, rule: ArgumentRule) -> Option<&'a [u8]> {
+/// The argument without its braces, or `Some(None)` where it may be absent and is.
+fn read_argument<'a>(cursor: &mut Cursor<'a>, rule: ArgumentRule) -> Option<Option<&'a [u8]>> {
     if !cursor.take(b"{") {
-        return (rule != ArgumentRule::Name).then_some(b"");
+        return (rule != ArgumentRule::Name).then_some(None);
     }
     let argument = cursor.take_while(|byte| byte != b'}');
     let is_closed = cursor.take(b"}");
@@ -152,7 +156,7 @@ fn read_argument<'a>(cursor: &mut Cursor<'a>, rule: ArgumentRule) -> Option<&'a 
         ArgumentRule::Name => (1..=sizes::ARGUMENT).contains(&argument.len()),
         ArgumentRule::RunTypeOrNone => matches!(argument, b"program" | b"builtin"),
     };
-    (is_closed && is_allowed).then_some(argument)
+    (is_closed && is_allowed).then_some(Some(argument))
 }
 
 fn read_operator(cursor: &mut Cursor) -> Option<Operator> {

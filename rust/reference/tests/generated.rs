@@ -1,8 +1,8 @@
 //! What the generated cases reach, and that the comparison finds differences.
 
 use reference::compare::{
-    compare_cases, compare_joins, first_number, read_case, replies, write_case, Engine, Reference,
-    Request,
+    compare_cases, compare_joins, first_number, read_case, replies, write_case, Engine, Operation,
+    Reference, Request,
 };
 use reference::coverage::{Coverage, Fact, PIECES};
 use reference::generate::edges::EDGES;
@@ -49,6 +49,19 @@ fn every_faulty_pair_gives_its_number() {
     }
 }
 
+/// The numbers that cases reach with what they ask for beside check, fresh, run and close.
+const EXTRA_ANSWERS: &[(Operation, &[u32])] = &[
+    (Operation::Newer, &[0, 1, 3, 4]),
+    (Operation::OlderAfterNewer, &[0, 1, 4]),
+    (Operation::Older, &[0, 1, 3, 4, 5]),
+    (Operation::NewerAfterOlder, &[0, 1, 4]),
+    (
+        Operation::Write,
+        &[0, 1, 10, 11, 12, 13, 14, 15, 16, 17, 19],
+    ),
+    (Operation::WriteAgain, &[0, 1]),
+];
+
 #[test]
 fn cases_reach_everything() {
     let mut coverage = Coverage::default();
@@ -60,6 +73,13 @@ fn cases_reach_everything() {
     for fault in Fault::ALL {
         let count = coverage.number_count(fault.number());
         assert!(count >= 20, "{fault:?} only {count} times\n{coverage}");
+    }
+    for (operation, numbers) in EXTRA_ANSWERS {
+        for &number in *numbers {
+            let answers = &coverage.answers;
+            let count = *answers.get(&(*operation, number)).unwrap_or(&0);
+            assert!(count >= 10, "{operation:?} {number} only {count} times");
+        }
     }
     for row in &KEYS {
         for operator in Operator::ALL {
@@ -153,12 +173,15 @@ fn the_comparison_finds_nothing_where_there_is_nothing() {
 #[test]
 fn cases_come_back_from_their_files() {
     let directory = std::env::temp_dir().join(format!("reference-case-{}", std::process::id()));
-    let written = case(7);
-    write_case(&directory, &written).expect("the files are written");
-    let read = read_case(&directory).expect("the files are read");
-    std::fs::remove_dir_all(&directory).expect("the files are removed");
-    assert_eq!(read.text, written.text);
-    assert_eq!(read.device, written.device);
-    assert_eq!(read.outcome, written.outcome);
-    assert_eq!(read.rooms, written.rooms);
+    for seed in 0..200 {
+        let written = case(seed);
+        write_case(&directory, &written).expect("the files are written");
+        let read = read_case(&directory).expect("the files are read");
+        std::fs::remove_dir_all(&directory).expect("the files are removed");
+        assert_eq!(read.text, written.text);
+        assert_eq!(read.device, written.device);
+        assert_eq!(read.outcome, written.outcome);
+        assert_eq!(read.rooms, written.rooms);
+        assert_eq!(read.extra, written.extra);
+    }
 }

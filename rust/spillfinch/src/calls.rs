@@ -43,6 +43,14 @@ extern "C" {
         answer: *mut Answer,
     );
 
+    fn spillfinch_write(
+        text: *const u8,
+        text_length: usize,
+        target: *mut u8,
+        target_length: usize,
+        answer: *mut Answer,
+    );
+
     fn spillfinch_newer(
         device: *const u8,
         device_length: usize,
@@ -106,6 +114,18 @@ pub fn close(device: &[u8], outcome: &[u8], target: &mut [u8], answer: &mut Answ
             device.len(),
             outcome.as_ptr(),
             outcome.len(),
+            target.as_mut_ptr(),
+            target.len(),
+            answer,
+        );
+    }
+}
+
+pub fn write(text: &[u8], target: &mut [u8], answer: &mut Answer) {
+    unsafe {
+        spillfinch_write(
+            text.as_ptr(),
+            text.len(),
             target.as_mut_ptr(),
             target.len(),
             answer,

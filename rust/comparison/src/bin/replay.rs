@@ -78,6 +78,9 @@ fn show_replies(case: &Case, replies: &[Reply]) {
             Operation::Close | Operation::CloseAfterRun => {
                 RunList::decode(record).map(|run_list| show_run_list(&run_list))
             }
+            Operation::Write | Operation::WriteAgain => {
+                Some(String::from_utf8_lossy(record).into_owned())
+            }
             Operation::Older | Operation::OlderAfterNewer => {
                 Outcome::decode_edition(Edition::First, record, chain_length)
                     .map(|outcome| show_outcome(&outcome))

@@ -404,6 +404,23 @@ pub fn fullest() -> Outcome {
     }
 }
 
+/// The writing of a text into so much room.
+pub fn of_written(text: impl Into<Vec<u8>>, room: usize, rng: &mut Rng) -> Case {
+    let mut case = of_text(text.into(), rng);
+    case.extra = Extra::Write { room };
+    case
+}
+
+/// A text without anything to leave out, of that length.
+pub fn tight_text(length: usize) -> Vec<u8> {
+    // 99 bytes and a newline.
+    let rule = format!("ENV{{A}}=\"{}\"", "v".repeat(90));
+    let mut text = format!("{rule}\n").repeat(length / 100 - 1);
+    let rest = length - text.len();
+    text += &format!("ENV{{A}}=\"{}\"", "v".repeat(rest - 9));
+    text.into_bytes()
+}
+
 /// Conversions of an outcome, in both directions with the same content as far as can be.
 pub fn of_conversion(change: fn(&mut Outcome, usize), rng: &mut Rng) -> Case {
     of_conversion_with_room(

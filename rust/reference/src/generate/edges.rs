@@ -819,7 +819,30 @@ pub const CONVERSION_EDGES: &[Edge] = &[
     }),
 ];
 
-pub const EDGES: [&[Edge]; 7] = [
+pub const WRITER_EDGES: &[Edge] = &[
+    edge("text written back", 0, |rng| {
+        let line = b" TAG += \"a\\\"\" ,\tRUN= e\"\\n\\t\\\\\" , RUN{program}=\"x\"";
+        of_written([&b"# c\n"[..], line, b"\n\n"].concat(), 32_768, rng)
+    }),
+    edge("empty text written back", 0, |rng| {
+        of_written(*b"", 32_768, rng)
+    }),
+    edge("tight text of 32,767 written back", 0, |rng| {
+        of_written(tight_text(32_767), 32_768, rng)
+    }),
+    edge("tight text of 32,768 written back", 2, |rng| {
+        of_written(tight_text(32_768), 32_768, rng)
+    }),
+    edge("tight text of 32,768 with its newline", 0, |rng| {
+        of_written([tight_text(32_767), b"\n".to_vec()].concat(), 40_000, rng)
+    }),
+    edge("text written with a byte less", 1, |rng| {
+        of_written(tight_text(32_768), 32_767, rng)
+    }),
+];
+
+pub const EDGES: [&[Edge]; 8] = [
+    WRITER_EDGES,
     CONVERSION_EDGES,
     TEXT_EDGES,
     JOIN_EDGES,

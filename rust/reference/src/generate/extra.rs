@@ -17,11 +17,18 @@ pub enum Extra {
         newer: usize,
         older: usize,
     },
+    /// The text written back, and that written back again.
+    Write {
+        room: usize,
+    },
 }
 
 pub fn extra(rng: &mut Rng, case: &Case) -> Extra {
     match rng.below(100) {
         0..=5 => convert(rng, case),
+        6..=13 => Extra::Write {
+            room: room(rng, sizes::TEXT),
+        },
         _ => Extra::Nothing,
     }
 }
