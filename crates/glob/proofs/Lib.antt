@@ -4,3 +4,4 @@ pub mod Members
 pub mod Steps
 pub mod Search
 pub mod Alternatives
+pub mod Plain

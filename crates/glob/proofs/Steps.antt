@@ -12,13 +12,12 @@ use lib.ListN.{length, getD, drop, drop-of-length-le}
 use Rattle.lists.specs.Lists.{pick}
 use Rattle.lists.specs.Items.{Item}
 use Rattle.lists.proofs.Rest.{rest-at, getD-any}
-use Rattle.pattern.proofs.Plain.{not-special}
 use Rattle.pattern.specs.Pattern.{Element, one, byte, elementAt, setAt, takes, eats, alternativeMatches, isSpecial}
 use Rattle.pattern.proofs.Elements.{Single, match-empty, match-star, match-single, match-fault}
 use Rattle.pattern.proofs.Stars.{eaten, star-ends}
 use Rattle.glob.specs.Place.{alternativeAt, matchesFrom, NotBar}
 use Rattle.glob.specs.Sets.{setRead}
-use Rattle.glob.specs.Step.{setStep, byteStep, StepIs, Common}
+use Rattle.glob.specs.Step.{setStep, byteStep, StepIs}
 use Rattle.glob.specs.declared.SetRead.the-variants.{Takes, Leaves}
 use Rattle.glob.specs.declared.Step.the-variants.{Done, Star, Eat, Miss, Stop}
 use Rattle.glob.proofs.Place.{not-bar-in, alternative-on, alternative-ends, Further, further}
@@ -142,30 +141,3 @@ module _ (s : List ℕ) (p : ℕ) (v : List ℕ) (t : ℕ) where
         go : (o : Option (Item Element)) → setAt (alternativeAt s (p + 1)) ≡ o → StepIs (setStep (setRead o (getD v t 0) (p + 1))) s p v t
         go none e = λ ys k. set-faulty e ys
         go (some i) e = taken i e (takes (i .value) (getD v t 0)) refl
-
--- ---- plain bytes in common
-
-pub common-none : (s : List ℕ) (at : ℕ) (v : List ℕ) → at ≤ length s → Common s at v 0
-common-none s at v h =
-    let z : at + 0 ≡ at = omega arith in
-    record { pattern-in = omega arith; value-in = omega arith; same = rw z }
-
-module _ (s : List ℕ) (at : ℕ) (v : List ℕ) (k : ℕ) (c : Common s at v k) (h : at + k < length s) (l : k < length v) (plain : isSpecial (getD s (at + k) 0) ≡ false) where
-  plain-goes : (ys : List ℕ) → matchesFrom s (at + k) ys ≡ eats (takes (byte (getD s (at + k) 0))) (matchesFrom s (at + k + 1)) ys
-  plain-goes ys =
-      let n = not-special (getD s (at + k) 0) plain in
-      byte-goes s (at + k) [] 0 (getD s (at + k) 0) (sym (getD-any s (at + k) 0 124 h)) (n .3) (n .0) (n .1) (n .2) ys
-
-  pub common-more : getD s (at + k) 0 ≡ getD v k 0 → Common s at v (k + 1)
-  unfolding eats
-  common-more e =
-      let z : at + (k + 1) ≡ at + k + 1 = omega arith in
-      record {
-        pattern-in = omega arith;
-        value-in = omega arith;
-        same = rw z (sym (plain-goes (drop k v) ∙ rw (rest-at v k l, eq-eqb (getD s (at + k) 0) (getD v k 0) e)) ∙ c .same);
-      }
-
-  pub common-differs : (getD s (at + k) 0 ≡ getD v k 0 → ⊥) → matchesFrom s at v ≡ false
-  unfolding eats
-  common-differs n = sym (c .same) ∙ plain-goes (drop k v) ∙ rw (rest-at v k l, ne-eqb (getD s (at + k) 0) (getD v k 0) n)

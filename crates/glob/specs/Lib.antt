@@ -1,3 +1,4 @@
 pub mod Place
 pub mod Sets
 pub mod Step
+pub mod Plain

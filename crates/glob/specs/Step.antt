@@ -11,8 +11,6 @@ use Rattle.pattern.specs.Pattern.{anySuffix}
 use Rattle.glob.specs.Place.{matchesFrom}
 use Rattle.glob.specs.declared.SetRead.{SetRead}
 use Rattle.glob.specs.declared.SetRead.the-variants.{Takes, Leaves, Fault}
-use Rattle.glob.specs.declared.Prefix.{Prefix}
-use Rattle.glob.specs.declared.Prefix.the-variants as Prefixes
 use Rattle.glob.specs.declared.Step.{Step}
 use Rattle.glob.specs.declared.Step.the-variants.{Done, Star, Eat, Miss, Stop}
 
@@ -46,13 +44,3 @@ pub record StartIs (r : ℕ) (pattern : List ℕ) (star : ℕ) (value : List ℕ
   pub ahead : from ≤ r
   pub inside : r ≤ length value
   pub same : anySuffix (matchesFrom pattern star) (drop r value) ≡ anySuffix (matchesFrom pattern star) (drop from value)
-
--- plain bytes that an alternative and the value have in common: what follows them decides
-pub record Common (pattern : List ℕ) (at : ℕ) (value : List ℕ) (k : ℕ) : Type 0 where
-  pub pattern-in : at + k ≤ length pattern
-  pub value-in : k ≤ length value
-  pub same : matchesFrom pattern (at + k) (drop k value) ≡ matchesFrom pattern at value
-
-abbrev pub PrefixIs : Prefix → List ℕ → ℕ → List ℕ → Type 0
-PrefixIs (Prefixes.Common k) pattern at value = Common pattern at value k
-PrefixIs Prefixes.Miss pattern at value = matchesFrom pattern at value ≡ false

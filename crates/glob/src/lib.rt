@@ -1,13 +1,14 @@
 // Whether a pattern is well formed, and whether it matches a value: greedy, with one remembered star.
 ghost use mathlib.Core.Path.{_≡_};
 ghost use mathlib.Core.Bool.{false, not, _||_};
-ghost use Prim.Native.Nat.{_≤_, _<_, _^_};
+ghost use Prim.Native.Nat.{_+_, _≤_, _<_, _^_};
 ghost use lib.ListN.{length, getD, drop};
 ghost use Rattle.lists.specs.Bytes.{between};
-ghost use Rattle.pattern.specs.Pattern.{isSpecial, setAt, anySuffix, wellFormed, matches};
+ghost use Rattle.pattern.specs.Pattern.{isSpecial, isPlain, setAt, anySuffix, wellFormed, matches};
 ghost use Rattle.glob.specs.Place.{alternativeAt, matchesFrom, rangeAt, NotBar};
 ghost use Rattle.glob.specs.Sets.{MemberIs, memberStart, answered, setRead};
-ghost use Rattle.glob.specs.Step.{setStep, byteStep, StepIs, StartIs, PrefixIs};
+ghost use Rattle.glob.specs.Step.{setStep, byteStep, StepIs, StartIs};
+ghost use Rattle.glob.specs.Plain.{GroupIs, FormIs};
 
 // ---- bytes
 
@@ -27,6 +28,70 @@ fn is_plain(b: u8) -> bool
         b'*' | b'?' | b'[' | b'|' => false,
         _ => true,
     }
+}
+
+// ---- plain patterns
+
+// Whether one of the n bytes from a place on does not stand for itself.
+fn special_in_group(pattern: &[u8], at: usize, n: usize) -> bool
+    requires { ⌜ at + n ≤ length (now pattern) ⌝ }
+    ensures { λ r. ⌜ GroupIs r (now (pattern .entry)) at (at + n) ⌝ }
+{
+    let star = scan::in_group(pattern, at, n, b'*');
+    let one = scan::in_group(pattern, at, n, b'?');
+    let set = scan::in_group(pattern, at, n, b'[');
+    let bar = scan::in_group(pattern, at, n, b'|');
+    if star {
+        return true;
+    }
+    if one {
+        return true;
+    }
+    if set {
+        return true;
+    }
+    bar
+}
+
+fn few_plain(pattern: &[u8]) -> bool
+    ensures { λ r. ⌜ r ≡ isPlain (now (pattern .entry)) ⌝ }
+{
+    let mut i: usize = 0;
+    while i < pattern.len() {
+        if !is_plain(pattern[i]) {
+            return false;
+        }
+        i += 1;
+    }
+    true
+}
+
+// Whether every byte stands for itself: in groups, of which the last may overlap the one before.
+fn all_plain(pattern: &[u8]) -> bool
+    ensures { λ r. ⌜ r ≡ isPlain (now (pattern .entry)) ⌝ }
+{
+    let len = pattern.len();
+    if len < 4 {
+        return few_plain(pattern);
+    }
+    if len < 8 {
+        if special_in_group(pattern, 0, 4) {
+            return false;
+        }
+        return !special_in_group(pattern, len - 4, 4);
+    }
+    let last = len - 8;
+    if special_in_group(pattern, last, 8) {
+        return false;
+    }
+    let mut i: usize = 0;
+    while i < last {
+        if special_in_group(pattern, i, 8) {
+            return false;
+        }
+        i += 8;
+    }
+    true
 }
 
 // ---- sets
@@ -179,6 +244,27 @@ pub fn well_formed(pattern: &[u8]) -> bool
     true
 }
 
+// What a pattern is as it stands.
+pub enum Form {
+    // Every byte stands for itself.
+    Plain,
+    // Well formed.
+    Sound,
+    Faulty,
+}
+
+pub fn form_of(pattern: &[u8]) -> Form
+    ensures { λ r. ⌜ FormIs r (now (pattern .entry)) ⌝ }
+{
+    if all_plain(pattern) {
+        return Form::Plain;
+    }
+    if well_formed(pattern) {
+        return Form::Sound;
+    }
+    Form::Faulty
+}
+
 // ---- matching
 
 // What to do at a place of the pattern and a place of the value.
@@ -328,58 +414,16 @@ fn matches_from(pattern: &[u8], at: usize, value: &[u8], from: usize) -> bool
     }
 }
 
-// How many plain bytes an alternative and the value have in common at their starts; Miss where a plain byte differs.
-pub enum Prefix {
-    Common(usize),
-    Miss,
-}
-
-fn least(a: usize, b: usize) -> usize
-    ensures { λ r. ⌜ (r ≤ a) × (r ≤ b) ⌝ }
-{
-    if a < b { a } else { b }
-}
-
-fn plain_prefix(pattern: &[u8], at: usize, value: &[u8]) -> Prefix
-    requires { ⌜ at ≤ length (now pattern) ⌝ }
-    ensures { λ r. ⌜ PrefixIs r (now (pattern .entry)) at (now (value .entry)) ⌝ }
-{
-    let most = least(pattern.len() - at, value.len());
-    let mut k: usize = 0;
-    while k < most {
-        let b = pattern[at + k];
-        if !is_plain(b) {
-            return Prefix::Common(k);
-        }
-        if b != value[k] {
-            return Prefix::Miss;
-        }
-        k += 1;
-    }
-    Prefix::Common(k)
-}
-
-// Whether the alternative that starts at a place matches the value.
-fn alternative_matches(pattern: &[u8], at: usize, value: &[u8]) -> bool
-    requires { ⌜ at ≤ length (now pattern) ⌝ }
-    ensures { λ r. ⌜ r ≡ matchesFrom (now (pattern .entry)) at (now (value .entry)) ⌝ }
-{
-    match plain_prefix(pattern, at, value) {
-        Prefix::Common(k) => matches_from(pattern, at + k, value, k),
-        Prefix::Miss => false,
-    }
-}
-
 // Whether some alternative matches the value; one with a fault matches nothing.
 pub fn matches(pattern: &[u8], value: &[u8]) -> bool
     ensures { λ r. ⌜ r ≡ matches (now (pattern .entry)) (now (value .entry)) ⌝ }
 {
     let mut at: usize = 0;
     loop {
-        if alternative_matches(pattern, at, value) {
+        if matches_from(pattern, at, value, 0) {
             return true;
         }
-        let bar = scan::byte_end(pattern, at, b'|');
+        let bar = scan::byte_end_seldom(pattern, at, b'|');
         if pattern.len() <= bar {
             return false;
         }

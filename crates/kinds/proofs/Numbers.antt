@@ -1,11 +1,12 @@
--- Keys and operators as numbers and back.
+-- Keys, operators and marks as numbers and back.
 -- Assumes nothing.
 use Prim.Native.Nat.{ℕ, _+_, _*_, _/_, _%_, _≤_, _<_}
 use mathlib.Core.Path.{_≡_, refl, ap, _∙_}
+use mathlib.Core.Bool.{Bool, true, false}
 use native.Mathlib.Omega.{arith}
 use lib.ListN.{List·getD-eq-default}
 use Rattle.rules.specs.Key.{Key, ACTION, DEVPATH, KERNEL, KERNELS, SUBSYSTEM, SUBSYSTEMS, DRIVER, DRIVERS, ATTR, ATTRS, ENV, SYMLINK, TAG, OWNER, GROUP, MODE, RUN, LABEL, GOTO, OPTIONS, Op, equal, unequal, assign, add, remove, final, keyNumber, opNumber}
-use Rattle.kinds.specs.Numbers.{keys, ops, keyWith, opWith, kindWith}
+use Rattle.kinds.specs.Numbers.{keys, ops, plainNumber, keyWith, opWith, plainWith, kindWith}
 
 -- a number that is not this one, with those below it
 pub above : (k n : ℕ) → k ≤ n → (n ≡ k → ⊥) → k + 1 ≤ n
@@ -81,9 +82,20 @@ op-few add = omega arith
 op-few remove = omega arith
 op-few final = omega arith
 
--- a kind holds both
-pub kind-key : (k : Key) (o : Op) → keyWith (kindWith k o / 8) ≡ k
-kind-key k o = let e : kindWith k o / 8 ≡ keyNumber k = omega (arith, op-few o) in ap keyWith e ∙ key-back k
+pub plain-few : (plain : Bool) → plainNumber plain ≤ 8
+plain-few true = omega arith
+plain-few false = omega arith
 
-pub kind-op : (k : Key) (o : Op) → opWith (kindWith k o % 8) ≡ o
-kind-op k o = let e : kindWith k o % 8 ≡ opNumber o = omega (arith, op-few o) in ap opWith e ∙ op-back o
+-- a kind holds all three
+module _ (k : Key) (o : Op) where
+  pub kind-key : (plain : Bool) → keyWith (kindWith k o plain / 16) ≡ k
+  kind-key true = let e : kindWith k o true / 16 ≡ keyNumber k = omega (arith, op-few o) in ap keyWith e ∙ key-back k
+  kind-key false = let e : kindWith k o false / 16 ≡ keyNumber k = omega (arith, op-few o) in ap keyWith e ∙ key-back k
+
+  pub kind-op : (plain : Bool) → opWith (kindWith k o plain % 8) ≡ o
+  kind-op true = let e : kindWith k o true % 8 ≡ opNumber o = omega (arith, op-few o) in ap opWith e ∙ op-back o
+  kind-op false = let e : kindWith k o false % 8 ≡ opNumber o = omega (arith, op-few o) in ap opWith e ∙ op-back o
+
+  pub kind-plain : (plain : Bool) → plainWith (kindWith k o plain / 8 % 2) ≡ plain
+  kind-plain true = let e : kindWith k o true / 8 % 2 ≡ 1 = omega (arith, op-few o) in rw e
+  kind-plain false = let e : kindWith k o false / 8 % 2 ≡ 0 = omega (arith, op-few o) in rw e

@@ -1,8 +1,8 @@
-// The kind of a pair: its key and its operator as one number, and back.
+// The kind of a pair: its key, its operator and whether its value is marked as plain, as one number, and back.
 ghost use mathlib.Core.Path.{_≡_};
 ghost use Rattle.rules.specs.Key.{keyNumber, opNumber};
 ghost use Rattle.keys.specs.Table.{keyOf, operatorOf};
-ghost use Rattle.kinds.specs.Numbers.{keyWith, opWith, kindWith};
+ghost use Rattle.kinds.specs.Numbers.{plainNumber, keyWith, opWith, plainWith, kindWith};
 use keys::Key;
 use keys::Operator;
 
@@ -48,10 +48,16 @@ fn operator_number(operator: Operator) -> u8
     }
 }
 
-pub fn kind_of(key: Key, operator: Operator) -> usize
-    ensures { λ r. ⌜ r ≡ kindWith (keyOf key) (operatorOf operator) ⌝ }
+fn plain_number(plain: bool) -> usize
+    ensures { λ r. ⌜ r ≡ plainNumber plain ⌝ }
 {
-    key_number(key) as usize * 8 + operator_number(operator) as usize
+    if plain { 8 } else { 0 }
+}
+
+pub fn kind_of(key: Key, operator: Operator, plain: bool) -> usize
+    ensures { λ r. ⌜ r ≡ kindWith (keyOf key) (operatorOf operator) plain ⌝ }
+{
+    key_number(key) as usize * 16 + plain_number(plain) + operator_number(operator) as usize
 }
 
 // ---- and back
@@ -94,4 +100,10 @@ pub fn operator_with(n: usize) -> Operator
         4 => Operator::Remove,
         _ => Operator::Final,
     }
+}
+
+pub fn plain_with(n: usize) -> bool
+    ensures { λ r. ⌜ r ≡ plainWith n ⌝ }
+{
+    n == 1
 }

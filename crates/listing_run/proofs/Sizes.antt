@@ -88,7 +88,7 @@ watch-size : (w : ℕ) → length (watchLine w) ≤ 8
 unfolding bytes
 watch-size w = go (eqb w 1) (eqb w 2)
   where
-    go : (a b : Bool) → length (pick a (119 ∷ 97 ∷ 116 ∷ 99 ∷ 104 ∷ 10 ∷ []) (pick b (110 ∷ 111 ∷ 119 ∷ 97 ∷ 116 ∷ 99 ∷ 104 ∷ 10 ∷ []) [])) ≤ 8
+    go : (a b : Bool) → length {A = ℕ} (pick a (119 ∷ 97 ∷ 116 ∷ 99 ∷ 104 ∷ 10 ∷ []) (pick b (110 ∷ 111 ∷ 119 ∷ 97 ∷ 116 ∷ 99 ∷ 104 ∷ 10 ∷ []) [])) ≤ 8
     go true b = omega arith
     go false true = omega arith
     go false false = omega arith

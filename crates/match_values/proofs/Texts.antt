@@ -1,4 +1,4 @@
--- A pattern and the texts of a row: a turn of the loop that looks for one that matches.
+-- A pattern and the texts of a row: a turn of the loop that looks for one that matches. A plain pattern.
 -- Assumes nothing.
 use Prim.Native.Nat.{ℕ, zero, suc, _-_, _<_}
 use mathlib.Core.Path.{_≡_, sym, _∙_}
@@ -8,7 +8,10 @@ use native.Mathlib.Nat.{not-suc-le-zero}
 use native.Mathlib.Omega.{arith}
 use lib.ListN.{take, drop}
 use Rattle.lists.proofs.Moves.{ap-at}
+use Rattle.lists.specs.Bytes.{sameBytes}
 use Rattle.pattern.specs.Pattern.{matches}
+use Rattle.pattern.proofs.Plain.{plain-matches}
+use Rattle.glob.specs.Plain.{PlainIf}
 use Rattle.rows.specs.Entry.{size, name, Placed}
 use Rattle.rows.specs.Row.{names}
 use Rattle.rows.specs.declared.Kind.{Kind}
@@ -34,3 +37,7 @@ module _ (kind : Kind) (pattern l : List ℕ) (p left : ℕ) (e : Entry) (w : Pl
   pub some-next : matches pattern (take (e .rest - e .name) (drop (e .name) l)) ≡ false
       → someMatches pattern (names kind left (drop p l)) ≡ someMatches pattern (names kind (left - 1) (drop (e .end) l))
   some-next t = some-turn ∙ rw t
+
+-- document 02, Item 3: a match value that is marked as plain matches the bytes equal to it
+pub plain-same : (plain : Bool) (pattern value : List ℕ) → PlainIf plain pattern → plain ≡ true → sameBytes pattern value ≡ matches pattern value
+plain-same plain pattern value marked t = sym (plain-matches pattern value (marked t))

@@ -3,6 +3,7 @@
 
 ghost use mathlib.Core.Path.{_≡_};
 ghost use Prim.Native.Nat.{_≤_};
+ghost use Rattle.glob.specs.Plain.{PlainIf};
 ghost use Rattle.keys.specs.Table.{keyOf, operatorOf};
 ghost use Rattle.table.specs.Table.{entryOf, Segment, EntryIn};
 ghost use Rattle.matching.specs.Subjects.{subjectOf, isParentSubject, atEvent, atParent, subjectHolds, pairOn};
@@ -101,12 +102,19 @@ fn is_parent(subject: Subject) -> bool
 // ---- one pair at one device
 
 // SYMLINK and TAG.
-fn list_holds(list: Texts, operator: Operator, pattern: &[u8], t: &[u8], layout: Layout) -> bool
-    requires { ⌜ Holds (now t) layout ⌝ }
+fn list_holds(
+    list: Texts,
+    operator: Operator,
+    pattern: &[u8],
+    plain: bool,
+    t: &[u8],
+    layout: Layout,
+) -> bool
+    requires { ⌜ Holds (now t) layout × PlainIf plain (now pattern) ⌝ }
     ensures { λ r. ⌜ ListHolds list (operatorOf operator) (now (pattern .entry)) (now (t .entry)) layout r ⌝ }
 {
     let row = outcome_readers::row_of(t, layout, outcome_target::section_of(list));
-    match_values::list_holds(operator, pattern, t, row.at, row.count)
+    match_values::list_holds(operator, pattern, plain, t, row.at, row.count)
 }
 
 fn subject_holds(
@@ -114,21 +122,23 @@ fn subject_holds(
     operator: Operator,
     argument: &[u8],
     pattern: &[u8],
+    plain: bool,
     dev: &[u8],
     at: usize,
     t: &[u8],
     layout: Layout,
 ) -> bool
-    requires { ⌜ Judging (now dev) at (now t) layout ⌝ }
+    requires { ⌜ Judging (now dev) at (now t) layout × PlainIf plain (now pattern) ⌝ }
     ensures { λ r. ⌜ ((x : Judging (now (dev .entry)) at (now (t .entry)) layout) → r ≡ subjectHolds subject (operatorOf operator) (now (argument .entry)) (now (pattern .entry)) (x .device) (x .member) (x .state)) ⌝ }
 {
     match subject {
-        Subject::Action => match_device::action_holds(operator, pattern, dev),
+        Subject::Action => match_device::action_holds(operator, pattern, plain, dev),
         Subject::Device(part) => match_device::part_holds(
             part,
             operator,
             argument,
             pattern,
+            plain,
             dev,
             at,
         ),
@@ -136,9 +146,10 @@ fn subject_holds(
         Subject::Property => match_values::value_holds(
             operator,
             pattern,
+            plain,
             outcome_readers::property(t, layout, argument),
         ),
-        Subject::List(list) => list_holds(list, operator, pattern, t, layout),
+        Subject::List(list) => list_holds(list, operator, pattern, plain, t, layout),
         Subject::Nothing => true,
     }
 }
@@ -157,6 +168,7 @@ fn pair_holds(
     ensures { λ r. ⌜ ((x : Judging (now (dev .entry)) at (now (t .entry)) layout) → r ≡ pairOn subject (entryOf (now (values .entry)) entry) (x .device) (x .member) (x .state)) ⌝ }
 {
     let operator = entry.operator;
+    let plain = entry.plain;
     let start = entry.start;
     let middle = entry.middle;
     let end = entry.end;
@@ -165,6 +177,7 @@ fn pair_holds(
         operator,
         &values[start..middle],
         &values[middle..end],
+        plain,
         dev,
         at,
         t,

@@ -4,11 +4,17 @@ use Prim.Native.Nat.{ℕ}
 use mathlib.Core.Path.{_≡_, refl, sym}
 use mathlib.Core.Bool.{true, false}
 use mathlib.Core.List.{List, [], _∷_}
+use native.Mathlib.Omega.{arith}
 use lib.Dec.{eqb, eqb·suc-zero}
 use lib.ListN.{length, drop}
 use Rattle.lists.specs.Lists.{isEmpty}
 use Rattle.lists.specs.Checked.{refused}
 use Rattle.lists.specs.Refusal.{content-bad}
+use Rattle.pattern.proofs.Plain.{plain-well-formed}
+use Rattle.glob.specs.Plain.{PlainIf, FormIs}
+use Rattle.glob.specs.declared.Form.{Form}
+use Rattle.glob.specs.declared.Form.the-variants.{Plain, Sound, Faulty}
+use Rattle.rules.specs.Key.{Key, Op, isMatch}
 use Rattle.rules.specs.Reading.{sound, readPair}
 use Rattle.keys.specs.Table.{keyOf, operatorOf}
 use Rattle.refusals.specs.Refusals.{refusalOf}
@@ -19,6 +25,21 @@ use Rattle.pairs.specs.declared.PairRead.the-variants.{Read, Refused}
 use Rattle.pairs.specs.Stages.{pairWritten}
 use Rattle.pairs.specs.Answers.{part, unescaped, readBy}
 use Rattle.pairs.proofs.Whole.{read-written}
+use Rattle.pair_content.specs.Content.{ContentIs}
+
+-- what a match value is as a pattern is its content
+pub match-content : (f : Form) (k : Key) (o : Op) (v : List ℕ) → isMatch o ≡ true → FormIs f v → ContentIs f k o v
+unfolding sound
+match-content Plain k o v t e = (rw t (plain-well-formed v e), e)
+match-content Sound k o v t e = rw t e
+match-content Faulty k o v t e = rw t e
+
+-- without a mark nothing is said
+pub unmarked : (v : List ℕ) → PlainIf false v
+unmarked v e = let z : _≡_ {A = ℕ} 0 1 = cc e in absurd (never z)
+  where
+    never : _≡_ {A = ℕ} 0 1 → ⊥
+    never z = omega arith
 
 -- a list without an element
 pub length-empty : (v : List ℕ) → eqb (length v) 0 ≡ isEmpty v

@@ -10,8 +10,11 @@ ghost use Rattle.rules.specs.Reading as reading;
 ghost use Rattle.keys.specs.Table.{keyOf, operatorOf};
 ghost use Rattle.pairs.specs.Answers.{part, unescaped, readBy};
 ghost use Rattle.pairs.specs.Bounds.{WrittenAt, ValueAt, ReadIn};
+ghost use Rattle.pair_content.specs.Content.{ContentIs, pairRead, MarkedIn};
+use glob::Form;
 use keys::Key;
 use keys::Operator;
+use pairs::Pair;
 use pairs::PairRead;
 use refusals::Refusal;
 use signed::SettingRead;
@@ -74,35 +77,39 @@ fn is_match(operator: Operator) -> bool
     }
 }
 
-// Whether a value, unescaped, is one that its key and operator ask for.
-pub fn value_sound(key: Key, operator: Operator, value: &[u8]) -> bool
-    ensures { λ r. ⌜ r ≡ reading.sound (keyOf key) (operatorOf operator) (now (value .entry)) ⌝ }
+// What a value, unescaped, is by its key and operator: one that they do not ask for is faulty; only a match value can be plain.
+pub fn value_form(key: Key, operator: Operator, value: &[u8]) -> Form
+    ensures { λ r. ⌜ ContentIs r (keyOf key) (operatorOf operator) (now (value .entry)) ⌝ }
 {
     if is_match(operator) {
-        return glob::well_formed(value);
+        return glob::form_of(value);
     }
-    assigned_sound(key, value)
+    if assigned_sound(key, value) {
+        Form::Sound
+    } else {
+        Form::Faulty
+    }
 }
 
 // The same of a value with escapes, as written from start to end.
-fn escaped_sound(
+fn escaped_form(
     key: Key,
     operator: Operator,
     line: &[u8],
     coded: bool,
     start: usize,
     end: usize,
-) -> bool
+) -> Form
     requires { ⌜ WrittenAt (now line) coded start end × (length (unescaped coded (part (now line) start end)) ≤ 256) ⌝ }
-    ensures { λ r. ⌜ r ≡ reading.sound (keyOf key) (operatorOf operator) (unescaped coded (part (now (line .entry)) start end)) ⌝ }
+    ensures { λ r. ⌜ ContentIs r (keyOf key) (operatorOf operator) (unescaped coded (part (now (line .entry)) start end)) ⌝ }
 {
     let mut value = [0u8; 256];
     let n = pairs::value_into(line, coded, start, end, &mut value);
-    value_sound(key, operator, &value[..n])
+    value_form(key, operator, &value[..n])
 }
 
 // The same of a value as written, of which len bytes are left after unescaping; without an escape it is judged in place.
-fn written_sound(
+fn written_form(
     key: Key,
     operator: Operator,
     line: &[u8],
@@ -110,33 +117,39 @@ fn written_sound(
     start: usize,
     end: usize,
     len: usize,
-) -> bool
+) -> Form
     requires { ⌜ ValueAt (now line) coded start end len ⌝ }
-    ensures { λ r. ⌜ r ≡ reading.sound (keyOf key) (operatorOf operator) (unescaped coded (part (now (line .entry)) start end)) ⌝ }
+    ensures { λ r. ⌜ ContentIs r (keyOf key) (operatorOf operator) (unescaped coded (part (now (line .entry)) start end)) ⌝ }
 {
     if len == end - start {
-        return value_sound(key, operator, &line[start..end]);
+        return value_form(key, operator, &line[start..end]);
     }
-    escaped_sound(key, operator, line, coded, start, end)
+    escaped_form(key, operator, line, coded, start, end)
 }
 
 // ---- a pair
 
+// A pair that was read, and whether its value is marked as plain.
+pub enum Judged {
+    Read(Pair, bool),
+    Refused(Refusal),
+}
+
 // The pair at a place, its content judged too.
-pub fn read_pair(line: &[u8], at: usize) -> PairRead
+pub fn read_pair(line: &[u8], at: usize) -> Judged
     requires { ⌜ at ≤ length (now line) ⌝ }
-    ensures { λ r. ⌜ (readBy (now (line .entry)) r ≡ reading.readPair (drop at (now (line .entry)))) × ReadIn (now (line .entry)) r ⌝ }
+    ensures { λ r. ⌜ (readBy (now (line .entry)) (pairRead r) ≡ reading.readPair (drop at (now (line .entry)))) × ReadIn (now (line .entry)) (pairRead r) × MarkedIn (now (line .entry)) r ⌝ }
 {
     match pairs::read_pair(line, at) {
         PairRead::Read(p) => {
             let key = p.key;
             let operator = p.operator;
-            if written_sound(key, operator, line, p.coded, p.start, p.end, p.len) {
-                PairRead::Read(p)
-            } else {
-                PairRead::Refused(Refusal::ContentBad)
+            match written_form(key, operator, line, p.coded, p.start, p.end, p.len) {
+                Form::Plain => Judged::Read(p, true),
+                Form::Sound => Judged::Read(p, false),
+                Form::Faulty => Judged::Refused(Refusal::ContentBad),
             }
         }
-        PairRead::Refused(f) => PairRead::Refused(f),
+        PairRead::Refused(f) => Judged::Refused(f),
     }
 }

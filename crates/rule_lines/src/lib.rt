@@ -7,7 +7,7 @@ ghost use Rattle.table.specs.Table.{Rows};
 ghost use Rattle.rule_lines.specs.Filling.{notedOnce, Held, Room};
 ghost use Rattle.rule_lines.specs.Answers.{notedBy, StepIs, PairsAre};
 use keys::Key;
-use pairs::PairRead;
+use pair_content::Judged;
 use refusals::Refusal;
 
 // How far a table is filled, and one more than the row of the LABEL and of the GOTO of the line at hand, or 0.
@@ -79,7 +79,7 @@ fn pair_step(
     ensures { λ r. ⌜ ((from beyond : ℕ) → Held (now (values .entry)) (now (rows .entry)) from fill → Room (beyond + (length (now (line .entry)) - at) + 1) (now (values .entry)) (now (rows .entry)) fill → StepIs (now (line .entry)) at left from beyond fill (now (values .entry)) (now (rows .entry)) (now (values .exit)) (now (rows .exit)) r) ⌝ }
 {
     match pair_content::read_pair(line, at) {
-        PairRead::Read(p) => {
+        Judged::Read(p, plain) => {
             if left == 0 {
                 return Step::Refused(Refusal::PairExtra);
             }
@@ -88,7 +88,7 @@ fn pair_step(
             match note(key, fill) {
                 Noted::Once(noted) => {
                     let n = noted.rows;
-                    let used = table::put_pair(values, rows, n, noted.used, line, p);
+                    let used = table::put_pair(values, rows, n, noted.used, line, p, plain);
                     let after = Fill {
                         label: noted.label,
                         goto: noted.goto,
@@ -106,7 +106,7 @@ fn pair_step(
                 Noted::Again => Step::Refused(Refusal::PairExtra),
             }
         }
-        PairRead::Refused(f) => Step::Refused(f),
+        Judged::Refused(f) => Step::Refused(f),
     }
 }
 

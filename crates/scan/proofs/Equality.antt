@@ -1,7 +1,7 @@
 -- Two lists compared byte by byte: one law for each way on.
 -- Assumes nothing.
 use Prim.Native.Nat.{ℕ, zero, suc, _+_, _-_, _≤_, _<_}
-use mathlib.Core.Path.{_≡_, refl}
+use mathlib.Core.Path.{_≡_, refl, sym, _∙_}
 use mathlib.Core.Bool.{Bool, true, false}
 use mathlib.Core.List.{List, [], _∷_}
 use native.Mathlib.Omega.{arith}
@@ -12,6 +12,7 @@ use lib.Dec.{eqb}
 use Rattle.lists.specs.Bytes.{sameBytes, starts}
 use Rattle.lists.proofs.Rest.{rest-at}
 use Rattle.lists.proofs.Tests.{and-false}
+use Rattle.scan.specs.Groups.{SameFrom}
 
 pub same-unequal : (a b : List ℕ) → (length a ≡ length b → ⊥) → sameBytes a b ≡ false
 unfolding sameBytes
@@ -54,6 +55,12 @@ module _ (a b : List ℕ) (i j : ℕ) (h : i ≤ j) where
       go : (t : Bool) → sameBytes (drop j a) (drop j b) ≡ t → sameBytes (drop j a) (drop j b) ≡ true
       go true f = f
       go false f = let z : _≡_ {A = ℕ} 0 1 = cc (differs-behind f, e) in absurd (omega arith)
+
+-- two groups that may overlap: the first n bytes, and n from m on to the end
+module _ (a b : List ℕ) (m n : ℕ) (h : m ≤ n) (k : length a ≤ m + n) (l : length a ≡ length b) where
+  pub same-two : SameFrom a b 0 (0 + n) → (r : Bool) → (r ≡ true → SameFrom a b m (m + n)) → (r ≡ false → sameBytes (drop m a) (drop m b) ≡ false) → r ≡ sameBytes a b
+  same-two f true g d = sym (f ∙ same-behind a b m (0 + n) (omega arith) (g refl ∙ same-out a b (m + n) k (omega arith)))
+  same-two f false g d = sym (differs-behind a b 0 m (omega arith) (d refl))
 
 -- ---- a name that begins a list
 

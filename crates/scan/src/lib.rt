@@ -6,7 +6,7 @@ ghost use lib.ListN.{length, getD, take, drop};
 ghost use Rattle.lists.specs.Bytes.{isUpper, isDigit, isBlank, isSpace, sameBytes, starts};
 ghost use Rattle.lists.specs.Runs.{splitAt, lastOf, trim, endsInSpace, endDigits};
 ghost use Rattle.scan.specs.Ends.{RunEnd, isNot};
-ghost use Rattle.scan.specs.Groups.{SameFrom, AboveFrom};
+ghost use Rattle.scan.specs.Groups.{SameFrom, LacksFrom, Met, AboveFrom};
 
 // ---- bytes
 
@@ -79,14 +79,14 @@ pub fn same(a: &[u8], b: &[u8]) -> bool
     true
 }
 
-// Whether two texts agree in the 8 bytes from a place on, which are looked at together.
-fn same_group(a: &[u8], b: &[u8], at: usize) -> bool
-    requires { ⌜ (at + 8 ≤ length (now a)) × (at + 8 ≤ length (now b)) ⌝ }
-    ensures { λ r. ⌜ (r ≡ true → SameFrom (now (a .entry)) (now (b .entry)) at (at + 8)) × (r ≡ false → sameBytes (drop at (now (a .entry))) (drop at (now (b .entry))) ≡ false) ⌝ }
+// Whether two texts agree in the n bytes from a place on, which are looked at together.
+fn same_group(a: &[u8], b: &[u8], at: usize, n: usize) -> bool
+    requires { ⌜ (at + n ≤ length (now a)) × (at + n ≤ length (now b)) ⌝ }
+    ensures { λ r. ⌜ (r ≡ true → SameFrom (now (a .entry)) (now (b .entry)) at (at + n)) × (r ≡ false → sameBytes (drop at (now (a .entry))) (drop at (now (b .entry))) ≡ false) ⌝ }
 {
     let mut same = true;
     let mut i = at;
-    while i < at + 8 {
+    while i < at + n {
         if a[i] != b[i] {
             same = false;
         }
@@ -102,12 +102,12 @@ fn same_groups(a: &[u8], b: &[u8]) -> bool
     ensures { λ r. ⌜ r ≡ sameBytes (now (a .entry)) (now (b .entry)) ⌝ }
 {
     let last = a.len() - 8;
-    if !same_group(a, b, last) {
+    if !same_group(a, b, last, 8) {
         return false;
     }
     let mut i: usize = 0;
     while i < last {
-        if !same_group(a, b, i) {
+        if !same_group(a, b, i, 8) {
             return false;
         }
         i += 8;
@@ -126,6 +126,37 @@ pub fn same_long(a: &[u8], b: &[u8]) -> bool
         return same(a, b);
     }
     same_groups(a, b)
+}
+
+// The same of n to 2 n bytes: their first n and their last n, which may overlap.
+fn same_ends(a: &[u8], b: &[u8], n: usize) -> bool
+    requires { ⌜ (n ≤ length (now a)) × (length (now a) ≤ n + n) × (length (now a) ≡ length (now b)) ⌝ }
+    ensures { λ r. ⌜ r ≡ sameBytes (now (a .entry)) (now (b .entry)) ⌝ }
+{
+    if !same_group(a, b, 0, n) {
+        return false;
+    }
+    same_group(a, b, a.len() - n, n)
+}
+
+// The same as `same`, for texts of which few are longer than 16 bytes.
+pub fn same_short(a: &[u8], b: &[u8]) -> bool
+    ensures { λ r. ⌜ r ≡ sameBytes (now (a .entry)) (now (b .entry)) ⌝ }
+{
+    let len = a.len();
+    if len != b.len() {
+        return false;
+    }
+    if len < 4 {
+        return same(a, b);
+    }
+    if len <= 8 {
+        return same_ends(a, b, 4);
+    }
+    if len <= 16 {
+        return same_ends(a, b, 8);
+    }
+    same(a, b)
 }
 
 // Whether a name begins at a place.
@@ -199,6 +230,52 @@ pub fn byte_end(s: &[u8], at: usize, b: u8) -> usize
         i += 1;
     }
     i
+}
+
+// Whether one of the n bytes from a place on, which are looked at together, is b.
+pub fn in_group(s: &[u8], at: usize, n: usize, b: u8) -> bool
+    requires { ⌜ at + n ≤ length (now s) ⌝ }
+    ensures { λ r. ⌜ (r ≡ false → LacksFrom b (now (s .entry)) at (at + n)) × (r ≡ true → Met b (now (s .entry)) at (at + n)) ⌝ }
+{
+    let mut found = false;
+    let mut i = at;
+    while i < at + n {
+        if s[i] == b {
+            found = true;
+        }
+        i += 1;
+    }
+    found
+}
+
+// Whether b is seen to stand nowhere from a place on: in groups, of which the last may overlap the one before. Few bytes are not looked at.
+fn lacks(s: &[u8], at: usize, b: u8) -> bool
+    requires { ⌜ at ≤ length (now s) ⌝ }
+    ensures { λ r. ⌜ (r ≡ true → LacksFrom b (now (s .entry)) at (length (now (s .entry)))) ⌝ }
+{
+    if s.len() - at < 8 {
+        return false;
+    }
+    let last = s.len() - 8;
+    let mut i = at;
+    while i < last {
+        if in_group(s, i, 8, b) {
+            return false;
+        }
+        i += 8;
+    }
+    !in_group(s, last, 8, b)
+}
+
+// The same as `byte_end`, for a byte that seldom stands there.
+pub fn byte_end_seldom(s: &[u8], at: usize, b: u8) -> usize
+    requires { ⌜ at ≤ length (now s) ⌝ }
+    ensures { λ r. ⌜ RunEnd (isNot b) (now (s .entry)) at r ⌝ }
+{
+    if lacks(s, at, b) {
+        return s.len();
+    }
+    byte_end(s, at, b)
 }
 
 // ---- lines

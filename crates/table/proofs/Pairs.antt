@@ -1,6 +1,6 @@
 -- The pairs of a table: step by step, one more, and those that stay.
 -- Assumes nothing.
-use Prim.Native.Nat.{ℕ, zero, suc, _+_, _-_, _*_, _≤_, _<_}
+use Prim.Native.Nat.{ℕ, zero, suc, _+_, _-_, _*_, _/_, _%_, _≤_, _<_}
 use mathlib.Core.Path.{_≡_, refl, sym, ap, ap₂, _∙_}
 use mathlib.Core.Bool.{Bool, true, false}
 use mathlib.Core.List.{List, [], _∷_, _++_, append-assoc, append-nil}
@@ -17,11 +17,13 @@ use borrow.Rule.Slice.PartMut.{putMid}
 use Rattle.pairs.specs.Bounds.{Put}
 use Rattle.splice.specs.Moves.{stored}
 use Rattle.splice.proofs.Laws.{length-stored}
-use Rattle.table.specs.Table.{pairWith, pairAt, entryOf, pairsFrom, RowIn, Rows, Got, Segment, EntryIn}
+use Rattle.table.specs.Table.{pairWith, pairAt, entryOf, plainAt, pairsFrom, RowIn, Rows, Got, Segment, EntryIn}
 use Rattle.table.specs.declared.Entry.{Entry}
 use Rattle.table.specs.Puts.{Four, Added, Kept, PairPut}
-use Rattle.kinds.specs.Numbers.{keyWith, opWith}
-use Rattle.kinds.proofs.Numbers.{kind-key, kind-op}
+use Rattle.kinds.specs.Numbers.{keyWith, opWith, plainWith, kindWith}
+use Rattle.kinds.proofs.Numbers.{kind-key, kind-op, kind-plain}
+use Rattle.pattern.specs.Pattern.{isPlain}
+use Rattle.glob.specs.Plain.{PlainIf}
 
 -- ---- bytes
 
@@ -142,7 +144,7 @@ module _ (p : Pair) (v r v′ r′ : List ℕ) (n used used′ : ℕ) (rs : Rows
     within = λ i h. go i h (ltb i n) refl;
   }
     where
-      go : (i : ℕ) → i < n + 1 → (b : Bool) → ltb i n ≡ b → RowIn r′ i used′
+      go : (i : ℕ) → i < n + 1 → (b : Bool) → ltb i n ≡ b → RowIn v′ r′ i used′
       go i h true e =
           let l = ltb-true i n e in
           let w = rs .within i l in
@@ -151,6 +153,9 @@ module _ (p : Pair) (v r v′ r′ : List ℕ) (n used used′ : ℕ) (rs : Rows
             argument = omega (arith, w .argument, k (i * 4 + 1) (omega arith), k (i * 4 + 2) (omega arith));
             value = omega (arith, w .value, k (i * 4 + 2) (omega arith), k (i * 4 + 3) (omega arith));
             within = omega (arith, w .within, k (i * 4 + 3) (omega arith), put .grown);
+            plain = λ t.
+                ap (λ (x : Pair). isPlain (x .value)) (row-kept v r v′ r′ n used rs (put .kept) i l)
+                ∙ w .plain (sym (ap (λ (m : ℕ). plainWith (m / 8 % 2)) (k (i * 4) (omega arith))) ∙ t);
           }
       go i h false e = let q : i ≡ n = omega (arith, ltb-false i n e) in rw q (put .row)
 
@@ -160,14 +165,17 @@ module _ (p : Pair) (v r v′ r′ : List ℕ) (n used used′ : ℕ) (rs : Rows
 
 -- ---- as code gets and puts a row
 
-module _ (argument value : List ℕ) (k : Key) (o : Op) (v v₁ v₂ r r₁ : List ℕ) (n used middle end : ℕ) (m : middle ≡ used + length argument) (e : end ≡ middle + length value)
+module _ (argument value : List ℕ) (k : Key) (o : Op) (plain : Bool) (marked : PlainIf plain value) (v v₁ v₂ r r₁ : List ℕ) (n used middle end : ℕ) (m : middle ≡ used + length argument) (e : end ≡ middle + length value)
     (room : end ≤ length v) (first : Added argument used v v₁) (second : Added value middle v₁ v₂)
-    (four : Four (n * 4) (keyNumber k * 8 + opNumber o) used middle end r r₁) where
+    (four : Four (n * 4) (kindWith k o plain) used middle end r r₁) where
   size₁ : length v₁ ≡ length v
   size₁ = first .size
 
   kept₂ : take middle v₂ ≡ take middle v₁
   kept₂ = added-kept value middle v₁ v₂ (omega (arith, size₁)) second
+
+  value-is : part v₂ middle end ≡ value
+  value-is = ap (part v₂ middle) e ∙ added-part value middle v₁ v₂ (omega (arith, size₁)) second
 
   pub pair-put : PairPut (record { key = k; argument = argument; op = o; value = value }) n used end v r v₂ r₁
   pair-put = record {
@@ -183,12 +191,12 @@ module _ (argument value : List ℕ) (k : Key) (o : Op) (v v₁ v₂ r r₁ : Li
         let a : part v₂ used middle ≡ argument =
         part-same v₁ v₂ used middle middle (omega arith) (omega arith) (omega (arith, size₁)) (omega (arith, size₁, second .size)) kept₂
         ∙ ap (part v₁ used) m ∙ added-part argument used v v₁ (omega arith) first in
-        let b : part v₂ middle end ≡ value = ap (part v₂ middle) e ∙ added-part value middle v₁ v₂ (omega (arith, size₁)) second in
-        rw (four .first, four .second, four .third, four .fourth, kind-key k o, kind-op k o, a, b);
+        rw (four .first, four .second, four .third, four .fourth, kind-key k o plain, kind-op k o plain, a, value-is);
     row = record {
       argument = omega (arith, four .second, four .third);
       value = omega (arith, four .third, four .fourth);
       within = omega (arith, four .fourth);
+      plain = rw (four .first, four .third, four .fourth, kind-plain k o plain, value-is) marked;
     };
     grown = omega arith;
   }
@@ -206,4 +214,5 @@ module _ (v r : List ℕ) (i n : ℕ) (e : Entry) (got : Got r i e) (h : i < n) 
         argument = omega (arith, w .argument, got .start, got .middle);
         value = omega (arith, w .value, got .middle, got .end);
         within = omega (arith, w .within, got .end);
+        plain = λ t. ap (λ (x : Pair). isPlain (x .value)) (got .is v) ∙ w .plain (sym (got .plain) ∙ t);
       }

@@ -37,5 +37,5 @@ segment v r m used n w h = record {
   room = omega (arith, w .room);
   within = λ i k.
       let x = w .within i (omega arith) in
-      record { argument = x .argument; value = x .value; within = omega (arith, x .within, w .filled) };
+      record { argument = x .argument; value = x .value; within = omega (arith, x .within, w .filled); plain = x .plain };
 }

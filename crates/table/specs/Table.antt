@@ -2,12 +2,14 @@
 -- Assumes nothing.
 use Prim.Native.Nat.{ℕ, zero, suc, _+_, _-_, _*_, _/_, _%_, _≤_, _<_}
 use mathlib.Core.Path.{_≡_}
+use mathlib.Core.Bool.{Bool}
 use mathlib.Core.List.{List, [], _∷_}
 use lib.ListN.{length, getD}
 use Rattle.lists.specs.Checked.{Placed, line}
 use Rattle.rules.specs.Pair.{Pair, Rule}
 use Rattle.keys.specs.Table.{keyOf, operatorOf}
-use Rattle.kinds.specs.Numbers.{keyWith, opWith}
+use Rattle.kinds.specs.Numbers.{keyWith, opWith, plainWith}
+use Rattle.glob.specs.Plain.{PlainIf}
 use Rattle.pairs.specs.Answers.{part}
 use Rattle.table.specs.declared.Entry.{Entry}
 
@@ -16,7 +18,7 @@ use Rattle.table.specs.declared.Entry.{Entry}
 -- its kind, then the places of its argument and its value, which follow each other
 abbrev pub pairWith : List ℕ → ℕ → ℕ → ℕ → ℕ → Pair
 pairWith values kind start middle end = record {
-  key = keyWith (kind / 8);
+  key = keyWith (kind / 16);
   argument = part values start middle;
   op = opWith (kind % 8);
   value = part values middle end;
@@ -24,6 +26,10 @@ pairWith values kind start middle end = record {
 
 abbrev pub pairAt : List ℕ → List ℕ → ℕ → Pair
 pairAt values rows i = pairWith values (getD rows (i * 4) 0) (getD rows (i * 4 + 1) 0) (getD rows (i * 4 + 2) 0) (getD rows (i * 4 + 3) 0)
+
+-- its mark, which says nothing of the pair itself
+abbrev pub plainAt : List ℕ → ℕ → Bool
+plainAt rows i = plainWith (getD rows (i * 4) 0 / 8 % 2)
 
 -- k pairs from the i-th on
 unfoldable pub pairsFrom : List ℕ → List ℕ → ℕ → ℕ → List Pair
@@ -45,16 +51,17 @@ rulesFrom values rows rules i (suc k) = ruleAt values rows rules i ∷ rulesFrom
 
 -- ---- what a row and a rule keep to
 
-pub record RowIn (rows : List ℕ) (i used : ℕ) : Type 0 where
+pub record RowIn (values rows : List ℕ) (i used : ℕ) : Type 0 where
   pub argument : getD rows (i * 4 + 1) 0 ≤ getD rows (i * 4 + 2) 0
   pub value : getD rows (i * 4 + 2) 0 ≤ getD rows (i * 4 + 3) 0
   pub within : getD rows (i * 4 + 3) 0 ≤ used
+  pub plain : PlainIf (plainAt rows i) (pairAt values rows i .value)
 
 -- n rows that use so many bytes
 pub record Rows (values rows : List ℕ) (n used : ℕ) : Type 0 where
   pub filled : used ≤ length values
   pub room : n * 4 ≤ length rows
-  pub within : (i : ℕ) → i < n → RowIn rows i used
+  pub within : (i : ℕ) → i < n → RowIn values rows i used
 
 -- ---- a row that was got
 
@@ -71,15 +78,17 @@ pub record Got (rows : List ℕ) (i : ℕ) (e : Entry) : Type 0 where
   pub start : e .start ≡ getD rows (i * 4 + 1) 0
   pub middle : e .middle ≡ getD rows (i * 4 + 2) 0
   pub end : e .end ≡ getD rows (i * 4 + 3) 0
+  pub plain : e .plain ≡ plainAt rows i
 
 -- ---- the rows of a rule
 
 -- rows up to the n-th that keep to the values
 pub record Segment (values rows : List ℕ) (n : ℕ) : Type 0 where
   pub room : n * 4 ≤ length rows
-  pub within : (i : ℕ) → i < n → RowIn rows i (length values)
+  pub within : (i : ℕ) → i < n → RowIn values rows i (length values)
 
 pub record EntryIn (values : List ℕ) (e : Entry) : Type 0 where
   pub argument : e .start ≤ e .middle
   pub value : e .middle ≤ e .end
   pub within : e .end ≤ length values
+  pub plain : PlainIf (e .plain) (entryOf values e .value)

@@ -3,6 +3,7 @@
 ghost use mathlib.Core.Path.{_≡_};
 ghost use Prim.Native.Nat.{_+_, _-_, _*_, _≤_, _<_};
 ghost use lib.ListN.{length, getD};
+ghost use Rattle.glob.specs.Plain.{PlainIf};
 ghost use Rattle.pairs.specs.Answers.{part, unescaped, pairOf};
 ghost use Rattle.pairs.specs.Bounds.{ValueAt, PairIn};
 ghost use Rattle.splice.specs.Moves.{stored};
@@ -12,10 +13,12 @@ use keys::Key;
 use keys::Operator;
 use pairs::Pair;
 
-// A pair of the table: the places of its argument, from start to middle, and of its value, from middle to end.
+// A pair of the table: the places of its argument, from start to middle, and of its value, from middle to end. A match value that is marked as
+// plain is.
 pub struct Entry {
     pub key: Key,
     pub operator: Operator,
+    pub plain: bool,
     pub start: usize,
     pub middle: usize,
     pub end: usize,
@@ -66,11 +69,13 @@ pub fn pair_at(rows: &[u16], i: usize) -> Entry
     let start = number_at(rows, at + 1);
     let middle = number_at(rows, at + 2);
     let end = number_at(rows, at + 3);
-    let key = kinds::key_with(kind / 8);
+    let key = kinds::key_with(kind / 16);
     let operator = kinds::operator_with(kind % 8);
+    let plain = kinds::plain_with(kind / 8 % 2);
     Entry {
         key,
         operator,
+        plain,
         start,
         middle,
         end,
@@ -195,8 +200,9 @@ pub fn put_pair(
     used: usize,
     line: &[u8],
     pair: Pair,
+    plain: bool,
 ) -> usize
-    requires { ⌜ PairIn (now line) pair × (used + (pair .«arg_end» - pair .«arg_start») + pair .len ≤ length (now values)) × (length (now values) < 65536) × (n * 4 + 4 ≤ length (now rows)) ⌝ }
+    requires { ⌜ PairIn (now line) pair × (used + (pair .«arg_end» - pair .«arg_start») + pair .len ≤ length (now values)) × (length (now values) < 65536) × (n * 4 + 4 ≤ length (now rows)) × PlainIf plain (pairOf (now line) pair .value) ⌝ }
     ensures { λ r. ⌜ PairPut (pairOf (now (line .entry)) pair) n used r (now (values .entry)) (now (rows .entry)) (now (values .exit)) (now (rows .exit)) ⌝ }
 {
     let key = pair.key;
@@ -218,7 +224,7 @@ pub fn put_pair(
     put_four(
         rows,
         n * 4,
-        kinds::kind_of(key, operator),
+        kinds::kind_of(key, operator, plain),
         used,
         middle,
         end,

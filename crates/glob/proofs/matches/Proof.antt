@@ -20,48 +20,35 @@ loop-holds : tie.Need-loop-holds Inv-loop μ-loop
 unfolding matches
 loop-holds c = (omega arith, refl)
 
-alternative-matches-requires : tie.Need-alternative-matches-requires Inv-loop μ-loop
-alternative-matches-requires c κs = c .loop .inv .0
+matches-from-requires : tie.Need-matches-from-requires Inv-loop μ-loop
+matches-from-requires c κs = (c .loop .inv .0, omega arith)
 
 returns : tie.Need-returns Inv-loop μ-loop
 returns c =
-    let entry = c .before .before .before .before .before .args in
-    let loop-call = c .before .before .loop in
-    let args = entry in
-    let loop = loop-call in
-    sym (any-here (args .pattern .now) (loop .at) (args .value .now) (sym (c .before .alternative-matches .ensures) ∙ c .if1 .taken)) ∙
-    loop .inv .1
+    let args = c .before .before .before .before .before .args in
+    let loop = c .before .before .loop in
+    sym (any-here (args .pattern .now) (loop .at) (args .value .now) (sym (c .before .matches-from .ensures) ∙ c .if1 .taken)) ∙ loop .inv .1
+
+byte-end-seldom-requires : tie.Need-byte-end-seldom-requires Inv-loop μ-loop
+byte-end-seldom-requires c κs = search needs
 
 returns-2 : tie.Need-returns-2 Inv-loop μ-loop
 returns-2 c =
-    let entry = c .before .before .before .before .before .before .before .args in
-    let loop-call = c .before .before .before .before .loop in
-    let alternative-matches = c .before .before .before .alternative-matches in
-    let if1 = c .before .before .if1 in
-    let args = entry in
-    let loop = loop-call in
-    sym
-    (any-none (args .pattern .now) (loop .at) (args .value .now) (c .before .byte-end .result) (c .before .byte-end .ensures)
-    (sym (alternative-matches .ensures) ∙ if1 .left) (c .if2 .taken))
-    ∙ loop .inv .1
+    let args = c .before .before .before .before .before .before .before .args in
+    let loop = c .before .before .before .before .loop in
+    sym (any-none (args .pattern .now) (loop .at) (args .value .now) (c .before .byte-end-seldom .result) (c .before .byte-end-seldom .ensures) (sym (c .before .before .before .matches-from .ensures) ∙ c .before .before .if1 .left) (c .if2 .taken)) ∙ loop .inv .1
+
+add-at : tie.Need-add-at Inv-loop μ-loop
+add-at c = omega arith
 
 loop-less : tie.Need-loop-less Inv-loop μ-loop
-loop-less c = omega (arith, c .before .byte-end .ensures .from)
+loop-less c = omega (arith, c .before .byte-end-seldom .ensures .from)
 
 loop-again : tie.Need-loop-again Inv-loop μ-loop
 loop-again c =
-    let entry = c .before .before .before .before .before .before .before .args in
-    let loop-call = c .before .before .before .before .loop in
-    let alternative-matches = c .before .before .before .alternative-matches in
-    let if1 = c .before .before .if1 in
-    let args = entry in
-    let loop = loop-call in (
-      omega arith,
-      sym
-          (any-behind (args .pattern .now) (loop .at) (args .value .now) (c .before .byte-end .result) (c .before .byte-end .ensures)
-          (sym (alternative-matches .ensures) ∙ if1 .left) (c .if2 .left))
-          ∙ loop .inv .1,
-    )
+    let args = c .before .before .before .before .before .before .before .args in
+    let loop = c .before .before .before .before .loop in
+    (omega arith, sym (any-behind (args .pattern .now) (loop .at) (args .value .now) (c .before .byte-end-seldom .result) (c .before .byte-end-seldom .ensures) (sym (c .before .before .before .matches-from .ensures) ∙ c .before .before .if1 .left) (c .if2 .left)) ∙ loop .inv .1)
 
 pub matches-spec : {M : Type 1} → statement M
 matches-spec =
@@ -70,10 +57,10 @@ matches-spec =
     Inv-loop
     μ-loop
     loop-holds
-    alternative-matches-requires
+    matches-from-requires
     returns
-    (λ c κs. search needs)
+    byte-end-seldom-requires
     returns-2
-    (λ c. omega arith)
+    add-at
     loop-less
     loop-again)

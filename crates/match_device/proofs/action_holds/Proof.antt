@@ -16,7 +16,9 @@ use Rattle.match_device.proofs.action_holds.Statement.{statement}
 use Rattle.match_device.proofs.action_holds.Tie as tie
 
 take-requires : tie.Need-take-requires
-take-requires c κs = omega (arith, record-head (c .before .before .args .dev .now) (c .before .before .pre .0) (λ i. c .shared-slice-known2 .given i .fits) (c .before .before .pre .1))
+take-requires c κs =
+    let entry = c .before .before in
+    omega (arith, record-head (entry .args .dev .now) (entry .pre .0 .0) (λ i. c .shared-slice-known2 .given i .fits) (entry .pre .0 .1))
 
 action-holds-requires : tie.Need-action-holds-requires
 action-holds-requires c κs = search needs

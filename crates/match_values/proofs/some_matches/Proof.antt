@@ -15,10 +15,10 @@ use Rattle.match_values.proofs.some_matches.Statement.{statement}
 use Rattle.match_values.proofs.some_matches.Tie as tie
 
 abbrev Inv-loop : tie.InvT-loop
-Inv-loop pattern rec at n p₀ left₀ p left = (p ≤ length rec) × Row Text left (drop p rec) × (someMatches pattern (names Text n (drop at rec)) ≡ someMatches pattern (names Text left (drop p rec)))
+Inv-loop pattern plain rec at n p₀ left₀ p left = (p ≤ length rec) × Row Text left (drop p rec) × (someMatches pattern (names Text n (drop at rec)) ≡ someMatches pattern (names Text left (drop p rec)))
 
 abbrev μ-loop : tie.MeasureT-loop
-μ-loop pattern rec at n p₀ left₀ p left = left
+μ-loop pattern plain rec at n p₀ left₀ p left = left
 
 loop-holds : tie.Need-loop-holds Inv-loop μ-loop
 loop-holds c = (c .before .before .pre .0, c .before .before .pre .1, refl)
@@ -26,20 +26,20 @@ loop-holds c = (c .before .before .pre .0, c .before .before .pre .1, refl)
 parts-at-requires : tie.Need-parts-at-requires Inv-loop μ-loop
 parts-at-requires c κs = (c .before .loop .inv .0, row-first Text (c .before .loop .left) (drop (c .before .loop .p) (c .before .before .before .before .args .rec .now)) (c .loop-test .taken) (c .before .loop .inv .1))
 
-sub-matches : tie.Need-sub-matches Inv-loop μ-loop
-sub-matches c = omega arith
+sub-text-matches : tie.Need-sub-text-matches Inv-loop μ-loop
+sub-text-matches c = omega arith
 
-part-matches-start : tie.Need-part-matches-start Inv-loop μ-loop
-part-matches-start c = omega arith
+part-text-matches-start : tie.Need-part-text-matches-start Inv-loop μ-loop
+part-text-matches-start c = omega arith
 
-part-matches-end : tie.Need-part-matches-end Inv-loop μ-loop
-part-matches-end c = omega arith
+part-text-matches-end : tie.Need-part-text-matches-end Inv-loop μ-loop
+part-text-matches-end c = omega arith
 
-matches-requires : tie.Need-matches-requires Inv-loop μ-loop
-matches-requires c κs = search needs
+text-matches-requires : tie.Need-text-matches-requires Inv-loop μ-loop
+text-matches-requires c κs = c .before .before .before .before .before .before .pre .2
 
 returns : tie.Need-returns Inv-loop μ-loop
-returns c = sym (c .before .before .before .before .before .loop .inv .2 ∙ some-here Text (c .before .before .before .before .before .before .before .before .args .pattern .now) (c .before .before .before .before .before .before .before .before .args .rec .now) (c .before .before .before .before .before .loop .p) (c .before .before .before .before .before .loop .left) (c .before .before .before .parts-at .result) (c .before .before .before .parts-at .ensures) (c .before .before .before .before .loop-test .taken) (sym (c .before .matches .ensures) ∙ c .if1 .taken))
+returns c = sym (c .before .before .before .before .before .loop .inv .2 ∙ some-here Text (c .before .before .before .before .before .before .before .before .args .pattern .now) (c .before .before .before .before .before .before .before .before .args .rec .now) (c .before .before .before .before .before .loop .p) (c .before .before .before .before .before .loop .left) (c .before .before .before .parts-at .result) (c .before .before .before .parts-at .ensures) (c .before .before .before .before .loop-test .taken) (sym (c .before .text-matches .ensures) ∙ c .if1 .taken))
 
 sub-left : tie.Need-sub-left Inv-loop μ-loop
 sub-left c = omega arith
@@ -48,7 +48,7 @@ loop-less : tie.Need-loop-less Inv-loop μ-loop
 loop-less c = omega arith
 
 loop-again : tie.Need-loop-again Inv-loop μ-loop
-loop-again c = (c .before .before .before .parts-at .ensures .within, row-turn Text (c .before .before .before .before .before .before .before .before .args .rec .now) (c .before .before .before .before .before .loop .p) (c .before .before .before .before .before .loop .left) (c .before .before .before .parts-at .result) (c .before .before .before .parts-at .ensures) (c .before .before .before .before .loop-test .taken) (c .before .before .before .before .before .loop .inv .1), c .before .before .before .before .before .loop .inv .2 ∙ some-next Text (c .before .before .before .before .before .before .before .before .args .pattern .now) (c .before .before .before .before .before .before .before .before .args .rec .now) (c .before .before .before .before .before .loop .p) (c .before .before .before .before .before .loop .left) (c .before .before .before .parts-at .result) (c .before .before .before .parts-at .ensures) (c .before .before .before .before .loop-test .taken) (sym (c .before .matches .ensures) ∙ c .if1 .left))
+loop-again c = (c .before .before .before .parts-at .ensures .within, row-turn Text (c .before .before .before .before .before .before .before .before .args .rec .now) (c .before .before .before .before .before .loop .p) (c .before .before .before .before .before .loop .left) (c .before .before .before .parts-at .result) (c .before .before .before .parts-at .ensures) (c .before .before .before .before .loop-test .taken) (c .before .before .before .before .before .loop .inv .1), c .before .before .before .before .before .loop .inv .2 ∙ some-next Text (c .before .before .before .before .before .before .before .before .args .pattern .now) (c .before .before .before .before .before .before .before .before .args .rec .now) (c .before .before .before .before .before .loop .p) (c .before .before .before .before .before .loop .left) (c .before .before .before .parts-at .result) (c .before .before .before .parts-at .ensures) (c .before .before .before .before .loop-test .taken) (sym (c .before .text-matches .ensures) ∙ c .if1 .left))
 
 returns-2 : tie.Need-returns-2 Inv-loop μ-loop
 returns-2 c = sym (c .before .loop .inv .2 ∙ ap-at (λ i. someMatches (c .before .before .before .before .args .pattern .now) (names Text i (drop (c .before .loop .p) (c .before .before .before .before .args .rec .now)))) (c .before .loop .left) 0 (omega arith))
@@ -61,10 +61,10 @@ some-matches-spec =
     μ-loop
     loop-holds
     parts-at-requires
-    sub-matches
-    part-matches-start
-    part-matches-end
-    matches-requires
+    sub-text-matches
+    part-text-matches-start
+    part-text-matches-end
+    text-matches-requires
     returns
     sub-left
     loop-less

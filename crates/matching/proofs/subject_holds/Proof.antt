@@ -15,13 +15,18 @@ enum-told : tie.Need-enum-told
 enum-told c = search needs
 
 action-holds-requires : tie.Need-action-holds-requires
-action-holds-requires c κs = search needs
+action-holds-requires c κs =
+    let entry = c .before .before .before .before .before .before in
+    ((entry .pre .0 .device, entry .pre .0 .decoded), entry .pre .1)
 
 enum-known-subject : tie.Need-enum-known-subject
 enum-known-subject c = search needs
 
 part-holds-requires : tie.Need-part-holds-requires
-part-holds-requires c κs = judging-stands (c .before .before .before .before .before .before .before .args .dev .now) (c .before .before .before .before .before .before .before .args .at) (c .before .before .before .before .before .before .before .args .t .now) (c .before .before .before .before .before .before .before .args .layout) (c .before .before .before .before .before .before .before .pre)
+part-holds-requires c κs =
+    let entry = c .before .before .before .before .before .before .before in
+    let args = entry .args in
+    (judging-stands (args .dev .now) (args .at) (args .t .now) (args .layout) (entry .pre .0), entry .pre .1)
 
 enum-told-2 : tie.Need-enum-told-2
 enum-told-2 c = search needs
@@ -30,7 +35,7 @@ enum-told-3 : tie.Need-enum-told-3
 enum-told-3 c = search needs
 
 property-requires : tie.Need-property-requires
-property-requires c κs = (c .before .before .before .before .before .before .pre .n, c .before .before .before .before .before .before .pre .state, c .before .before .before .before .before .before .pre .held)
+property-requires c κs = let judging = c .before .before .before .before .before .before .pre .0 in (judging .n, judging .state, judging .held)
 
 value-holds-requires : tie.Need-value-holds-requires
 value-holds-requires c κs = search needs
@@ -39,7 +44,9 @@ enum-known-subject-2 : tie.Need-enum-known-subject-2
 enum-known-subject-2 c = search needs
 
 list-holds-requires : tie.Need-list-holds-requires
-list-holds-requires c κs = (c .before .before .before .before .before .before .before .pre .n, c .before .before .before .before .before .before .before .pre .state, c .before .before .before .before .before .before .before .pre .held)
+list-holds-requires c κs =
+    let entry = c .before .before .before .before .before .before .before in
+    ((entry .pre .0 .n, entry .pre .0 .state, entry .pre .0 .held), entry .pre .1)
 
 enum-told-4 : tie.Need-enum-told-4
 enum-told-4 c = search needs

@@ -9,7 +9,10 @@ use Rattle.lists.specs.Checked.{ok}
 use Rattle.rules.specs.Reading.{readPair}
 use Rattle.keys.specs.Table.{keyOf}
 use Rattle.pairs.specs.declared.PairRead.the-variants.{Read}
-use Rattle.pairs.specs.Answers.{partOf}
+use Rattle.glob.specs.Plain.{PlainIf}
+use Rattle.pairs.specs.Answers.{pairOf, partOf}
+use Rattle.pair_content.specs.Content.{pairRead, MarkedIn}
+use Rattle.pair_content.specs.declared.Judged.the-variants as judged
 use Rattle.pairs.specs.Bounds.{PairIn, ReadIn}
 use Rattle.rule_lines.specs.declared.Noted.the-variants as noted′
 use Rattle.rule_lines.specs.Answers.{notedBy}
@@ -26,10 +29,15 @@ use Rattle.rule_lines.proofs.note.Reads as note-reads
 
 -- the pair that was read
 here : (w : tie.After-p) → let a = w .before .before .before .before .before .before .args in readPair (drop (a .at) (a .line .now)) ≡ ok (partOf (a .line .now) (w .p .given .0 .0))
-here w = read-here (w .before .before .before .before .before .before .args .line .now) (w .before .before .before .before .before .before .args .at) (w .before .before .read-pair .result) (w .before .before .read-pair .ensures .0) (w .p .given .0 .0) (w .p .given .1)
+here w = read-here (w .before .before .before .before .before .before .args .line .now) (w .before .before .before .before .before .before .args .at) (pairRead (w .before .before .read-pair .result)) (w .before .before .read-pair .ensures .0) (w .p .given .0 .0) (ap pairRead (w .p .given .1))
 
 inside : (w : tie.After-p) → PairIn (w .before .before .before .before .before .before .args .line .now) (w .p .given .0 .0)
 inside w = let x : ReadIn (w .before .before .before .before .before .before .args .line .now) (Read (w .p .given .0 .0)) = rw (w .p .given .1) at (w .before .before .read-pair .ensures .1) in x
+
+marked : (w : tie.After-p) → PlainIf (w .p .given .0 .1 .0) (pairOf (w .before .before .before .before .before .before .args .line .now) (w .p .given .0 .0) .value)
+marked w =
+    let x : MarkedIn (w .before .before .before .before .before .before .args .line .now) (judged.Read (w .p .given .0 .0) (w .p .given .0 .1 .0)) = rw (w .p .given .1) at (w .before .before .read-pair .ensures .2) in
+    x
 
 -- its key noted
 once : (w : tie.After-noted) → NotedIs (keyOf (w .before .before .before .before .before .p .given .0 .0 .key)) (w .before .before .before .before .before .before .before .before .before .before .before .args .fill) (w .noted .given .0 .0)
@@ -45,7 +53,7 @@ enum-known-p c = search needs
 
 -- src/lib.rt:77:17
 returns : tie.Need-returns
-returns c = λ from beyond h room. step-extra (c .before .before .before .before .before .before .before .before .args .line .now) (c .before .before .before .before .before .before .before .before .args .at) (c .before .before .before .before .read-pair .result) (c .before .before .before .before .read-pair .ensures .0) (c .before .before .before .before .before .before .before .before .args .left) _ (c .before .before .p .given .0 .0) (c .before .before .p .given .1) (c .if1 .taken)
+returns c = λ from beyond h room. step-extra (c .before .before .before .before .before .before .before .before .args .line .now) (c .before .before .before .before .before .before .before .before .args .at) (pairRead (c .before .before .before .before .read-pair .result)) (c .before .before .before .before .read-pair .ensures .0) (c .before .before .before .before .before .before .before .before .args .left) _ (c .before .before .p .given .0 .0) (ap pairRead (c .before .before .p .given .1)) (c .if1 .taken)
 
 -- src/lib.rt:81:19
 note-requires : tie.Need-note-requires
@@ -60,7 +68,7 @@ put-pair-requires : tie.Need-put-pair-requires
 put-pair-requires c κs =
     let a = c .before .before .before .before .before .before .before .before .before .before .before .before .before .before .args in
     let x = room-here (a .line .now) (a .at) (c .before .before .before .before .before .before .before .before .p .given .0 .0) (here (c .before .before .before .before .before .before .before .before)) (inside (c .before .before .before .before .before .before .before .before)) (a .fill) (c .before .before .before .noted .given .0 .0) (once (c .before .before .before)) (a .values .now) (a .rows .now) (c .before .before .before .before .before .before .before .before .before .before .before .before .before .before .pre .1) in
-    (inside (c .before .before .before .before .before .before .before .before), x .0, c .before .before .before .before .before .before .before .before .before .before .before .before .before .before .pre .1 .small, x .1)
+    (inside (c .before .before .before .before .before .before .before .before), x .0, c .before .before .before .before .before .before .before .before .before .before .before .before .before .before .pre .1 .small, x .1, marked (c .before .before .before .before .before .before .before .before))
 
 -- src/lib.rt:88:31
 add-if2 : tie.Need-add-if2
@@ -99,8 +107,8 @@ returns-3 c = λ from beyond h room.
     step-comma (a .line .now) (a .at) (c .before .before .before .before .before .before .before .before .before .before .before .before .before .before .before .before .p .given .0 .0) (here (c .before .before .before .before .before .before .before .before .before .before .before .before .before .before .before .before)) (inside (c .before .before .before .before .before .before .before .before .before .before .before .before .before .before .before .before)) (a .fill) (c .before .before .before .before .before .before .before .before .before .before .before .noted .given .0 .0) (once (c .before .before .before .before .before .before .before .before .before .before .before)) (a .left) (a .values .now) (a .rows .now) (c .before .before .before .before .before .before .before .put-pair .last .0) (c .before .before .before .before .before .before .before .put-pair .last .1 .0) (c .before .before .before .before .before .before .before .put-pair .result) from beyond (omega arith) h room (c .before .before .before .before .before .before .before .put-pair .ensures) (c .before .before .if2 .left) (c .if3 .taken)
 
 -- src/lib.rt:97:39
-add-t25 : tie.Need-add-t25
-add-t25 c = search needs
+add-t26 : tie.Need-add-t26
+add-t26 c = let good = c .before .before .before .before .before .before .before .before .before .before .before .before .before .before .before .before .before .before .before .before .before .before .good in let known = c .before .shared-slice-known2 .given in let behind = c .before .before .if2 .left in omega (arith, behind, good)
 
 -- src/lib.rt:99:47
 enum-told : tie.Need-enum-told
@@ -132,7 +140,7 @@ returns-5 c = λ from beyond h room.
 
 -- src/lib.rt:70:1
 returns-6 : tie.Need-returns-6
-returns-6 c = λ from beyond h room. step-refused (c .before .before .before .before .before .before .before .args .line .now) (c .before .before .before .before .before .before .before .args .at) (c .before .before .before .read-pair .result) (c .before .before .before .read-pair .ensures .0) (c .before .before .before .before .before .before .before .args .left) _ (c .before .f .given .0 .0) (c .before .f .given .1)
+returns-6 c = λ from beyond h room. step-refused (c .before .before .before .before .before .before .before .args .line .now) (c .before .before .before .before .before .before .before .args .at) (pairRead (c .before .before .before .read-pair .result)) (c .before .before .before .read-pair .ensures .0) (c .before .before .before .before .before .before .before .args .left) _ (c .before .f .given .0 .0) (ap pairRead (c .before .f .given .1))
 
 pub pair-step-spec : {M : Type 1} → statement M
 pair-step-spec =
@@ -152,7 +160,7 @@ pair-step-spec =
     same-length-3
     same-length-4
     returns-3
-    add-t25
+    add-t26
     enum-told
     enum-known-f
     same-length-5

@@ -13,10 +13,10 @@ use Rattle.scan.proofs.same_group.Statement.{statement}
 use Rattle.scan.proofs.same_group.Tie as tie
 
 abbrev Inv-loop : tie.InvT-loop
-Inv-loop a b at same₀ i₀ same i = (at ≤ i) × (i ≤ at + 8) × (same ≡ true → SameFrom a b at i) × (same ≡ false → sameBytes (drop at a) (drop at b) ≡ false)
+Inv-loop a b at n same₀ i₀ same i = (at ≤ i) × (i ≤ at + n) × (same ≡ true → SameFrom a b at i) × (same ≡ false → sameBytes (drop at a) (drop at b) ≡ false)
 
 abbrev μ-loop : tie.MeasureT-loop
-μ-loop a b at same₀ i₀ same i = at + 8 - i
+μ-loop a b at n same₀ i₀ same i = at + n - i
 
 loop-holds : tie.Need-loop-holds Inv-loop μ-loop
 loop-holds c = (omega arith, omega arith, (λ e. refl), λ e. let z : _≡_ {A = ℕ} 0 1 = cc e in absurd (omega arith))
@@ -43,7 +43,7 @@ loop-again c =
 
 returns : tie.Need-returns Inv-loop μ-loop
 returns c =
-    let h : c .before .loop .i ≡ c .before .before .args .at + 8 = omega arith in
+    let h : c .before .loop .i ≡ c .before .before .args .at + c .before .before .args .n = omega arith in
     ((λ e. rw h at (c .before .loop .inv .2 e)), λ e. c .before .loop .inv .3 e)
 
 pub same-group-spec : {M : Type 1} → statement M
