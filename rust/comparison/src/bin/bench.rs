@@ -21,7 +21,7 @@ const USAGE: &str = "usage: bench
 
 /// How often each text is run by each engine, in turns; the best time of all counts.
 const RUNS: usize = 400;
-/// The same for the texts that time one pattern, which is a small difference.
+/// The same for the texts that time one match, which is a small difference.
 const RUNS_FOR_DIFFERENCES: usize = 4_000;
 
 fn main() -> ExitCode {
@@ -31,7 +31,7 @@ fn main() -> ExitCode {
         [] => {
             show_texts();
             show_growth();
-            show_glob();
+            show_matches();
             Some(())
         }
         ["list"] => {
@@ -238,57 +238,77 @@ fn times_of_case(seed: u64, runs: usize) -> [f64; 2] {
     bench.times_of_both(runs, &case.text)
 }
 
-// ---- one pattern
-
-const PATTERN: &CStr = c"ttyUSB[0-9]*";
-const NAME: &CStr = c"ttyUSB17";
+// ---- one match
 
 extern "C" {
     fn fnmatch(pattern: *const c_char, string: *const c_char, flags: c_int) -> c_int;
+    /// Of same_bytes.c: lengths first, then byte by byte.
+    fn same_bytes(a: *const u8, a_length: usize, b: *const u8, b_length: usize) -> c_int;
+}
+
+/// A pattern and a plain value, each on a name that it matches.
+fn show_matches() {
+    show_match(c"ttyUSB[0-9]*", c"ttyUSB17", "fnmatch", |pattern, name| {
+        // Both are strings with a NUL at the end, and fnmatch only reads them.
+        unsafe { fnmatch(pattern.as_ptr(), name.as_ptr(), 0) == 0 }
+    });
+    show_match(
+        c"ttyUSB17",
+        c"ttyUSB17",
+        "a byte loop in C",
+        |value, name| {
+            let (value, name) = (value.to_bytes(), name.to_bytes());
+            // Both are read within their lengths.
+            unsafe { same_bytes(value.as_ptr(), value.len(), name.as_ptr(), name.len()) == 1 }
+        },
+    );
 }
 
 /// The matcher alone is not exported, so its time is a difference. A rule with one match, of TAG
-/// by `==`, is run on records without a tag and with one that the pattern matches: the second
+/// by `==`, is run on records without a tag and with one that the match value matches: the second
 /// calls the matcher once more, and its rule goes on. With `!=` the rule of the first goes on
 /// instead, so the mean of both differences is the time of one call, with the step over a list
 /// that leads to it.
-fn show_glob() {
+fn show_match(value: &CStr, name: &CStr, other: &str, matches: fn(&CStr, &CStr) -> bool) {
     let rules = sizes::RULES as f64;
     let text = |operator: &str| {
-        let pattern = PATTERN.to_string_lossy();
-        format!("TAG{operator}\"{pattern}\"\n").repeat(sizes::RULES)
+        let value = value.to_string_lossy();
+        format!("TAG{operator}\"{value}\"\n").repeat(sizes::RULES)
     };
     let (equal, unequal) = (text("=="), text("!="));
     let fresh = Outcome::fresh(&counter());
     let tagged = Outcome {
-        tags: vec![NAME.to_bytes().to_vec()],
+        tags: vec![name.to_bytes().to_vec()],
         ..fresh.clone()
     };
     let (mut without, mut with) = (Bench::new(&fresh), Bench::new(&tagged));
-    let [equal_without, equal_with, unequal_without, unequal_with, libc] =
+    let [equal_without, equal_with, unequal_without, unequal_with, calls] =
         best(RUNS_FOR_DIFFERENCES, |which| match which {
             0 => without.run(&Linked, equal.as_bytes()),
             1 => with.run(&Linked, equal.as_bytes()),
             2 => without.run(&Linked, unequal.as_bytes()),
             3 => with.run(&Linked, unequal.as_bytes()),
-            _ => fnmatch_calls(sizes::RULES),
+            _ => time_of_calls(sizes::RULES, value, name, matches),
         });
     let ours = (equal_with - equal_without + unequal_with - unequal_without) / 2.0 / rules;
-    let libc = libc / rules;
+    let calls = calls / rules;
     println!(
-        "\n{} on {}: {ours:.1} ns, fnmatch {libc:.1} ns, ratio {:.2}",
-        PATTERN.to_string_lossy(),
-        NAME.to_string_lossy(),
-        ours / libc,
+        "\n{} on {}: {ours:.1} ns, {other} {calls:.1} ns, ratio {:.2}",
+        value.to_string_lossy(),
+        name.to_string_lossy(),
+        ours / calls,
     );
 }
 
-fn fnmatch_calls(times: usize) -> f64 {
+fn time_of_calls(
+    times: usize,
+    value: &CStr,
+    name: &CStr,
+    matches: fn(&CStr, &CStr) -> bool,
+) -> f64 {
     let start = Instant::now();
     for _ in 0..times {
-        // Both are strings with a NUL at the end, and fnmatch only reads them.
-        let answer = unsafe { fnmatch(black_box(PATTERN.as_ptr()), black_box(NAME.as_ptr()), 0) };
-        assert_eq!(answer, 0, "a match");
+        assert!(matches(black_box(value), black_box(name)), "a match");
     }
     start.elapsed().as_nanos() as f64
 }
