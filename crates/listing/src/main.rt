@@ -60,7 +60,7 @@ fn main() {
     // One byte more than may be accepted of each.
     let mut text: [u8; 32769] = [0; 32769];
     let mut device: [u8; 16385] = [0; 16385];
-    let mut outcome: [u8; 17612] = [0; 17612];
+    let mut outcome: [u8; 18126] = [0; 18126];
     let mut out: [u8; 98304] = [0; 98304];
     let rules = read_file(1, &mut text);
     if !rules.ok {

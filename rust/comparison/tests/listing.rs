@@ -4,8 +4,10 @@ use std::fs;
 use std::path::{Path, PathBuf};
 use std::process::Command;
 
-use reference::generate::case;
+use comparison::workloads::all_workloads;
+use reference::generate::{case, Case};
 use reference::listing;
+use reference::sizes::OUTCOME_TARGET;
 
 const CASES: u64 = 3_000;
 
@@ -29,32 +31,52 @@ fn printed(directory: &Path, files: &[&str]) -> Vec<u8> {
     output.stdout
 }
 
+/// Both listings of a case, from the fresh record and from its own, against the reference's.
+fn assert_listed(directory: &Path, case: &Case, name: &str) {
+    for (name, bytes) in [
+        ("text", &case.text),
+        ("device", &case.device),
+        ("outcome", &case.outcome),
+    ] {
+        fs::write(directory.join(name), bytes).expect("a file of the case");
+    }
+    let fresh = printed(directory, &["text", "device"]);
+    assert_eq!(
+        String::from_utf8_lossy(&fresh),
+        String::from_utf8_lossy(&listing(&case.text, &case.device, None)),
+        "{name} ({}), from the fresh record",
+        case.shape
+    );
+    let from = printed(directory, &["text", "device", "outcome"]);
+    assert_eq!(
+        String::from_utf8_lossy(&from),
+        String::from_utf8_lossy(&listing(&case.text, &case.device, Some(&case.outcome))),
+        "{name} ({}), from the outcome record",
+        case.shape
+    );
+}
+
+/// A directory of a test's own.
+fn directory(test: &str) -> PathBuf {
+    let directory = Path::new(env!("CARGO_TARGET_TMPDIR")).join(test);
+    fs::create_dir_all(&directory).expect("a directory for the files");
+    directory
+}
+
 #[test]
 fn listings() {
-    let directory = Path::new(env!("CARGO_TARGET_TMPDIR")).join("listings");
-    fs::create_dir_all(&directory).expect("a directory for the files");
+    let directory = directory("listings");
     for seed in 0..CASES {
-        let case = case(seed);
-        for (name, bytes) in [
-            ("text", &case.text),
-            ("device", &case.device),
-            ("outcome", &case.outcome),
-        ] {
-            fs::write(directory.join(name), bytes).expect("a file of the case");
-        }
-        let fresh = printed(&directory, &["text", "device"]);
-        assert_eq!(
-            String::from_utf8_lossy(&fresh),
-            String::from_utf8_lossy(&listing(&case.text, &case.device, None)),
-            "seed {seed} ({}), from the fresh record",
-            case.shape
-        );
-        let from = printed(&directory, &["text", "device", "outcome"]);
-        assert_eq!(
-            String::from_utf8_lossy(&from),
-            String::from_utf8_lossy(&listing(&case.text, &case.device, Some(&case.outcome))),
-            "seed {seed} ({}), from the outcome record",
-            case.shape
-        );
+        assert_listed(&directory, &case(seed), &format!("seed {seed}"));
     }
+}
+
+#[test]
+fn listing_of_the_fullest_record() {
+    let full_start = all_workloads()
+        .find(|workload| workload.name == "full_start")
+        .expect("a workload from the fullest record");
+    let case = full_start.case();
+    assert_eq!(case.outcome.len(), OUTCOME_TARGET);
+    assert_listed(&directory("fullest"), &case, full_start.name);
 }
