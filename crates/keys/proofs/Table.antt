@@ -24,26 +24,26 @@ row n l k t o = record { name = n; len = l; key = k; takes = t; operators = o }
 unfoldable pub table : List Row
 unfolding bytes
 table =
-    row (bytes "ACTION\0\0\0\0") 6 Action Nothing 3
-    ∷ row (bytes "DEVPATH\0\0\0") 7 Devpath Nothing 3
-    ∷ row (bytes "KERNEL\0\0\0\0") 6 Kernel Nothing 3
-    ∷ row (bytes "KERNELS\0\0\0") 7 Kernels Nothing 3
-    ∷ row (bytes "SUBSYSTEM\0") 9 Subsystem Nothing 3
-    ∷ row (bytes "SUBSYSTEMS") 10 Subsystems Nothing 3
-    ∷ row (bytes "DRIVER\0\0\0\0") 6 Driver Nothing 3
-    ∷ row (bytes "DRIVERS\0\0\0") 7 Drivers Nothing 3
-    ∷ row (bytes "ATTR\0\0\0\0\0\0") 4 Attr One 3
-    ∷ row (bytes "ATTRS\0\0\0\0\0") 5 Attrs One 3
-    ∷ row (bytes "ENV\0\0\0\0\0\0\0") 3 Env One 7
-    ∷ row (bytes "SYMLINK\0\0\0") 7 Symlink Nothing 63
-    ∷ row (bytes "TAG\0\0\0\0\0\0\0") 3 Tag Nothing 63
-    ∷ row (bytes "OWNER\0\0\0\0\0") 5 Owner Nothing 36
-    ∷ row (bytes "GROUP\0\0\0\0\0") 5 Group Nothing 36
-    ∷ row (bytes "MODE\0\0\0\0\0\0") 4 Mode Nothing 36
-    ∷ row (bytes "RUN\0\0\0\0\0\0\0") 3 Run RunType 44
-    ∷ row (bytes "LABEL\0\0\0\0\0") 5 Label Nothing 4
-    ∷ row (bytes "GOTO\0\0\0\0\0\0") 4 Goto Nothing 4
-    ∷ row (bytes "OPTIONS\0\0\0") 7 Options Nothing 12
+    row (bytes "ACTIONACTION") 6 Action Nothing 3
+    ∷ row (bytes "DEVPATHDEVPA") 7 Devpath Nothing 3
+    ∷ row (bytes "KERNELKERNEL") 6 Kernel Nothing 3
+    ∷ row (bytes "KERNELSKERNE") 7 Kernels Nothing 3
+    ∷ row (bytes "SUBSYSTEMSUB") 9 Subsystem Nothing 3
+    ∷ row (bytes "SUBSYSTEMSSU") 10 Subsystems Nothing 3
+    ∷ row (bytes "DRIVERDRIVER") 6 Driver Nothing 3
+    ∷ row (bytes "DRIVERSDRIVE") 7 Drivers Nothing 3
+    ∷ row (bytes "ATTRATTRATTR") 4 Attr One 3
+    ∷ row (bytes "ATTRSATTRSAT") 5 Attrs One 3
+    ∷ row (bytes "ENVENVENVENV") 3 Env One 7
+    ∷ row (bytes "SYMLINKSYMLI") 7 Symlink Nothing 63
+    ∷ row (bytes "TAGTAGTAGTAG") 3 Tag Nothing 63
+    ∷ row (bytes "OWNEROWNEROW") 5 Owner Nothing 36
+    ∷ row (bytes "GROUPGROUPGR") 5 Group Nothing 36
+    ∷ row (bytes "MODEMODEMODE") 4 Mode Nothing 36
+    ∷ row (bytes "RUNRUNRUNRUN") 3 Run RunType 44
+    ∷ row (bytes "LABELLABELLA") 5 Label Nothing 4
+    ∷ row (bytes "GOTOGOTOGOTO") 4 Goto Nothing 4
+    ∷ row (bytes "OPTIONSOPTIO") 7 Options Nothing 12
     ∷ []
 
 same-table : map rowOf table ≡ rules.rows

@@ -68,9 +68,9 @@ const JUDGED: u8 = EQUAL + UNEQUAL;
 
 const EVERY: u8 = JUDGED + ASSIGN + ADD + REMOVE + FINAL;
 
-// The name is the first len bytes of name.
+// The name is the first len bytes of name; it is repeated to fill them, since a row that ends in zeros is put on the stack in more pieces.
 pub struct Row {
-    pub name: [u8; 10],
+    pub name: [u8; 12],
     pub len: u8,
     pub key: Key,
     pub takes: Takes,
@@ -79,140 +79,140 @@ pub struct Row {
 
 const ROWS: [Row; 20] = [
     Row {
-        name: *b"ACTION\0\0\0\0",
+        name: *b"ACTIONACTION",
         len: 6,
         key: Key::Action,
         takes: Takes::Nothing,
         operators: JUDGED,
     },
     Row {
-        name: *b"DEVPATH\0\0\0",
+        name: *b"DEVPATHDEVPA",
         len: 7,
         key: Key::Devpath,
         takes: Takes::Nothing,
         operators: JUDGED,
     },
     Row {
-        name: *b"KERNEL\0\0\0\0",
+        name: *b"KERNELKERNEL",
         len: 6,
         key: Key::Kernel,
         takes: Takes::Nothing,
         operators: JUDGED,
     },
     Row {
-        name: *b"KERNELS\0\0\0",
+        name: *b"KERNELSKERNE",
         len: 7,
         key: Key::Kernels,
         takes: Takes::Nothing,
         operators: JUDGED,
     },
     Row {
-        name: *b"SUBSYSTEM\0",
+        name: *b"SUBSYSTEMSUB",
         len: 9,
         key: Key::Subsystem,
         takes: Takes::Nothing,
         operators: JUDGED,
     },
     Row {
-        name: *b"SUBSYSTEMS",
+        name: *b"SUBSYSTEMSSU",
         len: 10,
         key: Key::Subsystems,
         takes: Takes::Nothing,
         operators: JUDGED,
     },
     Row {
-        name: *b"DRIVER\0\0\0\0",
+        name: *b"DRIVERDRIVER",
         len: 6,
         key: Key::Driver,
         takes: Takes::Nothing,
         operators: JUDGED,
     },
     Row {
-        name: *b"DRIVERS\0\0\0",
+        name: *b"DRIVERSDRIVE",
         len: 7,
         key: Key::Drivers,
         takes: Takes::Nothing,
         operators: JUDGED,
     },
     Row {
-        name: *b"ATTR\0\0\0\0\0\0",
+        name: *b"ATTRATTRATTR",
         len: 4,
         key: Key::Attr,
         takes: Takes::One,
         operators: JUDGED,
     },
     Row {
-        name: *b"ATTRS\0\0\0\0\0",
+        name: *b"ATTRSATTRSAT",
         len: 5,
         key: Key::Attrs,
         takes: Takes::One,
         operators: JUDGED,
     },
     Row {
-        name: *b"ENV\0\0\0\0\0\0\0",
+        name: *b"ENVENVENVENV",
         len: 3,
         key: Key::Env,
         takes: Takes::One,
         operators: JUDGED + ASSIGN,
     },
     Row {
-        name: *b"SYMLINK\0\0\0",
+        name: *b"SYMLINKSYMLI",
         len: 7,
         key: Key::Symlink,
         takes: Takes::Nothing,
         operators: EVERY,
     },
     Row {
-        name: *b"TAG\0\0\0\0\0\0\0",
+        name: *b"TAGTAGTAGTAG",
         len: 3,
         key: Key::Tag,
         takes: Takes::Nothing,
         operators: EVERY,
     },
     Row {
-        name: *b"OWNER\0\0\0\0\0",
+        name: *b"OWNEROWNEROW",
         len: 5,
         key: Key::Owner,
         takes: Takes::Nothing,
         operators: ASSIGN + FINAL,
     },
     Row {
-        name: *b"GROUP\0\0\0\0\0",
+        name: *b"GROUPGROUPGR",
         len: 5,
         key: Key::Group,
         takes: Takes::Nothing,
         operators: ASSIGN + FINAL,
     },
     Row {
-        name: *b"MODE\0\0\0\0\0\0",
+        name: *b"MODEMODEMODE",
         len: 4,
         key: Key::Mode,
         takes: Takes::Nothing,
         operators: ASSIGN + FINAL,
     },
     Row {
-        name: *b"RUN\0\0\0\0\0\0\0",
+        name: *b"RUNRUNRUNRUN",
         len: 3,
         key: Key::Run,
         takes: Takes::RunType,
         operators: ASSIGN + ADD + FINAL,
     },
     Row {
-        name: *b"LABEL\0\0\0\0\0",
+        name: *b"LABELLABELLA",
         len: 5,
         key: Key::Label,
         takes: Takes::Nothing,
         operators: ASSIGN,
     },
     Row {
-        name: *b"GOTO\0\0\0\0\0\0",
+        name: *b"GOTOGOTOGOTO",
         len: 4,
         key: Key::Goto,
         takes: Takes::Nothing,
         operators: ASSIGN,
     },
     Row {
-        name: *b"OPTIONS\0\0\0",
+        name: *b"OPTIONSOPTIO",
         len: 7,
         key: Key::Options,
         takes: Takes::Nothing,
@@ -295,21 +295,11 @@ fn place(name: &[u8]) -> usize
 }
 
 // Whether a run of letters is the first len bytes of a row's name.
-fn same_name(run: &[u8], name: [u8; 10], len: usize) -> bool
-    requires { ⌜ len ≤ 10 ⌝ }
+fn same_name(run: &[u8], name: [u8; 12], len: usize) -> bool
+    requires { ⌜ len ≤ 12 ⌝ }
     ensures { λ r. ⌜ r ≡ sameBytes (take len name) (now (run .entry)) ⌝ }
 {
-    if run.len() != len {
-        return false;
-    }
-    let mut i: usize = 0;
-    while i < len {
-        if run[i] != name[i] {
-            return false;
-        }
-        i += 1;
-    }
-    true
+    scan::same_short(&name[..len], run)
 }
 
 // The key, the argument that it takes and the operators that it allows.

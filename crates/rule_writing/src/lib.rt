@@ -134,7 +134,7 @@ fn put_value(out: &mut [u8], used: usize, value: &[u8]) -> usize
 // ---- a pair
 
 // The first bytes of a row's name.
-fn put_first(out: &mut [u8], used: usize, name: [u8; 10], len: usize) -> usize
+fn put_first(out: &mut [u8], used: usize, name: [u8; 12], len: usize) -> usize
     requires { ⌜ (len ≤ 10) × (used + length (take len name) ≤ length (now out)) ⌝ }
     ensures { λ r. ⌜ Placed (take len name) (now (out .entry)) used r (now (out .exit)) ⌝ }
 {
