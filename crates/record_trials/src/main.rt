@@ -7,8 +7,8 @@
 //   fresh ROOM | DEVICE | | NUMBERS | RECORD | NAME               number, line, visited, tried, used; the record
 //   newer ROOM, older ROOM | DEVICE | OUTCOME | NUMBERS | RECORD | NAME
 //   view PLACE | DEVICE | WHAT IT SAYS | NAME                     the device at a place of the chain
-// In a record and in signs blanks say nothing, `\xNN` is the byte of that number, and `\N*` says that the next byte stands N times.
-// Other lines are passed over.
+// In a record blanks say nothing, `\xNN` is the byte of that number, and `\N*` says that the next byte stands N times. Signs may have blanks
+// between them. Other lines are passed over.
 use answers::Given;
 use device_lookup::Chain;
 use device_lookup::Value;
@@ -201,23 +201,22 @@ fn agree_number(want: &[u8], n: usize, v: u32) -> usize {
     agree_all(want, m, &digits[start..])
 }
 
-// The part of what must come out with which what came out agrees.
-fn say_common(want: &[u8], n: usize) {
+// What must come out, up to where what came out agrees with it. The name has a blank at its front.
+fn say_apart(name: &[u8], want: &[u8], n: usize) {
+    say(b"apart:");
+    say(name);
+    say(b", behind");
     if n <= want.len() {
         say(&want[0..n]);
     }
 }
 
-// The name has a blank at its front.
 fn say_verdict(name: &[u8], want: &[u8], n: usize) {
     if n == want.len() {
         say(b"ok");
         say(name);
     } else {
-        say(b"apart:");
-        say(name);
-        say(b", behind ");
-        say_common(want, n % APART);
+        say_apart(name, want, n % APART);
     }
     say(b"\n");
 }
@@ -229,19 +228,6 @@ enum Kind {
     Outcome,
 }
 
-enum Form {
-    Whole,
-    Bits,
-    Cuts,
-}
-
-fn sign(sound: bool) -> u8 {
-    if sound {
-        return b'+';
-    }
-    b'-'
-}
-
 fn is_sound(rec: &[u8], chain: usize) -> bool {
     match outcome_check::check(rec, chain) {
         Checked::Sound(_) => true,
@@ -249,11 +235,23 @@ fn is_sound(rec: &[u8], chain: usize) -> bool {
     }
 }
 
-fn judge(kind: Kind, rec: &[u8], chain: usize) -> u8 {
+fn judge(kind: Kind, rec: &[u8], chain: usize) -> bool {
     match kind {
-        Kind::Device => sign(device_check::check(rec)),
-        Kind::Outcome => sign(is_sound(rec, chain)),
+        Kind::Device => device_check::check(rec),
+        Kind::Outcome => is_sound(rec, chain),
     }
+}
+
+// A sign behind blanks, or a dot where none is asked for.
+fn agree_sign(want: &[u8], n: usize, sound: bool) -> usize {
+    let m = scan::blank_end(want, n);
+    if scan::byte_at(want, m) == b'.' {
+        return agree(want, m, b'.');
+    }
+    if sound {
+        return agree(want, m, b'+');
+    }
+    agree(want, m, b'-')
 }
 
 // The byte with the bit i, from the most significant, the other way.
@@ -277,21 +275,23 @@ fn flip(rec: &mut [u8], i: usize) {
     }
 }
 
-// Nothing is tried where a dot stands.
-fn agree_sign(want: &[u8], n: usize, s: u8) -> usize {
-    if scan::byte_at(want, n) == b'.' {
-        return agree(want, n, b'.');
+// Nothing where no sign is left.
+fn agree_bit(want: &[u8], n: usize, kind: Kind, rec: &mut [u8], chain: usize, i: usize) -> usize {
+    let m = scan::blank_end(want, n);
+    if want.len() <= m {
+        return m;
     }
-    agree(want, n, s)
+    flip(rec, i);
+    let sound = judge(kind, rec, chain);
+    flip(rec, i);
+    agree_sign(want, m, sound)
 }
 
 fn agree_bits(want: &[u8], kind: Kind, rec: &mut [u8], chain: usize) -> usize {
     let mut n: usize = 0;
     let mut i: usize = 0;
     while i < want.len() {
-        flip(rec, i);
-        n = agree_sign(want, n, judge(kind, rec, chain));
-        flip(rec, i);
+        n = agree_bit(want, n, kind, rec, chain, i);
         i += 1;
     }
     n
@@ -301,36 +301,26 @@ fn agree_cuts(want: &[u8], kind: Kind, rec: &[u8], chain: usize) -> usize {
     let mut n: usize = 0;
     let mut i: usize = 0;
     while i < rec.len() {
-        n = agree(want, n, judge(kind, &rec[0..i], chain));
+        n = agree_sign(want, n, judge(kind, &rec[0..i], chain));
         i += 1;
     }
     n
 }
 
-fn agree_form(want: &[u8], kind: Kind, form: Form, rec: &mut [u8], chain: usize) -> usize {
-    match form {
-        Form::Whole => agree(want, 0, judge(kind, rec, chain)),
-        Form::Bits => agree_bits(want, kind, rec, chain),
-        Form::Cuts => agree_cuts(want, kind, rec, chain),
+// By the letter behind the first word.
+fn agree_check(row: &[u8], want: &[u8], kind: Kind, rec: &mut [u8], chain: usize) -> usize {
+    let end = scan::byte_end(row, 0, b' ');
+    match scan::byte_at(row, std::num::wrapping_add_usize(end, 1)) {
+        b'b' => agree_bits(want, kind, rec, chain),
+        b'c' => agree_cuts(want, kind, rec, chain),
+        _ => agree_sign(want, 0, judge(kind, rec, chain)),
     }
 }
 
-fn show_signs(row: &[u8], kind: Kind, form: Form, rec: &mut [u8]) {
-    let mut signs = io::buffer();
-    let m = bytes_of(column(row, 2), &mut signs);
-    if m <= signs.len() {
-        let want = &signs[0..m];
-        let n = agree_form(want, kind, form, rec, number_of(column(row, 0)));
-        say_verdict(column(row, 3), want, n);
-    }
-}
-
-fn show_check(row: &[u8], kind: Kind, form: Form) {
-    let mut rec = io::buffer();
-    let n = bytes_of(column(row, 1), &mut rec);
-    if n <= rec.len() {
-        show_signs(row, kind, form, &mut rec[0..n]);
-    }
+fn show_check(row: &[u8], kind: Kind, rec: &mut [u8], chain: usize) {
+    let want = column(row, 2);
+    let n = agree_check(row, want, kind, rec, chain);
+    say_verdict(column(row, 3), want, scan::blank_end(want, n));
 }
 
 // ---- what is made of records
@@ -358,67 +348,43 @@ fn agree_given(want: &[u8], given: Given) -> usize {
     agree(want, e, b' ')
 }
 
-// Whether all bytes from a place on are zero.
-fn is_zero(s: &[u8], from: usize) -> bool {
-    let mut i = from;
-    while i < s.len() {
-        if s[i] != 0 {
-            return false;
-        }
-        i += 1;
+// Whether the whole target is the record and zeros behind it.
+fn agree_target(n: usize, target: &[u8], want: &[u8]) -> usize {
+    if scan::same(target, want) {
+        return n;
     }
-    true
+    std::num::wrapping_add_usize(n, APART)
 }
 
-// The record, and zeros behind it.
-fn agree_target(want: &[u8], target: &[u8], used: usize) -> usize {
-    if target.len() < used {
-        return APART;
-    }
-    if is_zero(target, used) {
-        return agree_all(want, 0, &target[0..used]);
-    }
-    APART
-}
-
-fn show_made(row: &[u8], given: Given, target: &[u8]) {
-    let mut rec = io::buffer();
-    let m = bytes_of(column(row, 4), &mut rec);
-    let numbers = column(row, 3);
-    let n = agree_given(numbers, given);
-    if n != numbers.len() {
-        say_verdict(column(row, 5), numbers, n);
-        return;
-    }
-    if m <= rec.len() {
-        let want = &rec[0..m];
-        say_verdict(
-            column(row, 5),
-            want,
-            agree_target(want, target, given.used as usize),
-        );
+fn show_given(row: &[u8], given: Given, target: &[u8]) {
+    let mut rec = [0u8; 18200];
+    bytes_of(column(row, 4), &mut rec);
+    let room = target.len();
+    if room <= rec.len() {
+        let want = column(row, 3);
+        let n = agree_target(agree_given(want, given), target, &rec[0..room]);
+        say_verdict(column(row, 5), want, n);
     }
 }
 
-fn show_in(row: &[u8], operation: Operation, device: &[u8], target: &mut [u8]) {
-    let mut outcome = io::buffer();
-    let n = bytes_of(column(row, 2), &mut outcome);
-    if n <= outcome.len() {
-        let given = give(operation, device, &outcome[0..n], target);
-        show_made(row, given, target);
-    }
+fn show_made(row: &[u8], operation: Operation, device: &[u8], outcome: &[u8], target: &mut [u8]) {
+    let given = give(operation, device, outcome, target);
+    show_given(row, given, target);
 }
 
 // In a target whose bytes were all 0xaa.
-fn show_operation(row: &[u8], operation: Operation) {
+fn show_in(row: &[u8], operation: Operation, device: &[u8], outcome: &[u8], room: usize) {
     let mut target = [0xaau8; 18200];
-    let room = number_of(column(row, 0));
-    let mut device = io::buffer();
-    let n = bytes_of(column(row, 1), &mut device);
-    if n <= device.len() {
-        if room <= target.len() {
-            show_in(row, operation, &device[0..n], &mut target[0..room]);
-        }
+    if room <= target.len() {
+        show_made(row, operation, device, outcome, &mut target[0..room]);
+    }
+}
+
+fn show_operation(row: &[u8], operation: Operation, device: &[u8], room: usize) {
+    let mut outcome = io::buffer();
+    let n = bytes_of(column(row, 2), &mut outcome);
+    if n <= outcome.len() {
+        show_in(row, operation, device, &outcome[0..n], room);
     }
 }
 
@@ -506,58 +472,39 @@ fn agree_views(want: &[u8], rec: &[u8], place: usize) -> usize {
     agree_place(want, n, rec, chain, place)
 }
 
-fn show_view(row: &[u8]) {
-    let mut rec = io::buffer();
-    let n = bytes_of(column(row, 1), &mut rec);
-    if n <= rec.len() {
-        let want = column(row, 2);
-        let m = agree_views(want, &rec[0..n], number_of(column(row, 0)));
-        say_verdict(column(row, 3), want, m);
-    }
+fn show_view(row: &[u8], rec: &[u8], place: usize) {
+    let want = column(row, 2);
+    say_verdict(column(row, 3), want, agree_views(want, rec, place));
 }
 
 // ---- the table
 
-fn form_of(row: &[u8]) -> Form {
-    let done = column(row, 0);
-    match scan::byte_at(
-        done,
-        std::num::wrapping_add_usize(scan::byte_end(done, 0, b' '), 1),
-    ) {
-        b'b' => Form::Bits,
-        b'c' => Form::Cuts,
-        _ => Form::Whole,
+fn show_outcome(row: &[u8], rec: &mut [u8], number: usize) {
+    if scan::byte_at(row, 1) == b'l' {
+        show_operation(row, Operation::Older, rec, number);
+    } else {
+        show_check(row, Kind::Outcome, rec, number);
     }
 }
 
-// Whether a row begins with a word.
-fn is(row: &[u8], word: &[u8]) -> bool {
-    scan::starts_at(row, 0, word)
-}
-
-fn show_made_of(row: &[u8]) {
-    if is(row, b"fresh") {
-        show_operation(row, Operation::Fresh);
-    }
-    if is(row, b"newer") {
-        show_operation(row, Operation::Newer);
-    }
-    if is(row, b"older") {
-        show_operation(row, Operation::Older);
+// By the first letter of what is done, of `older` and `outcome` by the second.
+fn show_record(row: &[u8], rec: &mut [u8], number: usize) {
+    match scan::byte_at(row, 0) {
+        b'd' => show_check(row, Kind::Device, rec, number),
+        b'o' => show_outcome(row, rec, number),
+        b'f' => show_operation(row, Operation::Fresh, rec, number),
+        b'n' => show_operation(row, Operation::Newer, rec, number),
+        b'v' => show_view(row, rec, number),
+        _ => {}
     }
 }
 
 fn show(row: &[u8]) {
-    if is(row, b"device") {
-        show_check(row, Kind::Device, form_of(row));
+    let mut rec = io::buffer();
+    let n = bytes_of(column(row, 1), &mut rec);
+    if n <= rec.len() {
+        show_record(row, &mut rec[0..n], number_of(column(row, 0)));
     }
-    if is(row, b"outcome") {
-        show_check(row, Kind::Outcome, form_of(row));
-    }
-    if is(row, b"view") {
-        show_view(row);
-    }
-    show_made_of(row);
 }
 
 fn show_line(table: &[u8], at: usize, end: usize) {

@@ -16,17 +16,8 @@ abbrev μ-loop : tie.MeasureT-loop
 loop-holds : tie.Need-loop-holds Inv-loop μ-loop
 loop-holds c = search needs
 
-flip-requires : tie.Need-flip-requires Inv-loop μ-loop
-flip-requires c κs = search needs
-
-judge-requires : tie.Need-judge-requires Inv-loop μ-loop
-judge-requires c κs = search needs
-
-agree-sign-requires : tie.Need-agree-sign-requires Inv-loop μ-loop
-agree-sign-requires c κs = search needs
-
-flip-requires-2 : tie.Need-flip-requires-2 Inv-loop μ-loop
-flip-requires-2 c κs = search needs
+agree-bit-requires : tie.Need-agree-bit-requires Inv-loop μ-loop
+agree-bit-requires c κs = search needs
 
 add-i : tie.Need-add-i Inv-loop μ-loop
 add-i c = search needs
@@ -50,10 +41,7 @@ agree-bits-spec =
     Inv-loop
     μ-loop
     loop-holds
-    flip-requires
-    judge-requires
-    agree-sign-requires
-    flip-requires-2
+    agree-bit-requires
     add-i
     loop-less
     loop-again

@@ -27,8 +27,8 @@ part-judge-end c = search needs
 judge-requires : tie.Need-judge-requires Inv-loop μ-loop
 judge-requires c κs = search needs
 
-agree-requires : tie.Need-agree-requires Inv-loop μ-loop
-agree-requires c κs = search needs
+agree-sign-requires : tie.Need-agree-sign-requires Inv-loop μ-loop
+agree-sign-requires c κs = search needs
 
 add-i : tie.Need-add-i Inv-loop μ-loop
 add-i c = search needs
@@ -53,7 +53,7 @@ agree-cuts-spec =
     part-judge-start
     part-judge-end
     judge-requires
-    agree-requires
+    agree-sign-requires
     add-i
     loop-less
     loop-again
