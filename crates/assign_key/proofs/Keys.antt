@@ -29,7 +29,7 @@ use Rattle.outcome_fields.specs.Fields.{flag}
 use Rattle.outcome_fields.specs.declared.Closable.{Closable}
 use Rattle.outcome_fields.specs.declared.Closable.the-variants as closable
 use Rattle.engine.specs.Assign as assign
-use Rattle.engine.specs.Assign.{valued, bits32, setBy, leaves, assigned}
+use Rattle.engine.specs.Assign.{valued, setBy, leaves, assigned}
 use Rattle.records.specs.Records.{Says}
 use Rattle.records.specs.declared.Change.{Change}
 use Rattle.records.specs.declared.Change.the-variants as change
@@ -62,10 +62,6 @@ signed-fits : (z : ℤ) → In32 z → SFits w32 z
 signed-fits (pos n) h = record { sfits = h }
 signed-fits (negsuc n) h = record { sfits = h }
 
-same-bits : (z : ℤ) → fromSigned z ≡ bits32 z
-same-bits (pos n) = refl
-same-bits (negsuc n) = omega arith
-
 module _ (v : List ℕ) (s : State) (e : Escape) (r : SettingRead) (h : signed.setBy r ≡ settingOf v) where
   by : (q : SettingRead) → r ≡ q → setBy (settingOf v) (workOf s e) ≡ setBy (signed.setBy q) (workOf s e)
   by q i = ap (λ (o : Option Setting). setBy o (workOf s e)) (sym h ∙ ap signed.setBy i)
@@ -89,7 +85,7 @@ module _ (v : List ℕ) (s : State) (e : Escape) (r : SettingRead) (h : signed.s
   pub option-priority : (z : ℤ) → r ≡ setting.Priority z → (m : ℕ) → m ≡ fromSigned (toZ w32 (ofZ w32 z)) → setBy (settingOf v) (workOf s e) ≡ workOf (withPriority s m) e
   option-priority z q m i =
       by (setting.Priority z) q
-      ∙ ap (λ (k : ℕ). workOf (withPriority s k) e) (sym (i ∙ ap fromSigned (toZ-ofZ {w = w32} {z = z} (priority-fits z q)) ∙ same-bits z))
+      ∙ ap (λ (k : ℕ). workOf (withPriority s k) e) (sym (i ∙ ap fromSigned (toZ-ofZ {w = w32} {z = z} (priority-fits z q))))
 
   pub option-faulty : r ≡ setting.Faulty → setBy (settingOf v) (workOf s e) ≡ workOf s e
   option-faulty q = by setting.Faulty q

@@ -19,6 +19,7 @@ use Rattle.lists.proofs.Checked.{holds-bind, holds-seq, holds-require, holds-ma
 use Rattle.lists.proofs.Tests.{and-both, both-and}
 use Rattle.lists.proofs.Lists.{all-snoc, all-map, reject-all}
 use Rattle.lists.proofs.Bytes.{split-clean}
+use Rattle.bits.specs.Signed.{fromSigned}
 use Rattle.entries.specs.Entry.{Property, okProp}
 use Rattle.rules.specs.Key.{Key, ACTION, DEVPATH, KERNEL, KERNELS, SUBSYSTEM, SUBSYSTEMS, DRIVER, DRIVERS, ATTR, ATTRS, ENV, SYMLINK, TAG, OWNER, GROUP, MODE, RUN, LABEL, GOTO, OPTIONS, Op, equal, unequal, assign, add, remove, final, isMatch}
 use Rattle.rules.specs.Pair.{Pair, Rule}
@@ -38,7 +39,7 @@ use Rattle.outcome.proofs.Change.{closed-good, owner-good, group-good, mode-goo
 use Rattle.outcome.proofs.Edits.{empty-entries, add-entry, remove-entry, remove-property, set-property, empty-runs, add-run}
 use Rattle.engine.specs.Match.{parentsHold, nearest, hasParents, placeOf, allHold, matched}
 use Rattle.engine.specs.Substitute.{Source, substituted, within, filled}
-use Rattle.engine.specs.Assign.{Escape, unset, as-is, replaced, Work, left, linkByte, cleanByte, cleaned, isAsIs, cleanName, cleanValue, kept, closing, isRemove, namesIn, changeLinks, sourceOf, linked, changeEntry, changeTags, tagged, runFor, changeRuns, queued, ownerIn, owned, grouped, modeIn, moded, changeProperties, valued, bits32, setBy, leaves, assigned, assignPair, assignAll}
+use Rattle.engine.specs.Assign.{Escape, unset, as-is, replaced, Work, left, linkByte, cleanByte, cleaned, isAsIs, cleanName, cleanValue, kept, closing, isRemove, namesIn, changeLinks, sourceOf, linked, changeEntry, changeTags, tagged, runFor, changeRuns, queued, ownerIn, owned, grouped, modeIn, moded, changeProperties, valued, setBy, leaves, assigned, assignPair, assignAll}
 use Rattle.engine.specs.Step.{ended, begun, stepAt, step}
 use Rattle.engine.proofs.Clean.{substituted-clean}
 
@@ -120,7 +121,7 @@ mode-small x h =
 
 -- ---- the setting of a priority
 
-priority-small : (z : ℤ) → In32 z → bits32 z < 4294967296
+priority-small : (z : ℤ) → In32 z → fromSigned z < 4294967296
 priority-small (pos n) h = omega arith
 priority-small (negsuc n) h = omega arith
 
@@ -312,7 +313,7 @@ module _ (d : Device) (dg : Sound d) where
     set-good (some escape-replace) w r g = g
     set-good (some watched) w r g = watch-good size (w .state) g 1 (omega arith)
     set-good (some unwatched) w r g = watch-good size (w .state) g 2 (omega arith)
-    set-good (some (priority z)) w r g = priority-good size (w .state) g (bits32 z) (priority-small z r)
+    set-good (some (priority z)) w r g = priority-good size (w .state) g (fromSigned z) (priority-small z r)
 
     -- a closed key is skipped
     skipped : (shut : Bool) (w : Work) (c : Checked Refusal Work) → GoodWork w → Holds GoodWork c → Holds {R = Refusal} GoodWork (elim shut [ true ↦ ok w | false ↦ c ])

@@ -1,18 +1,18 @@
 -- Document 01, Running: what an assignment does to the outcome, or why it is refused (30 to 36).
 -- Assumes nothing.
-use Prim.Native.Nat.{ℕ, zero, suc, _+_, _-_}
+use Prim.Native.Nat.{ℕ, zero, suc, _+_}
 use mathlib.Core.Bool.{Bool, true, false, not, _&&_, _||_}
 use mathlib.Core.List.{List, [], _∷_, _++_, map}
 use mathlib.Core.Option.{Option, none, some}
 use lib.Dec.{eqb, leb, ltb}
 use lib.ListN.{length}
-use lib.IntN.{ℤ, pos, negsuc}
 use Rattle.lists.specs.Lists.{pick, isEmpty, reject}
 use Rattle.lists.specs.Bytes.{isDigit, sameBytes, holds, among, isLetter}
 use Rattle.lists.specs.Runs.{splitAt}
 use Rattle.lists.specs.Checked.{Checked, refused, ok, _>>=_, _>>_, require}
 use Rattle.lists.specs.Sizes.{mostLinks, mostTags, mostRuns}
 use Rattle.lists.specs.Refusal.{Refusal, link-bad, owner-bad, mode-bad, mode-shared}
+use Rattle.bits.specs.Signed.{fromSigned}
 use Rattle.entries.specs.Entry.{Property, keys}
 use Rattle.rules.specs.Key.{Key, ACTION, DEVPATH, KERNEL, KERNELS, SUBSYSTEM, SUBSYSTEMS, DRIVER, DRIVERS, ATTR, ATTRS, ENV, SYMLINK, TAG, OWNER, GROUP, MODE, RUN, LABEL, GOTO, OPTIONS, Op, equal, unequal, assign, add, remove, final, isMatch}
 use Rattle.rules.specs.Pair.{Pair, Rule, isBuiltin}
@@ -187,11 +187,6 @@ valued e p s = do
 
 -- ---- OPTIONS
 
--- a link priority as its 32 bits
-abbrev pub bits32 : ℤ → ℕ
-bits32 (pos n) = n
-bits32 (negsuc n) = 4294967295 - n
-
 abbrev pub setBy : Option Setting → Work → Work
 setBy none w = w
 setBy (some escape-none) w = record { state = w .state; escape = as-is }
@@ -199,7 +194,7 @@ setBy (some escape-replace) w = record { state = w .state; escape = replaced }
 -- document 02, Item 5: it stays in the record, and the latest counts
 setBy (some watched) w = left w (withWatch (w .state) 1)
 setBy (some unwatched) w = left w (withWatch (w .state) 2)
-setBy (some (priority z)) w = left w (withPriority (w .state) (bits32 z))
+setBy (some (priority z)) w = left w (withPriority (w .state) (fromSigned z))
 
 -- ---- any key
 

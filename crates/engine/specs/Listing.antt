@@ -1,17 +1,19 @@
 -- Document 01, Examples: the listing of a run and its close, as bytes.
 -- Assumes nothing.
-use Prim.Native.Nat.{ℕ, zero, suc, _+_, _-_, _*_, _/_, _%_}
+use Prim.Native.Nat.{ℕ, zero, suc, _+_, _*_, _/_, _%_}
 use mathlib.Core.Bool.{Bool, true, false, not, _&&_, _||_}
 use mathlib.Core.List.{List, [], _∷_, _++_}
 use mathlib.Core.Option.{Option, none, some}
 use lib.Dec.{eqb, leb, ltb}
 use lib.ListN.{length}
+use lib.IntN.{ℤ, pos, negsuc}
 use Rattle.lists.specs.Lists.{pick, isEmpty, cat}
 use Rattle.lists.specs.Bytes.{between}
 use Rattle.lists.specs.Checked.{Checked, refused, ok, _>>=_, _>>_, found, Placed, line, onLine}
 use Rattle.lists.specs.Refusal.{Refusal, number, device-bad}
 use Rattle.lists.specs.Sizes.{fullestOutcome}
 use Rattle.lists.specs.Quoted.{bytes}
+use Rattle.bits.specs.Signed.{toSigned}
 use Rattle.entries.specs.Entry.{Property}
 use Rattle.device.specs.Device as D
 use Rattle.outcome.specs.State as O
@@ -32,9 +34,10 @@ unfoldable pub escaped : List ℕ → List ℕ
 escaped [] = []
 escaped (b ∷ bs) = shownByte b ++ escaped bs
 
--- a number of 32 bits in two's complement
-abbrev pub signed : ℕ → List ℕ
-signed n = elim (ltb n 2147483648) [ true ↦ decimal n | false ↦ 45 ∷ decimal (4294967296 - n) ]
+-- a number with its sign; `negsuc n` is -(n + 1)
+abbrev pub signed : ℤ → List ℕ
+signed (pos n) = decimal n
+signed (negsuc n) = 45 ∷ decimal (suc n)
 
 abbrev pub fourOctal : ℕ → List ℕ
 fourOctal m = (48 + m / 512) ∷ (48 + m / 64 % 8) ∷ (48 + m / 8 % 8) ∷ (48 + m % 8) ∷ []
@@ -71,7 +74,7 @@ unfolding bytes
 listingOf visited tried s cs =
     lineOf (bytes "visited") (decimal visited)
     ++ (lineOf (bytes "tried") (decimal tried)
-    ++ (lineOf (bytes "priority") (signed (s .priority))
+    ++ (lineOf (bytes "priority") (signed (toSigned (s .priority)))
     ++ (modeLine (s .mode)
     ++ (setLine (bytes "owner") (s .owner)
     ++ (setLine (bytes "group") (s .group)

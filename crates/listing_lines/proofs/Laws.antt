@@ -1,14 +1,15 @@
 -- Texts one behind the other.
 -- Assumes nothing.
-use Prim.Native.Nat.{ℕ, _+_, _-_, _/_, _%_, _≤_, _<_}
+use Prim.Native.Nat.{ℕ, _+_, _/_, _%_, _≤_, _<_}
 use mathlib.Core.Bool.{Bool, true, false, not, _&&_}
 use mathlib.Core.Path.{_≡_, refl, sym, ap, _∙_, subst}
 use mathlib.Core.List.{List, [], _∷_, _++_, append-assoc, append-nil}
 use native.Mathlib.Omega.{arith}
 use lib.ListN.{length, drop, getD, drop-of-length-le}
 use Rattle.lists.proofs.Rest.{rest-at}
-use borrow.Author.Tests.{lt-ltb, le-ltb}
 use lib.Dec.{eqb}
+use lib.IntN.{ℤ, natAbs}
+use Rattle.bits.proofs.Signed.{Below, Above}
 use Rattle.template.specs.Decimal.{decimal}
 use Rattle.lists.specs.Bytes.{between}
 use Rattle.engine.specs.Listing.{hex, shownByte, escaped, signed, fourOctal, lineOf, setLine}
@@ -115,11 +116,11 @@ unset-line word (b ∷ text) h = absurd (omega arith)
 
 -- ---- numbers
 
-pub signed-low : (n : ℕ) → n < 2147483648 → decimal n ≡ signed n
-signed-low n h = rw (signed, lt-ltb n 2147483648 h) refl
+pub signed-below : (z : ℤ) → Below z → 45 ∷ decimal (natAbs z) ≡ signed z
+signed-below z b = rw (b .is) refl
 
-pub signed-high : (n : ℕ) → 2147483648 ≤ n → 45 ∷ decimal (4294967296 - n) ≡ signed n
-signed-high n h = rw (signed, le-ltb n 2147483648 h) refl
+pub signed-above : (z : ℤ) → Above z → decimal (natAbs z) ≡ signed z
+signed-above z b = rw (b .is) refl
 
 pub four-octal : (m a b c d : ℕ) → a ≡ 48 + m / 512 → b ≡ 48 + m / 64 % 8 → c ≡ 48 + m / 8 % 8 → d ≡ 48 + m % 8 → a ∷ b ∷ c ∷ d ∷ [] ≡ fourOctal m
 four-octal m a b c d e f g h = rw (e, f, g, h) refl

@@ -7,6 +7,7 @@ ghost use mathlib.Core.List.{[], _∷_, _++_};
 ghost use Prim.Native.Nat.{_+_, _<_};
 ghost use lib.Dec.{eqb};
 ghost use lib.ListN.{length};
+ghost use lib.IntN.{natAbs};
 ghost use Rattle.lists.specs.Bytes.{between};
 ghost use Rattle.template.specs.Decimal.{decimal};
 ghost use Rattle.engine.specs.Listing.{hex, shownByte, escaped, signed, fourOctal, lineOf, setLine};
@@ -91,16 +92,22 @@ fn put_decimal(out: &mut [u8], front: Put, n: u32) -> Put
     put_text(out, front, &digits[start..])
 }
 
-// 32 bits in two's complement.
-fn put_signed(out: &mut [u8], front: Put, n: u32) -> Put
-    requires { ⌜ Within (length (now out)) front ⌝ }
-    ensures { λ r. ⌜ Within (length (now (out .exit))) r × Behind (signed n) (now (out .entry)) front r (now (out .exit)) ⌝ }
+// A number without its sign.
+fn magnitude(z: i32) -> u32
+    ensures { λ r. ⌜ r ≡ natAbs z ⌝ }
 {
-    if n < 2147483648 {
-        return put_decimal(out, front, n);
+    if z < 0 { (-1 - z) as u32 + 1 } else { z as u32 }
+}
+
+fn put_signed(out: &mut [u8], front: Put, z: i32) -> Put
+    requires { ⌜ Within (length (now out)) front ⌝ }
+    ensures { λ r. ⌜ Within (length (now (out .exit))) r × Behind (signed z) (now (out .entry)) front r (now (out .exit)) ⌝ }
+{
+    if z < 0 {
+        let minus = put_byte(out, front, b'-');
+        return put_decimal(out, minus, magnitude(z));
     }
-    let minus = put_byte(out, front, b'-');
-    put_decimal(out, minus, 4294967295 - n + 1)
+    put_decimal(out, front, magnitude(z))
 }
 
 fn octal_digit(d: u32) -> u8
@@ -175,12 +182,12 @@ pub fn put_number_line(out: &mut [u8], front: Put, word: &[u8], n: u32) -> Put
     put_byte(out, numbered, b'\n')
 }
 
-pub fn put_signed_line(out: &mut [u8], front: Put, word: &[u8], n: u32) -> Put
+pub fn put_signed_line(out: &mut [u8], front: Put, word: &[u8], z: i32) -> Put
     requires { ⌜ Within (length (now out)) front ⌝ }
-    ensures { λ r. ⌜ Within (length (now (out .exit))) r × Behind (lineOf (now (word .entry)) (signed n)) (now (out .entry)) front r (now (out .exit)) ⌝ }
+    ensures { λ r. ⌜ Within (length (now (out .exit))) r × Behind (lineOf (now (word .entry)) (signed z)) (now (out .entry)) front r (now (out .exit)) ⌝ }
 {
     let worded = put_word(out, front, word);
-    let numbered = put_signed(out, worded, n);
+    let numbered = put_signed(out, worded, z);
     put_byte(out, numbered, b'\n')
 }
 

@@ -3,6 +3,7 @@
 use Prim.Native.Nat.{ℕ}
 use mathlib.Core.List.{List, _∷_, _++_}
 use Rattle.lists.specs.Lists.{cat}
+use Rattle.bits.specs.Signed.{toSigned}
 use Rattle.entries.specs.Entry.{Property}
 use Rattle.lists.specs.Quoted.{bytes}
 use Rattle.template.specs.Decimal.{decimal}
@@ -30,7 +31,7 @@ countLines visited tried = lineOf (bytes "visited") (decimal visited) ++ lineOf 
 abbrev pub settingLines : State → List ℕ
 unfolding bytes
 settingLines s =
-    lineOf (bytes "priority") (signed (s .priority))
+    lineOf (bytes "priority") (signed (toSigned (s .priority)))
     ++ (modeLine (s .mode) ++ (setLine (bytes "owner") (s .owner) ++ (setLine (bytes "group") (s .group) ++ watchLine (s .watch))))
 
 -- links, properties, tags

@@ -7,6 +7,7 @@ use outcome_target::Texts;
 use rows::Kind;
 ghost use lib.ListN.{length};
 ghost use Rattle.lists.specs.Quoted.{bytes};
+ghost use Rattle.bits.specs.Signed.{toSigned};
 ghost use Rattle.outcome_target.specs.Held.{Holds};
 ghost use Rattle.listing_lines.specs.Behind.{Within, Behind};
 ghost use Rattle.engine.specs.Listing.{signed, lineOf, modeLine, setLine, watchLine};
@@ -32,10 +33,10 @@ fn put_properties(out: &mut [u8], front: Put, word: &[u8], t: &[u8], layout: Lay
 
 fn put_priority(out: &mut [u8], front: Put, word: &[u8], t: &[u8], layout: Layout) -> Put
     requires { ⌜ Within (length (now out)) front × Holds (now t) layout ⌝ }
-    ensures { λ r. ⌜ Within (length (now (out .exit))) r × StateBehind (λ s. lineOf (now (word .entry)) (signed (s .priority))) (now (t .entry)) layout (now (out .entry)) front r (now (out .exit)) ⌝ }
+    ensures { λ r. ⌜ Within (length (now (out .exit))) r × StateBehind (λ s. lineOf (now (word .entry)) (signed (toSigned (s .priority)))) (now (t .entry)) layout (now (out .entry)) front r (now (out .exit)) ⌝ }
 {
     let priority = outcome_target::field(t, outcome_target::PRIORITY);
-    listing_lines::put_signed_line(out, front, word, priority as u32)
+    listing_lines::put_signed_line(out, front, word, bits::to_signed(priority as u32))
 }
 
 // No line for a mode that is not set.

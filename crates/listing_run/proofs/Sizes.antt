@@ -8,6 +8,8 @@ use mathlib.Core.Option.{Option, none, some}
 use native.Mathlib.Omega.{arith}
 use borrow.Author.Tests.{leb-true}
 use lib.Dec.{eqb, leb, ltb}
+use lib.IntN.{ℤ, pos, negsuc}
+use Rattle.bits.specs.Signed.{toSigned}
 use lib.ListN.{length, length-append}
 use Rattle.lists.specs.Lists.{pick}
 use Rattle.lists.specs.Bytes.{Bytes, between, clean, okText}
@@ -59,12 +61,9 @@ decimal-on (suc k) n done = go (ltb n 10) (decimal-on k (n / 10) ((48 + n % 10) 
 decimal-size : (n : ℕ) → length (decimal n) ≤ 10
 decimal-size n = omega (arith, decimal-on 10 n [])
 
-signed-size : (n : ℕ) → length (signed n) ≤ 11
-signed-size n = go (ltb n 2147483648)
-  where
-    go : (t : Bool) → length {A = ℕ} (elim t [ true ↦ decimal n | false ↦ 45 ∷ decimal (4294967296 - n) ]) ≤ 11
-    go true = omega (arith, decimal-size n)
-    go false = omega (arith, decimal-size (4294967296 - n))
+signed-size : (z : ℤ) → length (signed z) ≤ 11
+signed-size (pos n) = omega (arith, decimal-size n)
+signed-size (negsuc n) = omega (arith, decimal-size (suc n))
 
 -- ---- lines
 
@@ -134,13 +133,13 @@ unfolding listingOf bytes
 listing-size visited tried n s cs g m =
     let a = line-size (bytes "visited") (decimal visited) in
     let k = line-size (bytes "tried") (decimal tried) in
-    let b = line-size (bytes "priority") (signed (s .priority)) in
+    let b = line-size (bytes "priority") (signed (toSigned (s .priority))) in
     let l = cat-size (λ x. lineOf (bytes "link") (escaped x)) okLink 518 link-size (s .links) (g .links .each) in
     let p = cat-size envLine okProp 1286 env-size (s .properties) (g .properties .each) in
     let t = cat-size (λ x. lineOf (bytes "tag") (escaped x)) okTag 261 tag-size (s .tags) (g .tags .each) in
     let c = cat-size commandLine shortText 2057 command-size cs (m .each) in
     simp length-append
-    (omega (arith, a, k, b, l, p, t, c, decimal-size visited, decimal-size tried, signed-size (s .priority), mode-size (s .mode), owner-size (bytes "owner") (s .owner) (g .owner), owner-size (bytes "group") (s .group) (g .group), watch-size (s .watch), g .links .few, g .properties .few, g .tags .few, g .runs .few, m .count))
+    (omega (arith, a, k, b, l, p, t, c, decimal-size visited, decimal-size tried, signed-size (toSigned (s .priority)), mode-size (s .mode), owner-size (bytes "owner") (s .owner) (g .owner), owner-size (bytes "group") (s .group) (g .group), watch-size (s .watch), g .links .few, g .properties .few, g .tags .few, g .runs .few, m .count))
 
 refusal-size : (n : ℕ) (f : Refusal) → length (printed (refused (line n f))) ≤ 35
 unfolding printed bytes

@@ -1,6 +1,10 @@
 -- `listing_lines::put_signed_line` meets its contract.
 -- Assumes nothing.
-use Rattle.listing_lines.proofs.Laws.{line-behind}
+use mathlib.Core.Path.{ap}
+use mir.Facts.{toZ-ofZ}
+use mir.Syntax.{w32}
+use mir.Val.{toZ, ofZ}
+use Rattle.listing_lines.proofs.Laws.{behind-is, line-behind}
 use Rattle.engine.specs.Listing.{signed}
 use native.Mathlib.Omega.{arith}
 use borrow.Author.Needs.{needs}
@@ -9,13 +13,16 @@ use Rattle.listing_lines.proofs.put_signed_line.Tie as tie
 
 returns : tie.Need-returns
 returns c =
-    let entry = c .before .before .before .before .before .before .before .before .before .before .before .before .before .before .args in
+    let start = c .before .before .before .before .before .before .before .before .before .before .before .before .before .before in
+    let entry = start .args in
     let put-word = c .before .before .before .before .before .before .before .before .before .before .put-word in
     let put-signed = c .before .before .before .before .before .before .put-signed in
     let put-byte = c .before .before .put-byte in (
       put-byte .ensures .0,
-      line-behind (entry .word .now) (signed (entry .n)) (entry .out .now) (put-word .last .0) (put-signed .last .0) (put-byte .last .0)
-          (entry .front) (put-word .result) (put-signed .result) (put-byte .result) (put-word .ensures .1) (put-signed .ensures .1)
+      line-behind (entry .word .now) (signed (entry .z)) (entry .out .now) (put-word .last .0) (put-signed .last .0) (put-byte .last .0)
+          (entry .front) (put-word .result) (put-signed .result) (put-byte .result) (put-word .ensures .1)
+          (behind-is (signed (toZ w32 (ofZ w32 (entry .z)))) (signed (entry .z)) (put-word .last .0) (put-signed .last .0) (put-word .result)
+          (put-signed .result) (ap signed (toZ-ofZ (start .fits .z))) (put-signed .ensures .1))
           (put-byte .ensures .1),
     )
 

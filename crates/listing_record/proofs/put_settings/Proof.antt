@@ -2,6 +2,7 @@
 -- Assumes nothing.
 use mathlib.Core.List.{_++_}
 use Rattle.lists.specs.Quoted.{bytes}
+use Rattle.bits.specs.Signed.{toSigned}
 use Rattle.engine.specs.Listing.{signed, lineOf, setLine, modeLine, watchLine}
 use Rattle.listing_lines.proofs.Laws.{behind-both}
 use borrow.Author.Needs.{needs}
@@ -22,7 +23,7 @@ returns c =
           let watched = watchLine (s .watch) in
           let groupLine = setLine (bytes "group") (s .group) in
           let ownerLine = setLine (bytes "owner") (s .owner) in
-          behind-both (lineOf (bytes "priority") (signed (s .priority))) (modeLine (s .mode) ++ (ownerLine ++ (groupLine ++ watched))) (args .out .now) (priority .last .0) (watch .last .0) (args .front) (priority .result) (watch .result)
+          behind-both (lineOf (bytes "priority") (signed (toSigned (s .priority)))) (modeLine (s .mode) ++ (ownerLine ++ (groupLine ++ watched))) (args .out .now) (priority .last .0) (watch .last .0) (args .front) (priority .result) (watch .result)
           (priority .ensures .1 n s h)
           (behind-both (modeLine (s .mode)) (ownerLine ++ (groupLine ++ watched)) (priority .last .0) (mode .last .0) (watch .last .0) (priority .result) (mode .result) (watch .result) (mode .ensures .1 n s h)
           (behind-both ownerLine (groupLine ++ watched) (mode .last .0) (owner .last .0) (watch .last .0) (mode .result) (owner .result) (watch .result) (owner .ensures .1 n s h)
