@@ -1,12 +1,10 @@
 //! Compares two engines byte for byte over generated cases.
 
 use std::fmt;
-use std::fs;
-use std::io;
 use std::ops::Range;
-use std::path::Path;
 
-use crate::generate::{self, Case, Extra, Rooms};
+use crate::extra_replies::extra_replies;
+use crate::generate::{self, Case};
 use crate::joined;
 use crate::request::Written;
 pub use crate::request::{AnswerArray, Engine, Reference, Request};
@@ -60,8 +58,12 @@ impl Reply {
     }
 }
 
-fn reply(engine: &dyn Engine, operation: Operation, request: &Request, room: usize) -> Reply {
-    let mut written = Written::with_target(room);
+pub fn reply(
+    engine: &dyn Engine,
+    operation: Operation,
+    request: &Request,
+    mut written: Written,
+) -> Reply {
     let answer = engine.answer(request, &mut written);
     Reply {
         operation,
@@ -82,11 +84,16 @@ pub fn run_reply(
         device,
         outcome,
     };
-    reply(engine, Operation::Run, &request, room)
+    reply(engine, Operation::Run, &request, Written::with_target(room))
 }
 
 pub fn check_reply(engine: &dyn Engine, text: &[u8]) -> Reply {
-    reply(engine, Operation::Check, &Request::Check { text }, 0)
+    reply(
+        engine,
+        Operation::Check,
+        &Request::Check { text },
+        Written::default(),
+    )
 }
 
 /// What an engine gives for all operations of a case, the check first.
@@ -100,7 +107,12 @@ pub fn replies(engine: &dyn Engine, case: &Case) -> Vec<Reply> {
     } = case;
     let close_of = |operation, outcome| {
         let request = Request::Close { device, outcome };
-        reply(engine, operation, &request, rooms.close)
+        reply(
+            engine,
+            operation,
+            &request,
+            Written::with_target(rooms.close),
+        )
     };
     let run = run_reply(engine, text, device, outcome, rooms.run);
     let mut replies = vec![
@@ -109,7 +121,7 @@ pub fn replies(engine: &dyn Engine, case: &Case) -> Vec<Reply> {
             engine,
             Operation::Fresh,
             &Request::Fresh { device },
-            rooms.fresh,
+            Written::with_target(rooms.fresh),
         ),
         close_of(Operation::Close, outcome),
     ];
@@ -119,45 +131,6 @@ pub fn replies(engine: &dyn Engine, case: &Case) -> Vec<Reply> {
     replies.insert(2, run);
     replies.extend(extra_replies(engine, case));
     replies
-}
-
-fn extra_replies(engine: &dyn Engine, case: &Case) -> Vec<Reply> {
-    match &case.extra {
-        Extra::Nothing => Vec::new(),
-        Extra::Convert { old, newer, older } => convert_replies(engine, case, old, *newer, *older),
-        Extra::Write { room } => write_replies(engine, &case.text, *room),
-    }
-}
-
-fn write_replies(engine: &dyn Engine, text: &[u8], room: usize) -> Vec<Reply> {
-    let write = |operation, text| reply(engine, operation, &Request::Write { text }, room);
-    let once = write(Operation::Write, text);
-    let again = write(Operation::WriteAgain, once.record());
-    vec![once, again]
-}
-
-/// There and back from either edition.
-fn convert_replies(
-    engine: &dyn Engine,
-    case: &Case,
-    old: &[u8],
-    newer_room: usize,
-    older_room: usize,
-) -> Vec<Reply> {
-    let device = &case.device;
-    let newer = |operation, outcome| {
-        let request = Request::Newer { device, outcome };
-        reply(engine, operation, &request, newer_room)
-    };
-    let older = |operation, outcome| {
-        let request = Request::Older { device, outcome };
-        reply(engine, operation, &request, older_room)
-    };
-    let there = newer(Operation::Newer, old);
-    let back = older(Operation::OlderAfterNewer, there.record());
-    let other_way = older(Operation::Older, &case.outcome);
-    let back_again = newer(Operation::NewerAfterOlder, other_way.record());
-    vec![there, back, other_way, back_again]
 }
 
 /// The number of the first refusal of fresh, run, the close after it, and what else is asked
@@ -177,8 +150,8 @@ pub struct Difference {
     pub operation: Operation,
     pub left: AnswerArray,
     pub right: AnswerArray,
-    /// The first byte of the targets that differs.
-    pub first_byte: Option<usize>,
+    /// Where what they wrote differs first.
+    pub place: Option<String>,
 }
 
 impl fmt::Display for Difference {
@@ -188,9 +161,9 @@ impl fmt::Display for Difference {
             "{:?}: left {:?}, right {:?}",
             self.operation, self.left, self.right
         )?;
-        match self.first_byte {
-            Some(byte) => write!(f, ", targets differ from byte {byte}"),
-            None => write!(f, ", targets are equal"),
+        match &self.place {
+            Some(place) => write!(f, ", {place}"),
+            None => write!(f, ", what is written is equal"),
         }
     }
 }
@@ -199,12 +172,11 @@ impl fmt::Display for Difference {
 pub fn first_difference(left: &[Reply], right: &[Reply]) -> Option<Difference> {
     let mut both = left.iter().zip(right);
     let (left, right) = both.find(|(left, right)| left != right)?;
-    let mut bytes = left.written.target.iter().zip(&right.written.target);
     Some(Difference {
         operation: left.operation,
         left: left.answer,
         right: right.answer,
-        first_byte: bytes.position(|(left, right)| left != right),
+        place: left.written.first_difference(&right.written),
     })
 }
 
@@ -291,57 +263,4 @@ pub fn compare_joins(
         findings.into_iter().map(finding)
     });
     findings.take(limit).collect()
-}
-
-/// Writes the inputs of a case to files in the directory.
-pub fn write_case(directory: &Path, case: &Case) -> io::Result<()> {
-    let Rooms { fresh, run, close } = case.rooms;
-    fs::create_dir_all(directory)?;
-    fs::write(directory.join("text"), &case.text)?;
-    fs::write(directory.join("device"), &case.device)?;
-    fs::write(directory.join("outcome"), &case.outcome)?;
-    let mut rooms = format!("fresh {fresh}\nrun {run}\nclose {close}\n");
-    match &case.extra {
-        Extra::Nothing => {}
-        Extra::Convert { old, newer, older } => {
-            fs::write(directory.join("old"), old)?;
-            rooms += &format!("newer {newer}\nolder {older}\n");
-        }
-        Extra::Write { room } => rooms += &format!("write {room}\n"),
-    }
-    fs::write(directory.join("rooms"), rooms)
-}
-
-/// Reads a case that `write_case` has written.
-pub fn read_case(directory: &Path) -> io::Result<Case> {
-    let rooms = fs::read_to_string(directory.join("rooms"))?;
-    let room = |word: &str| {
-        rooms
-            .lines()
-            .find_map(|line| line.strip_prefix(word)?.trim().parse().ok())
-            .ok_or_else(|| io::Error::other(format!("no length for {word} in the file rooms")))
-    };
-    let extra = if directory.join("old").exists() {
-        Extra::Convert {
-            old: fs::read(directory.join("old"))?,
-            newer: room("newer")?,
-            older: room("older")?,
-        }
-    } else if let Ok(room) = room("write") {
-        Extra::Write { room }
-    } else {
-        Extra::Nothing
-    };
-    Ok(Case {
-        shape: String::from("replayed"),
-        text: fs::read(directory.join("text"))?,
-        device: fs::read(directory.join("device"))?,
-        outcome: fs::read(directory.join("outcome"))?,
-        rooms: Rooms {
-            fresh: room("fresh")?,
-            run: room("run")?,
-            close: room("close")?,
-        },
-        extra,
-    })
 }

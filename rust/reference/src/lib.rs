@@ -2,11 +2,13 @@
 //! generator of cases and a harness that compares it with another engine.
 
 pub mod bytes;
+pub mod case_files;
 pub mod compare;
 pub mod content;
 pub mod coverage;
 pub mod device;
 pub mod engine;
+pub mod extra_replies;
 pub mod generate;
 pub mod joined;
 pub mod key;

@@ -16,6 +16,10 @@ pub struct Answer {
     pub visited: u32,
     pub used: u32,
     pub tried: u32,
+    /// Of the record or file of a set that is refused, from 1; 0 for none.
+    pub position: u32,
+    /// Of the entries that were made; what they are is the operation's.
+    pub count: u32,
 }
 
 impl From<Refusal> for Answer {
@@ -23,6 +27,7 @@ impl From<Refusal> for Answer {
         Answer {
             number: refusal.fault.number(),
             line: refusal.line,
+            position: refusal.position,
             ..Answer::default()
         }
     }
@@ -32,6 +37,7 @@ impl From<Refusal> for Answer {
 struct Accepted {
     visited: u32,
     tried: u32,
+    count: u32,
     record: Vec<u8>,
 }
 
@@ -88,6 +94,7 @@ fn deliver(result: Result<Accepted, Refusal>, target: &mut [u8]) -> Answer {
             Answer {
                 visited: accepted.visited,
                 tried: accepted.tried,
+                count: accepted.count,
                 used: record.len() as u32,
                 ..Answer::default()
             }
@@ -115,6 +122,7 @@ fn make_run(text: &[u8], device: &[u8], outcome: &[u8], room: usize) -> Result<A
         visited: finished.visited,
         tried: finished.tried,
         record: finished.outcome.encode(),
+        ..Accepted::default()
     })
 }
 

@@ -60,7 +60,11 @@ impl Fault {
 
     /// The refusal of something that stands on a line of the text.
     pub fn at_line(self, line: u32) -> Refusal {
-        Refusal { fault: self, line }
+        Refusal {
+            fault: self,
+            line,
+            position: 0,
+        }
     }
 
     /// The refusal of something that stands on no line.
@@ -73,4 +77,13 @@ impl Fault {
 pub struct Refusal {
     pub fault: Fault,
     pub line: u32,
+    /// Of the record or file of a set, from 1; 0 for none.
+    pub position: u32,
+}
+
+impl Refusal {
+    /// The same for what stands there in a set.
+    pub fn at_position(self, position: u32) -> Refusal {
+        Refusal { position, ..self }
+    }
 }

@@ -2,7 +2,7 @@
 
 use crate::operations::{self, Answer};
 
-/// Number, line, visited, used and tried, then three zeros.
+/// Number, line, visited, used, tried, position and count, then a zero.
 pub type AnswerArray = [u32; 8];
 
 /// An operation with all that it is lent.
@@ -51,6 +51,17 @@ impl Written {
             target: vec![UNWRITTEN; room],
         }
     }
+
+    /// Where two of them differ first.
+    pub fn first_difference(&self, other: &Written) -> Option<String> {
+        first_difference(&self.target, &other.target)
+            .map(|byte| format!("targets differ from byte {byte}"))
+    }
+}
+
+fn first_difference<T: PartialEq>(left: &[T], right: &[T]) -> Option<usize> {
+    let mut both = left.iter().zip(right);
+    both.position(|(left, right)| left != right)
 }
 
 pub trait Engine {
@@ -88,7 +99,9 @@ impl From<Answer> for AnswerArray {
             visited,
             used,
             tried,
+            position,
+            count,
         } = answer;
-        [number, line, visited, used, tried, 0, 0, 0]
+        [number, line, visited, used, tried, position, count, 0]
     }
 }

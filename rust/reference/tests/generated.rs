@@ -1,8 +1,8 @@
 //! What the generated cases reach, and that the comparison finds differences.
 
+use reference::case_files::{read_case, write_case};
 use reference::compare::{
-    compare_cases, compare_joins, first_number, read_case, replies, write_case, Engine, Operation,
-    Reference, Request,
+    compare_cases, compare_joins, first_number, replies, Engine, Operation, Reference, Request,
 };
 use reference::coverage::{Coverage, Fact, PIECES};
 use reference::generate::edges::EDGES;

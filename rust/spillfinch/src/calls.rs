@@ -9,6 +9,10 @@ pub const LINE: usize = 1;
 pub const VISITED: usize = 2;
 pub const USED: usize = 3;
 pub const TRIED: usize = 4;
+/// Of the record or file of a set that is refused.
+pub const POSITION: usize = 5;
+/// Of entries, or a verdict; the operation says of what.
+pub const COUNT: usize = 6;
 
 extern "C" {
     fn spillfinch_check(text: *const u8, text_length: usize, answer: *mut Answer);

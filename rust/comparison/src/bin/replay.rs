@@ -5,9 +5,8 @@ use std::path::Path;
 use std::process::ExitCode;
 
 use comparison::Linked;
-use reference::compare::{
-    first_difference, read_case, replies, Engine, Operation, Reference, Reply,
-};
+use reference::case_files::read_case;
+use reference::compare::{first_difference, replies, Engine, Operation, Reference, Reply};
 use reference::generate::Case;
 use reference::outcome::Edition;
 use reference::run_list::RunList;

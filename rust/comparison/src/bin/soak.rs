@@ -6,7 +6,8 @@ use std::process::ExitCode;
 use std::time::{Duration, Instant, SystemTime, UNIX_EPOCH};
 
 use comparison::Linked;
-use reference::compare::{compare_cases, compare_joins, write_case, Finding, Reference};
+use reference::case_files::write_case;
+use reference::compare::{compare_cases, compare_joins, Finding, Reference};
 use reference::coverage::Coverage;
 
 const CASES_AT_ONCE: u64 = 2_000;

@@ -1,0 +1,60 @@
+//! The files of a case, from which it can be replayed.
+
+use std::fs;
+use std::io;
+use std::path::Path;
+
+use crate::generate::{Case, Extra, Rooms};
+
+/// Writes the inputs of a case to files in the directory.
+pub fn write_case(directory: &Path, case: &Case) -> io::Result<()> {
+    let Rooms { fresh, run, close } = case.rooms;
+    fs::create_dir_all(directory)?;
+    fs::write(directory.join("text"), &case.text)?;
+    fs::write(directory.join("device"), &case.device)?;
+    fs::write(directory.join("outcome"), &case.outcome)?;
+    let mut rooms = format!("fresh {fresh}\nrun {run}\nclose {close}\n");
+    match &case.extra {
+        Extra::Nothing => {}
+        Extra::Convert { old, newer, older } => {
+            fs::write(directory.join("old"), old)?;
+            rooms += &format!("newer {newer}\nolder {older}\n");
+        }
+        Extra::Write { room } => rooms += &format!("write {room}\n"),
+    }
+    fs::write(directory.join("rooms"), rooms)
+}
+
+/// Reads a case that `write_case` has written.
+pub fn read_case(directory: &Path) -> io::Result<Case> {
+    let rooms = fs::read_to_string(directory.join("rooms"))?;
+    let room = |word: &str| {
+        rooms
+            .lines()
+            .find_map(|line| line.strip_prefix(word)?.trim().parse().ok())
+            .ok_or_else(|| io::Error::other(format!("no length for {word} in the file rooms")))
+    };
+    let extra = if directory.join("old").exists() {
+        Extra::Convert {
+            old: fs::read(directory.join("old"))?,
+            newer: room("newer")?,
+            older: room("older")?,
+        }
+    } else if let Ok(room) = room("write") {
+        Extra::Write { room }
+    } else {
+        Extra::Nothing
+    };
+    Ok(Case {
+        shape: String::from("replayed"),
+        text: fs::read(directory.join("text"))?,
+        device: fs::read(directory.join("device"))?,
+        outcome: fs::read(directory.join("outcome"))?,
+        rooms: Rooms {
+            fresh: room("fresh")?,
+            run: room("run")?,
+            close: room("close")?,
+        },
+        extra,
+    })
+}

@@ -1,0 +1,58 @@
+//! What an engine gives for what a case asks for beside the check, the fresh record, the run and
+//! the close.
+
+use crate::compare::{reply, Engine, Operation, Reply, Request};
+use crate::generate::{Case, Extra};
+use crate::request::Written;
+
+pub fn extra_replies(engine: &dyn Engine, case: &Case) -> Vec<Reply> {
+    match &case.extra {
+        Extra::Nothing => Vec::new(),
+        Extra::Convert { old, newer, older } => convert_replies(engine, case, old, *newer, *older),
+        Extra::Write { room } => write_replies(engine, &case.text, *room),
+    }
+}
+
+fn write_replies(engine: &dyn Engine, text: &[u8], room: usize) -> Vec<Reply> {
+    let write = |operation, text| {
+        let request = Request::Write { text };
+        reply(engine, operation, &request, Written::with_target(room))
+    };
+    let once = write(Operation::Write, text);
+    let again = write(Operation::WriteAgain, once.record());
+    vec![once, again]
+}
+
+/// There and back from either edition.
+fn convert_replies(
+    engine: &dyn Engine,
+    case: &Case,
+    old: &[u8],
+    newer_room: usize,
+    older_room: usize,
+) -> Vec<Reply> {
+    let device = &case.device;
+    let newer = |operation, outcome| {
+        let request = Request::Newer { device, outcome };
+        reply(
+            engine,
+            operation,
+            &request,
+            Written::with_target(newer_room),
+        )
+    };
+    let older = |operation, outcome| {
+        let request = Request::Older { device, outcome };
+        reply(
+            engine,
+            operation,
+            &request,
+            Written::with_target(older_room),
+        )
+    };
+    let there = newer(Operation::Newer, old);
+    let back = older(Operation::OlderAfterNewer, there.record());
+    let other_way = older(Operation::Older, &case.outcome);
+    let back_again = newer(Operation::NewerAfterOlder, other_way.record());
+    vec![there, back, other_way, back_again]
+}
