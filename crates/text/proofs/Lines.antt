@@ -118,6 +118,21 @@ lines-physical s (b ∷ u) =
     step-physical (ends s b u) (eqb b 10) b (linesIn (next s b) u) (lines-cons (next s b) u) refl (λ e. and-both (eqb b 10) (isEmpty u || not (isSlash s)) e .0)
     ∙ newline-more (eqb b 10) (physical (linesIn (next s b) u)) (newlines u) (lines-physical (next s b) u)
 
+-- the bytes of lines, and one more for each
+unfoldable pub total : List (List ℕ) → ℕ
+total [] = 0
+total (l ∷ ls) = suc (length l + total ls)
+
+step-total : (t : Bool) (b : ℕ) (ls : List (List ℕ)) → Cons ls → total (splitStep t b ls) ≡ suc (total ls)
+unfolding total
+step-total true b ls c = omega arith
+step-total false b ls c = rw (c .is) (omega arith)
+
+pub lines-total : (s : Stage) (t : List ℕ) → total (linesIn s t) ≡ suc (length t)
+unfolding linesIn total
+lines-total s [] = refl
+lines-total s (b ∷ t) = step-total (ends s b t) b (linesIn (next s b) t) (lines-cons (next s b) t) ∙ ap suc (lines-total (next s b) t)
+
 pub stage-append : (s : Stage) (u v : List ℕ) → stageOf s (u ++ v) ≡ stageOf (stageOf s u) v
 unfolding stageOf
 stage-append s [] v = refl
@@ -135,7 +150,7 @@ unfolding linesTo
 linesTo-cons s [] = record { first = []; rest = []; is = refl }
 linesTo-cons s (b ∷ u) = step-cons (eqb b 10 && not (isSlash s)) b (linesTo (next s b) u) (linesTo-cons (next s b) u)
 
-not-last : (u v : List ℕ) → isEmpty (u ++ (10 ∷ v)) ≡ false
+pub not-last : (u v : List ℕ) → isEmpty (u ++ (10 ∷ v)) ≡ false
 not-last [] v = refl
 not-last (b ∷ u) v = refl
 

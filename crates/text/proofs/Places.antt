@@ -35,7 +35,7 @@ linesBehind [] = []
 linesBehind (b ∷ bs) = linesIn blank bs
 
 -- behind a line's end a line begins, or nothing follows
-begin-blank : (s : Stage) (b : ℕ) (bs : List ℕ) → ends s b bs ≡ true → linesIn (next s b) bs ≡ linesIn blank bs
+pub begin-blank : (s : Stage) (b : ℕ) (bs : List ℕ) → ends s b bs ≡ true → linesIn (next s b) bs ≡ linesIn blank bs
 unfolding linesIn
 begin-blank s b [] e = refl
 begin-blank s b (c ∷ bs) e =
@@ -61,9 +61,13 @@ size-le s (b ∷ bs) = at (ends s b bs) (size-le (next s b) bs)
     at true h = omega arith
     at false h = omega arith
 
--- the lines from a place on, numbered from n; none past the text's end
+-- the lines from a place on; none past the text's end
+abbrev pub linesFrom : List ℕ → ℕ → List (List ℕ)
+linesFrom t at = pick (leb at (length t)) (linesIn blank (drop at t)) []
+
+-- and numbered from n
 unfoldable pub linesAt : List ℕ → ℕ → ℕ → List (Placed (List ℕ))
-linesAt t at n = numbered n (pick (leb at (length t)) (linesIn blank (drop at t)) [])
+linesAt t at n = numbered n (linesFrom t at)
 
 pub lines-start : (t : List ℕ) → linesAt t 0 1 ≡ lines t
 unfolding linesAt lines
@@ -84,14 +88,17 @@ behind t e h = ⊎-elim last inside (eq-or-lt-of-le h)
     inside q = rw (rest-at t e q, le-leb (e + 1) (length t) (omega arith))
 
 -- a line as lent, up to the newline that ends it or the text's end, and the lines behind it
-pub lines-step : (t : List ℕ) (at e n : ℕ) → at ≤ length t → e ≡ at + lineSize blank (drop at t)
-    → linesAt t at n ≡ line n (take (e - at) (drop at t)) ∷ linesAt t (e + 1) (suc (newlines (take (e - at) (drop at t)) + n))
-unfolding linesAt numbered
-lines-step t at e n h q =
+pub from-step : (t : List ℕ) (at e : ℕ) → at ≤ length t → e ≡ at + lineSize blank (drop at t) → linesFrom t at ≡ take (e - at) (drop at t) ∷ linesFrom t (e + 1)
+from-step t at e h q =
     let u : e ≤ length t = omega (arith, size-le blank (drop at t), length-drop at t) in
     let v : e - at ≡ lineSize blank (drop at t) = omega arith in
     let w : drop (lineSize blank (drop at t)) (drop at t) ≡ drop e t = drop-drop (lineSize blank (drop at t)) at t ∙ ap (λ (k : ℕ). drop k t) (sym q) in
     rw (le-leb at (length t) h, line-first blank (drop at t), w, behind t e u, v)
+
+pub lines-step : (t : List ℕ) (at e n : ℕ) → at ≤ length t → e ≡ at + lineSize blank (drop at t)
+    → linesAt t at n ≡ line n (take (e - at) (drop at t)) ∷ linesAt t (e + 1) (suc (newlines (take (e - at) (drop at t)) + n))
+unfolding linesAt numbered
+lines-step t at e n h q = ap (numbered n) (from-step t at e h q)
 
 -- ---- a line by its physical lines: a run without newlines, and then
 

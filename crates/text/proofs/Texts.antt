@@ -4,6 +4,7 @@ use Prim.Native.Nat.{ℕ, _+_, _≤_}
 use mathlib.Core.Path.{_≡_, refl, sym, _∙_, ap, subst}
 use mathlib.Core.Bool.{Bool, true, false}
 use mathlib.Core.List.{List, [], _∷_, _++_, map, map-append, append-nil}
+use mathlib.Core.Option.{none}
 use native.Mathlib.Nat.{add-zero}
 use native.Mathlib.Omega.{arith}
 use lib.Dec.{T, leb, leb→le}
@@ -16,7 +17,7 @@ use Rattle.lists.specs.Sizes.{mostText, mostRules}
 use Rattle.lists.proofs.Lists.{All-map}
 use Rattle.lists.proofs.Checked.{holds-bind, holds-at, holds-seq}
 use Rattle.text.specs.Lines.{stageOf, unjoined, numbered, lines, newlines}
-use Rattle.text.specs.Engine.{Engine, LineRead, skip}
+use Rattle.text.specs.Engine.{Reader, Engine, LineRead, skip, went}
 use Rattle.text.specs.Reading.{collect, ruleCount, settle, readLent, reads, readText}
 use Rattle.text.specs.Rules.{rulesIn, rulesOf}
 use Rattle.text.specs.Joined.{EndsWhole}
@@ -33,6 +34,20 @@ inPlace-shift {A} {B} f k (line n a ∷ ps) = ap (λ (qs : List (Placed B)). lin
 inPlace-lines : {A B : Type 0} (f : A → B) (P : ℕ → Type 0) (ps : List (Placed A)) → All (λ (p : Placed A). P (lineOf p)) ps → All (λ (p : Placed B). P (lineOf p)) (map (inPlace f) ps)
 inPlace-lines f P [] h = tt
 inPlace-lines f P (line n a ∷ ps) (h, hs) = (h, inPlace-lines f P ps hs)
+
+-- an engine that only reads, for laws of reading
+abbrev pub readingOf : Reader → Engine
+readingOf R =
+    record {
+      reader = R;
+      Device = Unit {0};
+      State = Unit {0};
+      device = λ bs. none;
+      decode = λ d bs. none;
+      encode = λ s. [];
+      step = λ d r s. ok (went s true);
+      tried = λ d r s. 0;
+    }
 
 module _ (E : Engine) where
   -- what makes a text accepted

@@ -15,7 +15,7 @@ use Rattle.lists.proofs.Moves.{ap-at}
 use Rattle.splice.proofs.Laws.{length-stored}
 use Rattle.text.specs.Reading.{readText}
 use Rattle.text.specs.Run.{refusal, acceptance}
-use Rattle.text.proofs.Texts.{read}
+use Rattle.text.proofs.Texts.{readingOf, read}
 use Rattle.rules.specs.Pair.{Rule}
 use Rattle.rules.specs.Reading.{reader}
 use Rattle.insertion.specs.Append as insertion
@@ -23,7 +23,7 @@ use Rattle.table.proofs.Rules.{segment}
 use Rattle.reader.specs.Texts.{Read}
 use Rattle.reader.specs.declared.Counts.{Counts}
 use Rattle.writing.specs.Writing.{written, writeChecked, write}
-use Rattle.writing.proofs.Texts.{reading, wanted}
+use Rattle.writing.proofs.Texts.{wanted}
 use Rattle.rule_writing.specs.Tables.{RulesIn}
 
 -- ---- the checks
@@ -51,7 +51,7 @@ module _ (t : List ℕ) (room : ℕ) where
 
 -- no text is written longer than a full one and a newline
 pub written-few : (t : List ℕ) (rs : List (Placed Rule)) → readText reader t ≡ ok rs → length (written rs) ≤ mostText + 1
-written-few t rs e = omega (arith, wanted .no-longer t rs e, read reading t rs e .parts .short)
+written-few t rs e = omega (arith, wanted .no-longer t rs e, read (readingOf reader) t rs e .parts .short)
 
 pub rules-in : (x v r t l js : List ℕ) (c : Counts) → Read x v r t l js c → mostRules * 4 ≤ length t → RulesIn v r t (c .rules)
 rules-in x v r t l js c w h = record {

@@ -10,20 +10,19 @@ use lib.Dec.{leb}
 use lib.ListN.{length, length-append}
 use borrow.Author.Tests.{le-leb, leb-true}
 use Rattle.lists.specs.Lists.{pick, cat, All}
-use Rattle.lists.specs.Runs.{span, onto, splitStep}
+use Rattle.lists.specs.Runs.{span}
 use Rattle.lists.specs.Checked.{Checked, refused, ok, _>>=_, _>>_, require, Placed, line, inPlace, Holds}
 use Rattle.lists.specs.Refusal.{Refusal, target-short, text-long}
 use Rattle.lists.specs.Sizes.{mostText, mostRules}
-use Rattle.lists.proofs.Runs.{Cons}
 use Rattle.lists.proofs.Checked.{holds-bind, holds-seq, holds-require, holds-at, holds-self}
-use Rattle.text.specs.Engine.{Engine, LineRead, skip, fault, rule, went}
-use Rattle.text.specs.Lines.{Stage, blank, ends, next, stageOf, linesIn, numbered, lines, newlines, unjoined}
+use Rattle.text.specs.Engine.{LineRead, skip, fault, rule}
+use Rattle.text.specs.Lines.{blank, stageOf, linesIn, numbered, lines, newlines, unjoined}
 use Rattle.text.specs.Reading.{ruleCount, hasLabel, goesTo, readLent, reads, readText}
 use Rattle.text.specs.Rules.{rulesIn, rulesOf}
-use Rattle.text.proofs.Lines.{linesTo, lines-cons, lines-seam}
+use Rattle.text.proofs.Lines.{linesTo, lines-seam, total, lines-total}
 use Rattle.text.proofs.Collect.{Faultless}
 use Rattle.text.proofs.Settle.{Aimed, Settled}
-use Rattle.text.proofs.Texts.{Parts, read-ok, Read, read}
+use Rattle.text.proofs.Texts.{readingOf, Parts, read-ok, read}
 use Rattle.rules.specs.Pair.{Rule, labelOf, gotoOf}
 use Rattle.rules.specs.Reading.{readLine, reader}
 use Rattle.writing.specs.Writing.{lineText, ruleOf, written, writeChecked}
@@ -31,36 +30,7 @@ use Rattle.writing.specs.Wanted.{Reads, Wanted}
 use Rattle.writing.proofs.Values.{Fair}
 use Rattle.writing.proofs.Lines.{LineAgain, lent-again, lent-reads, one-line}
 
--- the text level's laws of reading, for this language: what runs is left out
-abbrev pub reading : Engine
-reading =
-    record {
-      reader = reader;
-      Device = Unit {0};
-      State = Unit {0};
-      device = λ bs. none;
-      decode = λ d bs. none;
-      encode = λ s. [];
-      step = λ d r s. ok (went s true);
-      tried = λ d r s. 0;
-    }
-
 -- ---- what the lines of a text give
-
--- the bytes of lines, and a newline for each
-unfoldable total : List (List ℕ) → ℕ
-total [] = 0
-total (l ∷ ls) = suc (length l + total ls)
-
-step-total : (t : Bool) (b : ℕ) (ls : List (List ℕ)) → Cons ls → total (splitStep t b ls) ≡ suc (total ls)
-unfolding total
-step-total true b ls c = omega arith
-step-total false b ls c = rw (c .is) (omega arith)
-
-lines-total : (s : Stage) (t : List ℕ) → total (linesIn s t) ≡ suc (length t)
-unfolding linesIn total
-lines-total s [] = refl
-lines-total s (b ∷ t) = step-total (ends s b t) b (linesIn (next s b) t) (lines-cons (next s b) t) ∙ ap suc (lines-total (next s b) t)
 
 -- a rule that can be written, from a line of some length
 abbrev Good : Placed Rule → Type 0
@@ -135,11 +105,11 @@ goes-same g (line n r ∷ ps) (line m s ∷ qs) e l h =
     at true k f = (m, refl)
     at false k f = f k
 
-aimed-same : (g : Option (List ℕ)) (ps qs : List (Placed Rule)) → map ruleOf ps ≡ map ruleOf qs → Aimed reading g ps → Aimed reading g qs
+aimed-same : (g : Option (List ℕ)) (ps qs : List (Placed Rule)) → map ruleOf ps ≡ map ruleOf qs → Aimed (readingOf reader) g ps → Aimed (readingOf reader) g qs
 aimed-same none ps qs e a = tt
 aimed-same (some g) ps qs e (l, h) = goes-same g ps qs e l h
 
-pub settled-same : (ps qs : List (Placed Rule)) → map ruleOf ps ≡ map ruleOf qs → Settled reading ps → Settled reading qs
+pub settled-same : (ps qs : List (Placed Rule)) → map ruleOf ps ≡ map ruleOf qs → Settled (readingOf reader) ps → Settled (readingOf reader) qs
 settled-same [] [] e s = tt
 settled-same [] (line m s ∷ qs) e t = absurd (omega (arith, ap length e))
 settled-same (line n r ∷ ps) [] e s = tt
@@ -160,20 +130,20 @@ count-length (line n (rule r) ∷ xs) = ap suc (count-length xs)
 reads-back : (t : List ℕ) (rs : List (Placed Rule)) → readText reader t ≡ ok rs → length (written rs) ≤ mostText → Reads (written rs) (map ruleOf rs)
 unfolding rulesOf lines
 reads-back t rs e h =
-    let r = read reading t rs e in
+    let r = read (readingOf reader) t rs e in
     let g : All Good rs = rw (r .same) (text-gives t .good) in
     let s : ReadSame rs (reads reader (written rs)) = rw (written-lines rs g) (read-same 1 rs g) in
     let few : length rs ≤ mostRules = rw (r .same) (rw (count-length (reads reader t)) (r .parts .few)) in
-    let p : Parts reading (written rs) = record {
+    let p : Parts (readingOf reader) (written rs) = record {
       short = h;
       faultless = s .faultless;
       few = rw (s .count) few;
       settled = settled-same rs (rulesOf reader (written rs)) (sym (s .same)) (rw (r .same) (r .parts .settled));
     } in
-    (rulesOf reader (written rs), read-ok reading (written rs) p, s .same)
+    (rulesOf reader (written rs), read-ok (readingOf reader) (written rs) p, s .same)
 
 no-longer : (t : List ℕ) (rs : List (Placed Rule)) → readText reader t ≡ ok rs → length (written rs) ≤ length t + 1
-no-longer t rs e = let r = read reading t rs e in rw (r .same) (omega (arith, text-gives t .size))
+no-longer t rs e = let r = read (readingOf reader) t rs e in rw (r .same) (omega (arith, text-gives t .size))
 
 -- what is written does not depend on the numbers of lines
 written-same : (ps qs : List (Placed Rule)) → map ruleOf ps ≡ map ruleOf qs → written ps ≡ written qs
