@@ -50,12 +50,16 @@ readsAt t at n = map (inPlace (readLent reader)) (linesAt t at n)
 
 -- ---- the rules so far
 
-pub record UpTo (x v r t l : List ℕ) (at number : ℕ) (c : Counts) : Type 0 where
+-- a table with room for all rules, filled so far
+pub record Filled (v r t l : List ℕ) (c : Counts) : Type 0 where
   pub few : c .rules ≤ mostRules
   pub rules-room : length t ≡ mostRules * 4
   pub labels-room : length l ≡ mostRules
   pub rows : Rows v r (c .rows) (c .used)
   pub rules : (i : ℕ) → i < c .rules → RuleIn v r t l (c .rows) i
+
+pub record UpTo (x v r t l : List ℕ) (at number : ℕ) (c : Counts) : Type 0 where
+  pub filled : Filled v r t l c
   pub whole : collected x ≡ (collect (mostRules - c .rules) (readsAt x at number) >>= λ qs. ok (rulesFrom v r t 0 (c .rules) ++ qs))
 
 -- what m bytes can hold still fits
@@ -76,13 +80,16 @@ pub record RulePut (i number from : ℕ) (s : Fill) (t l t′ l′ : List ℕ) :
   pub size : length l′ ≡ length l
 
 -- before line number is read, at a place
-pub record Reads (x : List ℕ) (at number : ℕ) (bs v r t l : List ℕ) (c : Counts) : Type 0 where
+pub record Stands (x : List ℕ) (at number : ℕ) (bs v r : List ℕ) (c : Counts) : Type 0 where
   pub short : length x ≤ mostText
   pub starts : at ≤ length x
   pub number-at : number ≤ at + 1
   pub copy-room : length bs ≡ 1024
-  pub upto : UpTo x v r t l at number c
   pub fits : Fits (length x + 1 - at) v r c
+
+pub record Reads (x : List ℕ) (at number : ℕ) (bs v r t l : List ℕ) (c : Counts) : Type 0 where
+  pub stands : Stands x at number bs v r c
+  pub upto : UpTo x v r t l at number c
 
 -- line number, at a place
 abbrev pub TakenIs : List ℕ → ℕ → ℕ → List ℕ → List ℕ → List ℕ → List ℕ → Taken → Type 0

@@ -46,7 +46,7 @@ take-line-requires : tie.Need-take-line-requires Inv-loop μ-loop
 take-line-requires c κs =
     let entry = c .before .before .before .before .before .before .before .before .before .before .before .before in
     let turn = c .before .before .before .before .before .before .loop .inv in
-    record { short = entry .pre .0; starts = omega arith; number-at = turn .1; copy-room = turn .6; upto = turn .2; fits = turn .3 }
+    record { stands = record { short = entry .pre .0; starts = omega arith; number-at = turn .1; copy-room = turn .6; fits = turn .3 }; upto = turn .2 }
 
 same-length : tie.Need-same-length Inv-loop μ-loop
 same-length c = c .before .before .before .before .before .before .before .before .before .before .before .before .take-line .kept .1 .1 .1 .1 .0 ∙ c .before .before .before .before .before .before .before .before .before .before .before .before .before .before .before .before .before .before .before .loop .inv .4
@@ -55,10 +55,10 @@ same-length-2 : tie.Need-same-length-2 Inv-loop μ-loop
 same-length-2 c = c .before .before .before .before .before .before .before .before .before .before .before .before .take-line .kept .1 .1 .1 .1 .1 .0 ∙ c .before .before .before .before .before .before .before .before .before .before .before .before .before .before .before .before .before .before .before .loop .inv .5
 
 same-length-3 : tie.Need-same-length-3 Inv-loop μ-loop
-same-length-3 c = c .before .before .before .before .before .before .before .before .before .before .before .before .take-line .kept .1 .1 .1 .1 .1 .1 .0 ∙ (c .before .before .before .before .before .before .before .before .before .before .before .before .before .before .before .before .before .before .before .loop .inv .2 .rules-room ∙ sym (c .before .before .before .before .before .before .before .before .before .before .before .before .before .before .before .before .before .before .before .before .before .before .before .before .before .pre .2))
+same-length-3 c = c .before .before .before .before .before .before .before .before .before .before .before .before .take-line .kept .1 .1 .1 .1 .1 .1 .0 ∙ (c .before .before .before .before .before .before .before .before .before .before .before .before .before .before .before .before .before .before .before .loop .inv .2 .filled .rules-room ∙ sym (c .before .before .before .before .before .before .before .before .before .before .before .before .before .before .before .before .before .before .before .before .before .before .before .before .before .pre .2))
 
 same-length-4 : tie.Need-same-length-4 Inv-loop μ-loop
-same-length-4 c = c .before .before .before .before .before .before .before .before .before .before .before .before .take-line .kept .1 .1 .1 .1 .1 .1 .1 .0 ∙ (c .before .before .before .before .before .before .before .before .before .before .before .before .before .before .before .before .before .before .before .loop .inv .2 .labels-room ∙ sym (c .before .before .before .before .before .before .before .before .before .before .before .before .before .before .before .before .before .before .before .before .before .before .before .before .before .pre .3))
+same-length-4 c = c .before .before .before .before .before .before .before .before .before .before .before .before .take-line .kept .1 .1 .1 .1 .1 .1 .1 .0 ∙ (c .before .before .before .before .before .before .before .before .before .before .before .before .before .before .before .before .before .before .before .loop .inv .2 .filled .labels-room ∙ sym (c .before .before .before .before .before .before .before .before .before .before .before .before .before .before .before .before .before .before .before .before .before .before .before .before .before .pre .3))
 
 returns : tie.Need-returns Inv-loop μ-loop
 returns c =
@@ -80,16 +80,16 @@ loop-again c =
     (t .1, t .2, t .3, t .4, take-line .kept .1 .1 .1 .1 .0 ∙ turn .4, take-line .kept .1 .1 .1 .1 .1 .0 ∙ turn .5, take-line .kept .1 .1 .1 .0 ∙ turn .6)
 
 same-length-7 : tie.Need-same-length-7 Inv-loop μ-loop
-same-length-7 c = c .before .loop .inv .2 .rules-room ∙ sym (c .before .before .before .before .before .before .before .pre .2)
+same-length-7 c = c .before .loop .inv .2 .filled .rules-room ∙ sym (c .before .before .before .before .before .before .before .pre .2)
 
 same-length-8 : tie.Need-same-length-8 Inv-loop μ-loop
-same-length-8 c = c .before .loop .inv .2 .labels-room ∙ sym (c .before .before .before .before .before .before .before .pre .3)
+same-length-8 c = c .before .loop .inv .2 .filled .labels-room ∙ sym (c .before .before .before .before .before .before .before .pre .3)
 
 returns-2 : tie.Need-returns-2 Inv-loop μ-loop
 returns-2 c =
     let turn = c .before .loop in
     let upto = turn .inv .2 in
-    (upto-end (c .before .before .before .before .before .before .before .args .text .now) (turn .values) (turn .rows) (turn .rules) (turn .labels) (turn .at) (turn .number) (turn .counts) upto (omega arith), upto .few, upto .rows, upto .rules)
+    (upto-end (c .before .before .before .before .before .before .before .args .text .now) (turn .values) (turn .rows) (turn .rules) (turn .labels) (turn .at) (turn .number) (turn .counts) upto (omega arith), upto .filled .few, upto .filled .rows, upto .filled .rules)
 
 pub read-lines-spec : {M : Type 1} → statement M
 read-lines-spec =

@@ -22,34 +22,34 @@ answered w o e =
     let entry = w .before .before .before .before .before .before .before .before .before .before .before .before in
     let a = entry .args in
     let bytes-of = w .before .before .before .bytes-of in
-    let said = w .read-line .ensures (length (a .text .now) - a .line .end) (rw (bytes-of .ensures) (line-room (a .text .now) (a .copy .now) (a .at) (a .number) (a .values .now) (a .rows .now) (a .rules .now) (a .labels .now) (a .counts) (entry .pre .0) (a .line) (entry .pre .1))) in
+    let said = w .read-line .ensures (length (a .text .now) - a .line .end) (rw (bytes-of .ensures) (line-room (a .text .now) (a .copy .now) (a .at) (a .number) (a .values .now) (a .rows .now) (a .counts) (entry .pre .0 .stands) (a .line) (entry .pre .1))) in
     rw (← e) (rw (bytes-of .ensures) at said)
 
 add-next : tie.Need-add-next
 add-next c =
     let entry = c .before .before .before .before .before .before .before in
     let a = entry .args in
-    omega (arith, next-small (a .text .now) (a .copy .now) (a .at) (a .number) (a .values .now) (a .rows .now) (a .rules .now) (a .labels .now) (a .counts) (entry .pre .0) (a .line) (entry .pre .1) .1)
+    omega (arith, next-small (a .text .now) (a .copy .now) (a .at) (a .number) (a .values .now) (a .rows .now) (a .counts) (entry .pre .0 .stands) (a .line) (entry .pre .1) .1)
 
 add-following : tie.Need-add-following
 add-following c =
     let entry = c .before .before .before .before .before .before .before .before in
     let a = entry .args in
-    let small = next-small (a .text .now) (a .copy .now) (a .at) (a .number) (a .values .now) (a .rows .now) (a .rules .now) (a .labels .now) (a .counts) (entry .pre .0) (a .line) (entry .pre .1) in
+    let small = next-small (a .text .now) (a .copy .now) (a .at) (a .number) (a .values .now) (a .rows .now) (a .counts) (entry .pre .0 .stands) (a .line) (entry .pre .1) in
     omega (arith, small .0, small .1)
 
 add-following-2 : tie.Need-add-following-2
 add-following-2 c =
     let entry = c .before .before .before .before .before .before .before .before in
     let a = entry .args in
-    let small = next-small (a .text .now) (a .copy .now) (a .at) (a .number) (a .values .now) (a .rows .now) (a .rules .now) (a .labels .now) (a .counts) (entry .pre .0) (a .line) (entry .pre .1) in
+    let small = next-small (a .text .now) (a .copy .now) (a .at) (a .number) (a .values .now) (a .rows .now) (a .counts) (entry .pre .0 .stands) (a .line) (entry .pre .1) in
     omega (arith, small .0, small .1)
 
 bytes-of-requires : tie.Need-bytes-of-requires
 bytes-of-requires c κs =
     let entry = c .before .before .before .before .before .before .before .before in
     let a = entry .args in
-    let (from, to) = within (a .text .now) (a .copy .now) (a .at) (a .number) (a .values .now) (a .rows .now) (a .rules .now) (a .labels .now) (a .counts) (entry .pre .0) (a .line) (entry .pre .1) in
+    let (from, to) = within (a .text .now) (a .copy .now) (a .at) (a .number) (a .values .now) (a .rows .now) (a .counts) (entry .pre .0 .stands) (a .line) (entry .pre .1) in
     (from, to, entry .pre .1 .room)
 
 read-line-requires : tie.Need-read-line-requires
@@ -57,8 +57,8 @@ read-line-requires c κs =
     let entry = c .before .before .before .before .before .before .before .before .before .before .before in
     let a = entry .args in
     let bytes-of = c .before .before .bytes-of in
-    let room = room-less _ (length (heldIn (a .text .now) (a .copy .now) (a .at) (a .line)) + 1) (a .values .now) (a .rows .now) (start (a .counts .rows) (a .counts .used)) (omega arith) (line-room (a .text .now) (a .copy .now) (a .at) (a .number) (a .values .now) (a .rows .now) (a .rules .now) (a .labels .now) (a .counts) (entry .pre .0) (a .line) (entry .pre .1)) in
-    (rw (bytes-of .ensures) (entry .pre .1 .clean), entry .pre .0 .upto .rows, rw (bytes-of .ensures) room)
+    let room = room-less _ (length (heldIn (a .text .now) (a .copy .now) (a .at) (a .line)) + 1) (a .values .now) (a .rows .now) (start (a .counts .rows) (a .counts .used)) (omega arith) (line-room (a .text .now) (a .copy .now) (a .at) (a .number) (a .values .now) (a .rows .now) (a .counts) (entry .pre .0 .stands) (a .line) (entry .pre .1)) in
+    (rw (bytes-of .ensures) (entry .pre .1 .clean), entry .pre .0 .upto .filled .rows, rw (bytes-of .ensures) room)
 
 returns : tie.Need-returns
 returns c =
@@ -74,7 +74,7 @@ put-rule-requires c κs =
     let fill = c .before .before .before .before .fill .given in
     let t = answered (c .before .before .before .before .before .before .before .before .before .before) (lines.Rule (fill .0 .0)) (fill .1) in
     let g = t .1 in
-    (c .before .before .if1 .left, reads .upto .rules-room, reads .upto .labels-room, omega (arith, reads .short, reads .starts, reads .number-at), g .rows, omega (arith, g .room .rows, g .room .few), g .held .label-in, g .held .goto-in)
+    (c .before .before .if1 .left, reads .upto .filled .rules-room, reads .upto .filled .labels-room, omega (arith, reads .stands .short, reads .stands .starts, reads .stands .number-at), g .rows, omega (arith, g .room .rows, g .room .few), g .held .label-in, g .held .goto-in)
 
 returns-2 : tie.Need-returns-2
 returns-2 c =

@@ -6,7 +6,7 @@ use Rattle.lines.specs.declared.LineFound.{LineFound}
 use Rattle.lines.specs.declared.LineFound.the-variants as found
 use Rattle.lines.specs.Ends.{FoundIs}
 use Rattle.reader.specs.Read.{Reads}
-use Rattle.reader.proofs.Places.{reads-with, taken-open, taken-bad}
+use Rattle.reader.proofs.Places.{stands-with, taken-open, taken-bad}
 use Rattle.reader.proofs.take_line.Statement.{statement}
 use Rattle.reader.proofs.take_line.Tie as tie
 
@@ -21,8 +21,10 @@ reads : (w : tie.After-find-line)
 reads w =
     let entry = w .before .before .before .before .before .before .before .before in
     let a = entry .args in
-    reads-with (a .text .now) (a .copy .now) (w .find-line .last .1 .1 .0) (a .at) (a .number) (a .values .now) (a .rows .now) (a .rules .now) (a .labels .now) (a .counts) (entry .pre)
-    (w .find-line .kept .1 .1 .0)
+    record {
+      stands = stands-with (a .text .now) (a .copy .now) (w .find-line .last .1 .1 .0) (a .at) (a .number) (a .values .now) (a .rows .now) (a .counts) (entry .pre .stands) (w .find-line .kept .1 .1 .0);
+      upto = entry .pre .upto;
+    }
 
 take-held-requires : tie.Need-take-held-requires
 take-held-requires c κs =
