@@ -129,5 +129,5 @@ module _ (x v r t l : List ℕ) (at end n : ℕ) (c : Counts) (u : UpTo x v r t 
           filled = filled-more v r t l v′ r′ t′ l′ n c (u .filled) s m m′ g put few;
           whole = whole
               ∙ rw (y, z, rules-more v r t l v′ r′ t′ l′ n c (u .filled) s m m′ g put few)
-                (behind-rule (rulesFrom v r t 0 (c .rules)) (line n (held v′ r′ (c .rows) s)) (collect (mostRules - (c .rules + 1)) after));
+              (behind-rule (rulesFrom v r t 0 (c .rules)) (line n (held v′ r′ (c .rows) s)) (collect (mostRules - (c .rules + 1)) after));
         }

@@ -15,7 +15,7 @@ use Rattle.refusals.specs.Refusals.{refusalOf}
 use Rattle.rules.specs.Reading.{readLine, reader}
 use Rattle.table.specs.Table.{rulesFrom, Rows}
 use Rattle.table.specs.Rules.{RuleIn}
-use Rattle.table.specs.Puts.{Four}
+use Rattle.table.specs.Puts.{Four, Kept}
 use Rattle.rule_lines.specs.declared.Fill.{Fill}
 use Rattle.rule_lines.specs.Filling.{held, Room}
 use Rattle.rule_lines.specs.Answers.{Grown}
@@ -34,7 +34,7 @@ start n used = record { label = 0; goto = 0; rows = n; used = used }
 
 abbrev pub LineIs : List ℕ → ℕ → ℕ → ℕ → List ℕ → List ℕ → List ℕ → List ℕ → LineRead → Type 0
 LineIs bs beyond n used v r v′ r′ lines.Skipped = (readLine bs ≡ text.skip) × (v′ ≡ v) × (r′ ≡ r)
-LineIs bs beyond n used v r v′ r′ (lines.Fault f) = readLine bs ≡ text.fault (refusalOf f)
+LineIs bs beyond n used v r v′ r′ (lines.Fault f) = (readLine bs ≡ text.fault (refusalOf f)) × Kept used n v r v′ r′
 LineIs bs beyond n used v r v′ r′ (lines.Rule s) =
     (readLine bs ≡ text.rule (held v′ r′ n s)) × Grown n (start n used) v r (beyond + length bs + 1) s v′ r′ beyond
 

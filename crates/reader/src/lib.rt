@@ -24,7 +24,13 @@ pub enum LineRead {
 }
 
 // A line without its newline, and without NUL, behind n rows.
-pub fn read_line(line: &[u8], values: &mut [u8], rows: &mut [u16], n: usize, used: usize) -> LineRead
+pub fn read_line(
+    line: &[u8],
+    values: &mut [u8],
+    rows: &mut [u16],
+    n: usize,
+    used: usize,
+) -> LineRead
     requires { ⌜ (holds 0 (now line) ≡ false) × Rows (now values) (now rows) n used × Room (length (now line) + 1) (now values) (now rows) (start n used) ⌝ }
     ensures { λ r. ⌜ ((beyond : ℕ) → Room (beyond + length (now (line .entry)) + 1) (now (values .entry)) (now (rows .entry)) (start n used) → LineIs (now (line .entry)) beyond n used (now (values .entry)) (now (rows .entry)) (now (values .exit)) (now (rows .exit)) r) ⌝ }
 {
@@ -54,7 +60,14 @@ pub struct Counts {
     pub used: usize,
 }
 
-pub fn put_rule(rules: &mut [u16], labels: &mut [u16], i: usize, number: usize, from: usize, fill: Fill)
+pub fn put_rule(
+    rules: &mut [u16],
+    labels: &mut [u16],
+    i: usize,
+    number: usize,
+    from: usize,
+    fill: Fill,
+)
     requires { ⌜ (i < mostRules) × (length (now rules) ≡ mostRules * 4) × (length (now labels) ≡ mostRules) × (number < 65536) × (from ≤ fill .rows) × (fill .rows < 65536) × (fill .label ≤ fill .rows) × (fill .goto ≤ fill .rows) ⌝ }
     ensures { λ _. ⌜ RulePut i number from fill (now (rules .entry)) (now (labels .entry)) (now (rules .exit)) (now (labels .exit)) ⌝ }
 {

@@ -35,7 +35,7 @@ pub record Grown (from : ℕ) (s : Fill) (v r : List ℕ) (m : ℕ) (s′ : Fill
 
 -- of a pair at a place, where left pairs were still allowed, and so many bytes lie beyond the line
 abbrev pub StepIs : List ℕ → ℕ → ℕ → ℕ → ℕ → Fill → List ℕ → List ℕ → List ℕ → List ℕ → Step → Type 0
-StepIs line at left from beyond s v r v′ r′ (step.Refused f) = pairsOn left (held v r from s) (drop at line) ≡ refused (refusalOf f)
+StepIs line at left from beyond s v r v′ r′ (step.Refused f) = (pairsOn left (held v r from s) (drop at line) ≡ refused (refusalOf f)) × Kept (s .used) (s .rows) v r v′ r′
 StepIs line at left from beyond s v r v′ r′ (step.Last s′) =
     (pairsOn left (held v r from s) (drop at line) ≡ ok (held v′ r′ from s′)) × Grown from s v r (beyond + (length line - at) + 1) s′ v′ r′ beyond
 StepIs line at left from beyond s v r v′ r′ (step.Next s′ i) =
@@ -44,6 +44,6 @@ StepIs line at left from beyond s v r v′ r′ (step.Next s′ i) =
     × (0 < left) × (at < i) × (i ≤ length line)
 
 abbrev pub PairsAre : List ℕ → ℕ → ℕ → Fill → List ℕ → List ℕ → List ℕ → List ℕ → PairsRead → Type 0
-PairsAre line at beyond s v r v′ r′ (pairs.Refused f) = readPairs 32 false false (drop at line) ≡ refused (refusalOf f)
+PairsAre line at beyond s v r v′ r′ (pairs.Refused f) = (readPairs 32 false false (drop at line) ≡ refused (refusalOf f)) × Kept (s .used) (s .rows) v r v′ r′
 PairsAre line at beyond s v r v′ r′ (pairs.Read s′) =
     (readPairs 32 false false (drop at line) ≡ ok (held v′ r′ (s .rows) s′)) × Grown (s .rows) s v r (beyond + (length line - at) + 1) s′ v′ r′ beyond

@@ -9,6 +9,7 @@ use Rattle.rule_lines.specs.declared.PairsRead.{PairsRead}
 use Rattle.rule_lines.specs.declared.PairsRead.the-variants as pairs
 use Rattle.rule_lines.specs.Filling.{Room}
 use Rattle.rule_lines.specs.Answers.{PairsAre}
+use Rattle.rule_lines.proofs.Filling.{kept-refl}
 use Rattle.reader.specs.Read.{start}
 use Rattle.reader.proofs.Line.{line-long, line-blank, line-comment, line-rule, room-less, grown-from}
 use borrow.Author.Needs.{needs}
@@ -38,7 +39,7 @@ byte-at-requires c κs = search needs
 
 -- src/lib.rt:31:9
 returns : tie.Need-returns
-returns c = λ beyond room. line-long (c .before .before .before .before .before .before .args .line .now) (c .if1 .taken)
+returns c = λ beyond room. (line-long (c .before .before .before .before .before .before .args .line .now) (c .if1 .taken), kept-refl _ _ (c .before .before .before .before .before .before .args .values .now) (c .before .before .before .before .before .before .args .rows .now))
 
 -- src/lib.rt:34:9
 returns-2 : tie.Need-returns-2
@@ -70,7 +71,9 @@ same-length-2 c = search needs
 
 -- src/lib.rt:24:1
 returns-4 : tie.Need-returns-4
-returns-4 c = λ beyond room. line-rule (c .before .before .before .before .before .before .before .before .before .before .before .before .before .before .before .before .before .before .args .line .now) (omega arith) (c .before .before .before .before .before .before .before .before .before .before .before .before .before .before .before .before .before .before .pre .0) (c .before .before .before .before .before .before .before .before .before .before .before .before .before .before .blank-end .result) (c .before .before .before .before .before .before .before .before .before .before .before .before .before .before .blank-end .ensures .place) (c .before .before .before .before .before .before .before .before .before .before .before .if2 .left) (λ e. c .before .before .before .before .before .before .before .before .before .before .if3 .left (c .before .before .before .before .before .before .before .before .before .before .before .before .before .byte-at .ensures ∙ e)) ∙ ap ruleRead (answered (c .before .before .before .before .before .before .before) (pairs.Refused (c .before .f .given .0 .0)) (c .before .f .given .1) beyond room)
+returns-4 c = λ beyond room.
+    let t = answered (c .before .before .before .before .before .before .before) (pairs.Refused (c .before .f .given .0 .0)) (c .before .f .given .1) beyond room in
+    (line-rule (c .before .before .before .before .before .before .before .before .before .before .before .before .before .before .before .before .before .before .args .line .now) (omega arith) (c .before .before .before .before .before .before .before .before .before .before .before .before .before .before .before .before .before .before .pre .0) (c .before .before .before .before .before .before .before .before .before .before .before .before .before .before .blank-end .result) (c .before .before .before .before .before .before .before .before .before .before .before .before .before .before .blank-end .ensures .place) (c .before .before .before .before .before .before .before .before .before .before .before .if2 .left) (λ e. c .before .before .before .before .before .before .before .before .before .before .if3 .left (c .before .before .before .before .before .before .before .before .before .before .before .before .before .byte-at .ensures ∙ e)) ∙ ap ruleRead (t .0), t .1)
 
 -- src/lib.rt:24:1
 same-length-3 : tie.Need-same-length-3

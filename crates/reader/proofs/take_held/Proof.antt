@@ -88,7 +88,7 @@ returns-3 c =
     let entry = c .before .before .before .before .before .before .before .before .before .before .before .before .before .before .before .before .before .before .before in
     let a = entry .args in
     let f = c .before .f .given in
-    taken-fault (a .text .now) (a .copy .now) (a .at) (a .number) (a .values .now) (a .rows .now) (a .rules .now) (a .labels .now) (a .counts) (entry .pre .0) (a .line) (entry .pre .1) _ (answered (c .before .before .before .before .before .before .before) (lines.Fault (f .0 .0)) (f .1))
+    taken-fault (a .text .now) (a .copy .now) (a .at) (a .number) (a .values .now) (a .rows .now) (a .rules .now) (a .labels .now) (a .counts) (entry .pre .0) (a .line) (entry .pre .1) _ (answered (c .before .before .before .before .before .before .before) (lines.Fault (f .0 .0)) (f .1) .0)
 
 returns-4 : tie.Need-returns-4
 returns-4 c =

@@ -16,7 +16,7 @@ use Rattle.pair_content.specs.declared.Judged.the-variants as judged
 use Rattle.pairs.specs.Bounds.{PairIn, ReadIn}
 use Rattle.rule_lines.specs.declared.Noted.the-variants as noted′
 use Rattle.rule_lines.specs.Answers.{notedBy}
-use Rattle.rule_lines.proofs.Filling.{NotedIs, noted-is}
+use Rattle.rule_lines.proofs.Filling.{NotedIs, noted-is, kept-refl}
 use Rattle.rule_lines.proofs.Pair.{read-here, step-refused, step-extra, again-here, costs, room-here, step-last, step-comma, step-next}
 use borrow.Author.Needs.{needs}
 use Rattle.rule_lines.proofs.pair_step.Statement.{statement}
@@ -53,7 +53,7 @@ enum-known-p c = search needs
 
 -- src/lib.rt:77:17
 returns : tie.Need-returns
-returns c = λ from beyond h room. step-extra (c .before .before .before .before .before .before .before .before .args .line .now) (c .before .before .before .before .before .before .before .before .args .at) (pairRead (c .before .before .before .before .read-pair .result)) (c .before .before .before .before .read-pair .ensures .0) (c .before .before .before .before .before .before .before .before .args .left) _ (c .before .before .p .given .0 .0) (ap pairRead (c .before .before .p .given .1)) (c .if1 .taken)
+returns c = λ from beyond h room. (step-extra (c .before .before .before .before .before .before .before .before .args .line .now) (c .before .before .before .before .before .before .before .before .args .at) (pairRead (c .before .before .before .before .read-pair .result)) (c .before .before .before .before .read-pair .ensures .0) (c .before .before .before .before .before .before .before .before .args .left) _ (c .before .before .p .given .0 .0) (ap pairRead (c .before .before .p .given .1)) (c .if1 .taken), kept-refl _ _ (c .before .before .before .before .before .before .before .before .args .values .now) (c .before .before .before .before .before .before .before .before .args .rows .now))
 
 -- src/lib.rt:81:19
 note-requires : tie.Need-note-requires
@@ -104,7 +104,8 @@ same-length-4 c = search needs
 returns-3 : tie.Need-returns-3
 returns-3 c = λ from beyond h room.
     let a = c .before .before .before .before .before .before .before .before .before .before .before .before .before .before .before .before .before .before .before .before .before .before .args in
-    step-comma (a .line .now) (a .at) (c .before .before .before .before .before .before .before .before .before .before .before .before .before .before .before .before .p .given .0 .0) (here (c .before .before .before .before .before .before .before .before .before .before .before .before .before .before .before .before)) (inside (c .before .before .before .before .before .before .before .before .before .before .before .before .before .before .before .before)) (a .fill) (c .before .before .before .before .before .before .before .before .before .before .before .noted .given .0 .0) (once (c .before .before .before .before .before .before .before .before .before .before .before)) (a .left) (a .values .now) (a .rows .now) (c .before .before .before .before .before .before .before .put-pair .last .0) (c .before .before .before .before .before .before .before .put-pair .last .1 .0) (c .before .before .before .before .before .before .before .put-pair .result) from beyond (omega arith) h room (c .before .before .before .before .before .before .before .put-pair .ensures) (c .before .before .if2 .left) (c .if3 .taken)
+    let noted = once (c .before .before .before .before .before .before .before .before .before .before .before) in
+    (step-comma (a .line .now) (a .at) (c .before .before .before .before .before .before .before .before .before .before .before .before .before .before .before .before .p .given .0 .0) (here (c .before .before .before .before .before .before .before .before .before .before .before .before .before .before .before .before)) (inside (c .before .before .before .before .before .before .before .before .before .before .before .before .before .before .before .before)) (a .fill) (c .before .before .before .before .before .before .before .before .before .before .before .noted .given .0 .0) (once (c .before .before .before .before .before .before .before .before .before .before .before)) (a .left) (a .values .now) (a .rows .now) (c .before .before .before .before .before .before .before .put-pair .last .0) (c .before .before .before .before .before .before .before .put-pair .last .1 .0) (c .before .before .before .before .before .before .before .put-pair .result) from beyond (omega arith) h room (c .before .before .before .before .before .before .before .put-pair .ensures) (c .before .before .if2 .left) (c .if3 .taken), rw (noted .used, noted .rows) at (c .before .before .before .before .before .before .before .put-pair .ensures .kept))
 
 -- src/lib.rt:97:39
 add-t26 : tie.Need-add-t26
@@ -136,11 +137,11 @@ returns-4 c = λ from beyond h room.
 returns-5 : tie.Need-returns-5
 returns-5 c = λ from beyond h room.
     let a = c .before .before .before .before .before .before .before .before .before .before .before .args in
-    again-here (a .line .now) (a .at) (c .before .before .before .before .before .p .given .0 .0) (here (c .before .before .before .before .before)) (inside (c .before .before .before .before .before)) (a .left) (a .values .now) (a .rows .now) from (a .fill) (omega arith) h (ap notedBy (sym (c .enum-told .given .1)) ∙ c .before .before .note .ensures)
+    (again-here (a .line .now) (a .at) (c .before .before .before .before .before .p .given .0 .0) (here (c .before .before .before .before .before)) (inside (c .before .before .before .before .before)) (a .left) (a .values .now) (a .rows .now) from (a .fill) (omega arith) h (ap notedBy (sym (c .enum-told .given .1)) ∙ c .before .before .note .ensures), kept-refl _ _ (a .values .now) (a .rows .now))
 
 -- src/lib.rt:70:1
 returns-6 : tie.Need-returns-6
-returns-6 c = λ from beyond h room. step-refused (c .before .before .before .before .before .before .before .args .line .now) (c .before .before .before .before .before .before .before .args .at) (pairRead (c .before .before .before .read-pair .result)) (c .before .before .before .read-pair .ensures .0) (c .before .before .before .before .before .before .before .args .left) _ (c .before .f .given .0 .0) (ap pairRead (c .before .f .given .1))
+returns-6 c = λ from beyond h room. (step-refused (c .before .before .before .before .before .before .before .args .line .now) (c .before .before .before .before .before .before .before .args .at) (pairRead (c .before .before .before .read-pair .result)) (c .before .before .before .read-pair .ensures .0) (c .before .before .before .before .before .before .before .args .left) _ (c .before .f .given .0 .0) (ap pairRead (c .before .f .given .1)), kept-refl _ _ (c .before .before .before .before .before .before .before .args .values .now) (c .before .before .before .before .before .before .before .args .rows .now))
 
 pub pair-step-spec : {M : Type 1} → statement M
 pair-step-spec =

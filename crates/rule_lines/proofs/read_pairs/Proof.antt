@@ -14,7 +14,7 @@ use Rattle.rule_lines.specs.declared.Step.{Step}
 use Rattle.rule_lines.specs.declared.Step.the-variants as step
 use Rattle.rule_lines.specs.Filling.{pairsOn, held, Held, Room}
 use Rattle.rule_lines.specs.Answers.{Grown, StepIs}
-use Rattle.rule_lines.proofs.Filling.{held-none, grown-start, grown-on, room-zero, zero-room}
+use Rattle.rule_lines.proofs.Filling.{kept-on, held-none, grown-start, grown-on, room-zero, zero-room}
 use Rattle.rule_lines.proofs.Steps.{on-start}
 use Rattle.rule_lines.proofs.read_pairs.Statement.{statement}
 use Rattle.rule_lines.proofs.read_pairs.Tie as tie
@@ -76,7 +76,12 @@ same-length-2 c = c .before .before .before .before .before .before .before .pai
 
 -- src/lib.rt:127:17
 returns : tie.Need-returns Inv-loop μ-loop
-returns c = λ beyond room. sym (c .before .before .before .before .before .before .before .before .before .before .loop .inv .1) ∙ taken (c .before .before .before .before .before .before .before) (step.Refused (c .before .f .given .0 .0)) (c .before .f .given .1) beyond room
+returns c = λ beyond room.
+    let a = c .before .before .before .before .before .before .before .before .before .before .before .before .before .before .args in
+    let l = c .before .before .before .before .before .before .before .before .before .before .loop in
+    let t = taken (c .before .before .before .before .before .before .before) (step.Refused (c .before .f .given .0 .0)) (c .before .f .given .1) beyond room in
+    let g = l .inv .2 beyond room in
+    (sym (l .inv .1) ∙ t .0, kept-on (a .used) (a .n) (l .fill .used) (l .fill .rows) (a .values .now) (a .rows .now) (l .values) (l .rows) _ _ (g .used) (g .rows) (g .kept) (t .1))
 
 -- src/lib.rt:129:24
 enum-known-all : tie.Need-enum-known-all Inv-loop μ-loop

@@ -1,0 +1,4 @@
+pub mod Numbers
+pub mod Kept
+pub mod Notes
+pub mod Lines
