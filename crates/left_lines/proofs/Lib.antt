@@ -1,0 +1,3 @@
+pub mod Fates
+pub mod Lines
+pub mod Leaves
