@@ -22,7 +22,7 @@ impl Engine for Linked {
 }
 
 fn call(request: &Request, written: &mut Written, answer: &mut AnswerArray) {
-    let target = &mut written.target;
+    let Written { target, strikes } = written;
     match *request {
         Request::Check { text } => calls::check(text, answer),
         Request::Fresh { device } => calls::fresh(device, target, answer),
@@ -33,6 +33,7 @@ fn call(request: &Request, written: &mut Written, answer: &mut AnswerArray) {
         } => calls::run(text, device, outcome, target, answer),
         Request::Close { device, outcome } => calls::close(device, outcome, target, answer),
         Request::Write { text } => calls::write(text, target, answer),
+        Request::Strike { text } => calls::strike(text, target, strikes, answer),
         Request::Newer { device, outcome } => calls::newer(device, outcome, target, answer),
         Request::Older { device, outcome } => calls::older(device, outcome, target, answer),
     }
@@ -62,6 +63,7 @@ impl Engine for LinkedApart {
                 outcome: &own(outcome),
             }),
             Request::Write { text } => call(Request::Write { text: &own(text) }),
+            Request::Strike { text } => call(Request::Strike { text: &own(text) }),
             Request::Newer { device, outcome } => call(Request::Newer {
                 device: &own(device),
                 outcome: &own(outcome),

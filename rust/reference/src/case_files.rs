@@ -21,6 +21,9 @@ pub fn write_case(directory: &Path, case: &Case) -> io::Result<()> {
             rooms += &format!("newer {newer}\nolder {older}\n");
         }
         Extra::Write { room } => rooms += &format!("write {room}\n"),
+        Extra::Strike { room, strikes } => {
+            rooms += &format!("strike {room}\nstrikes {strikes}\n");
+        }
     }
     fs::write(directory.join("rooms"), rooms)
 }
@@ -42,6 +45,11 @@ pub fn read_case(directory: &Path) -> io::Result<Case> {
         }
     } else if let Ok(room) = room("write") {
         Extra::Write { room }
+    } else if let Ok(strikes) = room("strikes") {
+        Extra::Strike {
+            room: room("strike")?,
+            strikes,
+        }
     } else {
         Extra::Nothing
     };

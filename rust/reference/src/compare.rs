@@ -24,6 +24,10 @@ pub enum Operation {
     Write,
     /// Of the text that was written.
     WriteAgain,
+    Strike,
+    /// Of what a strike has left.
+    StrikeAgain,
+    CheckStruck,
 }
 
 /// What an operation gave: its answer and all that it wrote to.
@@ -49,6 +53,16 @@ impl Reply {
 
     pub fn tried(&self) -> u32 {
         self.answer[4]
+    }
+
+    pub fn count(&self) -> u32 {
+        self.answer[6]
+    }
+
+    /// The struck lines, each with its fault.
+    pub fn strikes(&self) -> impl Iterator<Item = &[u16]> {
+        let entries = self.written.strikes.chunks_exact(2);
+        entries.take(self.count() as usize)
     }
 
     /// The target, cut at the used length.

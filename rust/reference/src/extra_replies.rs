@@ -10,6 +10,7 @@ pub fn extra_replies(engine: &dyn Engine, case: &Case) -> Vec<Reply> {
         Extra::Nothing => Vec::new(),
         Extra::Convert { old, newer, older } => convert_replies(engine, case, old, *newer, *older),
         Extra::Write { room } => write_replies(engine, &case.text, *room),
+        Extra::Strike { room, strikes } => strike_replies(engine, &case.text, *room, *strikes),
     }
 }
 
@@ -21,6 +22,21 @@ fn write_replies(engine: &dyn Engine, text: &[u8], room: usize) -> Vec<Reply> {
     let once = write(Operation::Write, text);
     let again = write(Operation::WriteAgain, once.record());
     vec![once, again]
+}
+
+fn strike_replies(engine: &dyn Engine, text: &[u8], room: usize, numbers: usize) -> Vec<Reply> {
+    let strike = |operation, text| {
+        let request = Request::Strike { text };
+        let written = Written::with_target(room).with_strikes(numbers);
+        reply(engine, operation, &request, written)
+    };
+    let once = strike(Operation::Strike, text);
+    let again = strike(Operation::StrikeAgain, once.record());
+    let request = Request::Check {
+        text: once.record(),
+    };
+    let check = reply(engine, Operation::CheckStruck, &request, Written::default());
+    vec![once, again, check]
 }
 
 /// There and back from either edition.

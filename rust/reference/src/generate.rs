@@ -10,6 +10,8 @@ mod pairs;
 mod patterns;
 pub mod rng;
 mod rules_text;
+mod strike_edges;
+mod struck;
 mod vocabulary;
 mod world;
 
@@ -24,6 +26,7 @@ use faults::FAULTY_PAIRS;
 use pairs::{assignment_pair, pair};
 use rng::Rng;
 use rules_text::{joined_pairs, lines, rules_text};
+use struck::text_to_strike;
 use world::{world, World};
 
 #[derive(Clone, Debug)]
@@ -49,7 +52,8 @@ pub struct Rooms {
 pub fn case(seed: u64) -> Case {
     let rng = &mut Rng::new(seed);
     let mut case = match rng.below(1_000) {
-        0..=559 => meaningful(rng),
+        0..=529 => meaningful(rng),
+        530..=559 => return with_text_to_strike(rng),
         560..=659 => with_faulty_pair(rng),
         660..=709 => with_any_pairing(rng),
         710..=799 => return at_an_edge(rng),
@@ -145,10 +149,18 @@ pub fn pairing_shape(row: &KeyRow, operator: Operator) -> String {
 }
 
 fn at_an_edge(rng: &mut Rng) -> Case {
-    let edges: Vec<&Edge> = EDGES.into_iter().flatten().collect();
+    let edges: Vec<&Edge> = EDGES.iter().copied().flatten().collect();
     let edge = rng.pick(&edges);
     let mut case = (edge.build)(rng);
     case.shape = edge.name.to_string();
+    case
+}
+
+fn with_text_to_strike(rng: &mut Rng) -> Case {
+    let world = world(rng);
+    let text = text_to_strike(rng, &world);
+    let mut case = case_of("text to strike", text, &world, rng);
+    case.extra = extra::strike(rng);
     case
 }
 

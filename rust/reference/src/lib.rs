@@ -25,11 +25,12 @@ pub mod request;
 pub mod rules;
 pub mod run_list;
 pub mod sizes;
+pub mod strike;
 pub mod template;
 pub mod text_form;
 pub mod writer;
 
 pub use device::Device;
 pub use listing::listing;
-pub use operations::{check, close, fresh, newer, older, run, write, Answer};
+pub use operations::{check, close, fresh, newer, older, run, strike, write, Answer};
 pub use outcome::Outcome;

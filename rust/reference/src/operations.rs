@@ -7,6 +7,7 @@ use crate::refusal::{Fault, Refusal};
 use crate::rules;
 use crate::run_list::RunList;
 use crate::sizes;
+use crate::strike::{self, Struck};
 use crate::writer;
 
 #[derive(Clone, Copy, Debug, Default, PartialEq, Eq)]
@@ -70,6 +71,24 @@ pub fn close(device: &[u8], outcome: &[u8], target: &mut [u8]) -> Answer {
 /// Writes the rules of a text back.
 pub fn write(text: &[u8], target: &mut [u8]) -> Answer {
     let result = make_text(text, target.len());
+    deliver(result, target)
+}
+
+/// Writes the text without the lines for which it would be refused, and the list of these lines:
+/// two numbers for each, the line and the fault.
+pub fn strike(text: &[u8], target: &mut [u8], strikes: &mut [u16]) -> Answer {
+    let result = make_struck(text, target.len(), strikes.len());
+    strikes.fill(0);
+    let list = result.iter().flat_map(|struck| &struck.strikes);
+    for (entry, strike) in strikes.chunks_exact_mut(2).zip(list) {
+        entry[0] = u16::try_from(strike.line).expect("a text has fewer lines");
+        entry[1] = strike.fault.number() as u16;
+    }
+    let result = result.map(|struck| Accepted {
+        count: struck.strikes.len() as u32,
+        record: struck.text,
+        ..Accepted::default()
+    });
     deliver(result, target)
 }
 
@@ -170,6 +189,15 @@ fn make_text(text: &[u8], room: usize) -> Result<Accepted, Refusal> {
         record: written,
         ..Accepted::default()
     })
+}
+
+fn make_struck(text: &[u8], room: usize, strikes_room: usize) -> Result<Struck, Refusal> {
+    check_room(room, sizes::TEXT)?;
+    check_room(strikes_room, 2 * sizes::STRIKES)?;
+    if text.len() > sizes::TEXT {
+        return Err(Fault::Text.without_line());
+    }
+    Ok(strike::strike(text))
 }
 
 fn check_room(room: usize, needed: usize) -> Result<(), Refusal> {

@@ -26,6 +26,9 @@ pub enum Request<'a> {
     Write {
         text: &'a [u8],
     },
+    Strike {
+        text: &'a [u8],
+    },
     Newer {
         device: &'a [u8],
         outcome: &'a [u8],
@@ -40,22 +43,38 @@ pub enum Request<'a> {
 #[derive(Clone, Debug, Default, PartialEq, Eq)]
 pub struct Written {
     pub target: Vec<u8>,
+    /// The list of struck lines, two numbers an entry.
+    pub strikes: Vec<u16>,
 }
 
 const UNWRITTEN: u8 = 0xAA;
+const UNWRITTEN_STRIKE: u16 = 0xAAAA;
 
 impl Written {
     /// A target of that length, of bytes that show where nothing is written.
     pub fn with_target(room: usize) -> Written {
         Written {
             target: vec![UNWRITTEN; room],
+            ..Written::default()
+        }
+    }
+
+    pub fn with_strikes(self, numbers: usize) -> Written {
+        Written {
+            strikes: vec![UNWRITTEN_STRIKE; numbers],
+            ..self
         }
     }
 
     /// Where two of them differ first.
     pub fn first_difference(&self, other: &Written) -> Option<String> {
+        let strikes = || {
+            first_difference(&self.strikes, &other.strikes)
+                .map(|number| format!("strikes differ from number {number}"))
+        };
         first_difference(&self.target, &other.target)
             .map(|byte| format!("targets differ from byte {byte}"))
+            .or_else(strikes)
     }
 }
 
@@ -73,7 +92,7 @@ pub struct Reference;
 
 impl Engine for Reference {
     fn answer(&self, request: &Request, written: &mut Written) -> AnswerArray {
-        let target = &mut written.target;
+        let Written { target, strikes } = written;
         let answer = match *request {
             Request::Check { text } => operations::check(text),
             Request::Fresh { device } => operations::fresh(device, target),
@@ -84,6 +103,7 @@ impl Engine for Reference {
             } => operations::run(text, device, outcome, target),
             Request::Close { device, outcome } => operations::close(device, outcome, target),
             Request::Write { text } => operations::write(text, target),
+            Request::Strike { text } => operations::strike(text, target, strikes),
             Request::Newer { device, outcome } => operations::newer(device, outcome, target),
             Request::Older { device, outcome } => operations::older(device, outcome, target),
         };

@@ -29,17 +29,11 @@ pub struct Pair {
 
 impl Rule {
     pub fn label(&self) -> Option<&[u8]> {
-        self.pairs.iter().find_map(|pair| match &pair.content {
-            Content::Label(label) => Some(label.as_slice()),
-            _ => None,
-        })
+        label_of(&self.pairs)
     }
 
     pub fn goto(&self) -> Option<&[u8]> {
-        self.pairs.iter().find_map(|pair| match &pair.content {
-            Content::Goto(label) => Some(label.as_slice()),
-            _ => None,
-        })
+        goto_of(&self.pairs)
     }
 
     pub fn matches(&self) -> impl Iterator<Item = (Operator, &Match)> {
@@ -55,6 +49,20 @@ impl Rule {
             _ => None,
         })
     }
+}
+
+pub fn label_of(pairs: &[Pair]) -> Option<&[u8]> {
+    pairs.iter().find_map(|pair| match &pair.content {
+        Content::Label(label) => Some(label.as_slice()),
+        _ => None,
+    })
+}
+
+pub fn goto_of(pairs: &[Pair]) -> Option<&[u8]> {
+    pairs.iter().find_map(|pair| match &pair.content {
+        Content::Goto(label) => Some(label.as_slice()),
+        _ => None,
+    })
 }
 
 /// The rules of an accepted text.

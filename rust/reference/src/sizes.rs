@@ -40,3 +40,5 @@ pub const OUTCOME_TARGET: usize = 18_125;
 pub const OLD_OUTCOME_TARGET: usize = 17_611;
 /// The fullest run list, and so the least room for a target of one.
 pub const RUN_LIST_TARGET: usize = 8_225;
+/// The struck lines of a text, and so the least room for a list of them.
+pub const STRIKES: usize = 16_384;

@@ -29,7 +29,7 @@ fn a_seed_gives_the_same_case_again() {
 
 #[test]
 fn every_edge_gives_its_number() {
-    for edge in EDGES.into_iter().flatten() {
+    for edge in EDGES.iter().copied().flatten() {
         for seed in 0..20 {
             let case = (edge.build)(&mut Rng::new(seed));
             let number = first_number(&replies(&Reference, &case));
@@ -60,6 +60,9 @@ const EXTRA_ANSWERS: &[(Operation, &[u32])] = &[
         &[0, 1, 10, 11, 12, 13, 14, 15, 16, 17, 19],
     ),
     (Operation::WriteAgain, &[0, 1]),
+    (Operation::Strike, &[0, 1]),
+    (Operation::StrikeAgain, &[0, 1]),
+    (Operation::CheckStruck, &[0]),
 ];
 
 #[test]
@@ -102,7 +105,7 @@ fn cases_reach_everything() {
     for fact in Fact::ALL {
         assert!(coverage.facts[&fact] >= 100, "{fact:?}");
     }
-    for edge in EDGES.into_iter().flatten() {
+    for edge in EDGES.iter().copied().flatten() {
         let shape = (edge.name.to_string(), edge.number);
         assert!(coverage.shapes.contains_key(&shape), "{}", edge.name);
     }

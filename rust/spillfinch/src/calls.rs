@@ -55,6 +55,16 @@ extern "C" {
         answer: *mut Answer,
     );
 
+    fn spillfinch_strike(
+        text: *const u8,
+        text_length: usize,
+        target: *mut u8,
+        target_length: usize,
+        strikes: *mut u16,
+        strikes_length: usize,
+        answer: *mut Answer,
+    );
+
     fn spillfinch_newer(
         device: *const u8,
         device_length: usize,
@@ -132,6 +142,20 @@ pub fn write(text: &[u8], target: &mut [u8], answer: &mut Answer) {
             text.len(),
             target.as_mut_ptr(),
             target.len(),
+            answer,
+        );
+    }
+}
+
+pub fn strike(text: &[u8], target: &mut [u8], strikes: &mut [u16], answer: &mut Answer) {
+    unsafe {
+        spillfinch_strike(
+            text.as_ptr(),
+            text.len(),
+            target.as_mut_ptr(),
+            target.len(),
+            strikes.as_mut_ptr(),
+            strikes.len(),
             answer,
         );
     }

@@ -70,6 +70,9 @@ fn show_replies(case: &Case, replies: &[Reply]) {
     for reply in replies {
         let record = reply.record();
         println!("{:?} {:?}", reply.operation, reply.answer);
+        for strike in reply.strikes() {
+            println!("    line {} struck for {}", strike[0], strike[1]);
+        }
         if record.is_empty() {
             continue;
         }
@@ -77,14 +80,16 @@ fn show_replies(case: &Case, replies: &[Reply]) {
             Operation::Close | Operation::CloseAfterRun => {
                 RunList::decode(record).map(|run_list| show_run_list(&run_list))
             }
-            Operation::Write | Operation::WriteAgain => {
-                Some(String::from_utf8_lossy(record).into_owned())
-            }
+            Operation::Write
+            | Operation::WriteAgain
+            | Operation::Strike
+            | Operation::StrikeAgain => Some(String::from_utf8_lossy(record).into_owned()),
             Operation::Older | Operation::OlderAfterNewer => {
                 Outcome::decode_edition(Edition::First, record, chain_length)
                     .map(|outcome| show_outcome(&outcome))
             }
             Operation::Check
+            | Operation::CheckStruck
             | Operation::Fresh
             | Operation::Run
             | Operation::Newer

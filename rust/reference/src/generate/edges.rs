@@ -3,6 +3,7 @@
 use super::edge_cases::*;
 use super::rng::Rng;
 use super::rules_text::broken;
+use super::strike_edges::STRIKE_EDGES;
 use super::Case;
 use crate::outcome::Watch;
 use crate::property::Property;
@@ -15,7 +16,7 @@ pub struct Edge {
     pub build: fn(&mut Rng) -> Case,
 }
 
-const fn edge(name: &'static str, number: u32, build: fn(&mut Rng) -> Case) -> Edge {
+pub const fn edge(name: &'static str, number: u32, build: fn(&mut Rng) -> Case) -> Edge {
     Edge {
         name,
         number,
@@ -841,7 +842,8 @@ pub const WRITER_EDGES: &[Edge] = &[
     }),
 ];
 
-pub const EDGES: [&[Edge]; 8] = [
+pub const EDGES: &[&[Edge]] = &[
+    STRIKE_EDGES,
     WRITER_EDGES,
     CONVERSION_EDGES,
     TEXT_EDGES,

@@ -21,6 +21,12 @@ pub enum Extra {
     Write {
         room: usize,
     },
+    /// The faulty lines of the text struck, and a strike of what that leaves.
+    Strike {
+        room: usize,
+        /// The length of the list, in numbers.
+        strikes: usize,
+    },
 }
 
 pub fn extra(rng: &mut Rng, case: &Case) -> Extra {
@@ -29,7 +35,15 @@ pub fn extra(rng: &mut Rng, case: &Case) -> Extra {
         6..=13 => Extra::Write {
             room: room(rng, sizes::TEXT),
         },
+        14..=16 => strike(rng),
         _ => Extra::Nothing,
+    }
+}
+
+pub fn strike(rng: &mut Rng) -> Extra {
+    Extra::Strike {
+        room: room(rng, sizes::TEXT),
+        strikes: room(rng, 2 * sizes::STRIKES),
     }
 }
 
