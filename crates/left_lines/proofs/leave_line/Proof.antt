@@ -1,3 +1,5 @@
+-- `left_lines::leave_line` meets its contract.
+-- Assumes nothing.
 use Rattle.left_lines.proofs.Leaves.{note-here, put-room, strike-room, fault-fits, line-left}
 use Rattle.left_lines.proofs.Lines.{bytes-size}
 use native.Mathlib.Omega.{arith}
@@ -5,76 +7,90 @@ use borrow.Author.Needs.{needs}
 use Rattle.left_lines.proofs.leave_line.Statement.{statement}
 use Rattle.left_lines.proofs.leave_line.Tie as tie
 
-extent-of-requires : tie.Need-extent-of-requires
-extent-of-requires c κs = search needs
-
 fate-of-requires : tie.Need-fate-of-requires
 fate-of-requires c κs =
     let entry = c .before .before .before .before .before .before .before .before .before .before in
-    let a = entry .args in
-    (entry .pre .2 .counts, note-here (a .text .now) (a .rules .now) (a .list .now) (a .target .now) (a .end) (a .left) (entry .pre .2) (entry .pre .0) (c .before .before .before .extent-of .result .end) (c .before .before .before .extent-of .result .newlines) (c .before .before .before .extent-of .ensures .0) (c .before .before .before .extent-of .ensures .1))
+    let extent-of = c .before .before .before .extent-of in
+    let a = entry .args in (
+      entry .pre .2 .counts,
+      note-here (a .text .now) (a .rules .now) (a .list .now) (a .target .now) (a .end) (a .left) (entry .pre .2) (entry .pre .0) (extent-of .result .end) (extent-of .result .newlines) (extent-of .ensures .0)
+          (extent-of .ensures .1),
+    )
 
 put-left-requires : tie.Need-put-left-requires
 put-left-requires c κs =
     let entry = c .before .before .before .before .before .before .before .before .before .before .before .before in
+    let extent-of = c .before .before .before .before .before .extent-of in
+    let fate-of = c .before .fate-of in
     let a = entry .args in
-    let b = bytes-size (a .text .now) (a .left .at) (c .before .before .before .before .before .extent-of .result .end) (c .before .before .before .before .before .extent-of .result .newlines) (entry .pre .0) (c .before .before .before .before .before .extent-of .ensures .0) (c .before .before .before .before .before .extent-of .ensures .1) 0 in
-    (b .0, b .1, b .2, put-room (a .text .now) (a .rules .now) (a .list .now) (a .target .now) (a .end) (a .left) (entry .pre .2) (entry .pre .0) (c .before .before .before .before .before .extent-of .result .end) (c .before .before .before .before .before .extent-of .result .newlines) (c .before .before .before .before .before .extent-of .ensures .0) (c .before .before .before .before .before .extent-of .ensures .1) (c .before .fate-of .result) (c .before .fate-of .ensures))
+    let b = bytes-size (a .text .now) (a .left .at) (extent-of .result .end) (extent-of .result .newlines) (entry .pre .0) (extent-of .ensures .0) (extent-of .ensures .1) 0 in (
+      b .0,
+      b .1,
+      b .2,
+      put-room (a .text .now) (a .rules .now) (a .list .now) (a .target .now) (a .end) (a .left) (entry .pre .2) (entry .pre .0) (extent-of .result .end) (extent-of .result .newlines) (extent-of .ensures .0)
+          (extent-of .ensures .1) (fate-of .result) (fate-of .ensures),
+    )
 
 put-strike-requires : tie.Need-put-strike-requires
 put-strike-requires c κs =
     let entry = c .before .before .before .before .before .before .before .before .before .before .before .before .before .before .before .before in
-    let a = entry .args in
-    (strike-room (a .text .now) (a .rules .now) (a .list .now) (a .target .now) (a .end) (a .left) (entry .pre .2) (entry .pre .0) (c .before .before .before .before .before .before .before .before .before .extent-of .result .end) (c .before .before .before .before .before .before .before .before .before .extent-of .result .newlines) (c .before .before .before .before .before .before .before .before .before .extent-of .ensures .0) (c .before .before .before .before .before .before .before .before .before .extent-of .ensures .1) (c .before .before .before .before .before .fate-of .result) (c .before .before .before .before .before .fate-of .ensures), omega (arith, entry .pre .0, entry .pre .2 .short, entry .pre .2 .number-at), fault-fits (a .text .now) (a .rules .now) (a .list .now) (a .target .now) (a .end) (a .left) (entry .pre .2) (entry .pre .0) (c .before .before .before .before .before .before .before .before .before .extent-of .result .end) (c .before .before .before .before .before .before .before .before .before .extent-of .result .newlines) (c .before .before .before .before .before .before .before .before .before .extent-of .ensures .0) (c .before .before .before .before .before .before .before .before .before .extent-of .ensures .1) (c .before .before .before .before .before .fate-of .result) (c .before .before .before .before .before .fate-of .ensures))
+    let extent-of = c .before .before .before .before .before .before .before .before .before .extent-of in
+    let fate-of = c .before .before .before .before .before .fate-of in
+    let a = entry .args in (
+      strike-room (a .text .now) (a .rules .now) (a .list .now) (a .target .now) (a .end) (a .left) (entry .pre .2) (entry .pre .0) (extent-of .result .end) (extent-of .result .newlines) (extent-of .ensures .0)
+          (extent-of .ensures .1) (fate-of .result) (fate-of .ensures),
+      omega (arith, entry .pre .0, entry .pre .2 .short, entry .pre .2 .number-at),
+      fault-fits (a .text .now) (a .rules .now) (a .list .now) (a .target .now) (a .end) (a .left) (entry .pre .2) (entry .pre .0) (extent-of .result .end) (extent-of .result .newlines) (extent-of .ensures .0)
+          (extent-of .ensures .1) (fate-of .result) (fate-of .ensures),
+    )
 
 add-t21 : tie.Need-add-t21
 add-t21 c =
     let entry = c .before .before .before .before .before .before .before .before .before .before .before .before .before .before .before .before .before .before .before .before in
+    let extent-of = c .before .before .before .before .before .before .before .before .before .before .before .before .before .extent-of in
     let a = entry .args in
-    let b = bytes-size (a .text .now) (a .left .at) (c .before .before .before .before .before .before .before .before .before .before .before .before .before .extent-of .result .end) (c .before .before .before .before .before .before .before .before .before .before .before .before .before .extent-of .result .newlines) (entry .pre .0) (c .before .before .before .before .before .before .before .before .before .before .before .before .before .extent-of .ensures .0) (c .before .before .before .before .before .before .before .before .before .before .before .before .before .extent-of .ensures .1) 0 in
+    let b = bytes-size (a .text .now) (a .left .at) (extent-of .result .end) (extent-of .result .newlines) (entry .pre .0) (extent-of .ensures .0) (extent-of .ensures .1) 0 in
     omega (arith, b .1, entry .pre .2 .short)
 
 add-t22 : tie.Need-add-t22
 add-t22 c =
     let entry = c .before .before .before .before .before .before .before .before .before .before .before .before .before .before .before .before .before .before .before .before .before .before in
+    let extent-of = c .before .before .before .before .before .before .before .before .before .before .before .before .before .before .before .extent-of in
     let a = entry .args in
-    let b = bytes-size (a .text .now) (a .left .at) (c .before .before .before .before .before .before .before .before .before .before .before .before .before .before .before .extent-of .result .end) (c .before .before .before .before .before .before .before .before .before .before .before .before .before .before .before .extent-of .result .newlines) (entry .pre .0) (c .before .before .before .before .before .before .before .before .before .before .before .before .before .before .before .extent-of .ensures .0) (c .before .before .before .before .before .before .before .before .before .before .before .before .before .before .before .extent-of .ensures .1) 0 in
+    let b = bytes-size (a .text .now) (a .left .at) (extent-of .result .end) (extent-of .result .newlines) (entry .pre .0) (extent-of .ensures .0) (extent-of .ensures .1) 0 in
     omega (arith, b .0, b .1, b .2, entry .pre .2 .short, entry .pre .2 .number-at)
 
 add-t23 : tie.Need-add-t23
 add-t23 c =
     let entry = c .before .before .before .before .before .before .before .before .before .before .before .before .before .before .before .before .before .before .before .before .before .before in
+    let extent-of = c .before .before .before .before .before .before .before .before .before .before .before .before .before .before .before .extent-of in
     let a = entry .args in
-    let b = bytes-size (a .text .now) (a .left .at) (c .before .before .before .before .before .before .before .before .before .before .before .before .before .before .before .extent-of .result .end) (c .before .before .before .before .before .before .before .before .before .before .before .before .before .before .before .extent-of .result .newlines) (entry .pre .0) (c .before .before .before .before .before .before .before .before .before .before .before .before .before .before .before .extent-of .ensures .0) (c .before .before .before .before .before .before .before .before .before .before .before .before .before .before .before .extent-of .ensures .1) 0 in
+    let b = bytes-size (a .text .now) (a .left .at) (extent-of .result .end) (extent-of .result .newlines) (entry .pre .0) (extent-of .ensures .0) (extent-of .ensures .1) 0 in
     omega (arith, b .0, b .1, b .2, entry .pre .2 .short, entry .pre .2 .number-at)
-
-same-length : tie.Need-same-length
-same-length c = search needs
-
-same-length-2 : tie.Need-same-length-2
-same-length-2 c = search needs
-
-same-length-3 : tie.Need-same-length-3
-same-length-3 c = search needs
 
 returns : tie.Need-returns
 returns c =
     let entry = c .before .before .before .before .before .before .before .before .before .before .before .before .before .before .before .before .before .before .before .before .before .before in
+    let extent-of = c .before .before .before .before .before .before .before .before .before .before .before .before .before .before .before .extent-of in
+    let fate-of = c .before .before .before .before .before .before .before .before .before .before .before .fate-of in
+    let put-left = c .before .before .before .before .before .before .before .before .before .put-left in
+    let put-strike = c .before .before .before .before .before .put-strike in
     let a = entry .args in
-    line-left (a .text .now) (a .rules .now) (a .list .now) (a .target .now) (a .end) (a .left) (entry .pre .2) (entry .pre .0) (c .before .before .before .before .before .before .before .before .before .before .before .before .before .before .before .extent-of .result .end) (c .before .before .before .before .before .before .before .before .before .before .before .before .before .before .before .extent-of .result .newlines) (c .before .before .before .before .before .before .before .before .before .before .before .before .before .before .before .extent-of .ensures .0) (c .before .before .before .before .before .before .before .before .before .before .before .before .before .before .before .extent-of .ensures .1) (c .before .before .before .before .before .before .before .before .before .before .before .fate-of .result) (c .before .before .before .before .before .before .before .before .before .before .before .fate-of .ensures) _ _ _ _ (c .before .before .before .before .before .before .before .before .before .put-left .ensures .0) (c .before .before .before .before .before .before .before .before .before .put-left .ensures .1) (c .before .before .before .before .before .put-strike .ensures)
+    line-left (a .text .now) (a .rules .now) (a .list .now) (a .target .now) (a .end) (a .left) (entry .pre .2) (entry .pre .0) (extent-of .result .end) (extent-of .result .newlines) (extent-of .ensures .0)
+    (extent-of .ensures .1) (fate-of .result) (fate-of .ensures) _ _ _ _ (put-left .ensures .0) (put-left .ensures .1) (put-strike .ensures)
 
 pub leave-line-spec : {M : Type 1} → statement M
 leave-line-spec =
     tie.close
     (tie.spec
-    extent-of-requires
+    (λ c κs. search needs)
     fate-of-requires
     put-left-requires
     put-strike-requires
     add-t21
     add-t22
     add-t23
-    same-length
-    same-length-2
-    same-length-3
+    (λ c. search needs)
+    (λ c. search needs)
+    (λ c. search needs)
     returns)

@@ -1,3 +1,5 @@
+-- `left_lines::leave_lines` meets its contract.
+-- Assumes nothing.
 use Rattle.left_lines.proofs.Leaves.{all-left}
 use Rattle.left_lines.specs.Left.{Leaves}
 use lib.ListN.{length}
@@ -16,31 +18,49 @@ abbrev μ-loop : tie.MeasureT-loop
 μ-loop text rules list₀ end target₀ copy₀ left₀ list target copy left = length text + 1 - left .at
 
 loop-holds : tie.Need-loop-holds Inv-loop μ-loop
-loop-holds c = (omega arith, c .before .before .before .before .pre, refl, refl, refl)
+loop-holds c =
+    let entry = c .before .before .before .before in
+    (omega arith, entry .pre, refl, refl, refl)
 
 slice-aggregate-leave-line : tie.Need-slice-aggregate-leave-line Inv-loop μ-loop
-slice-aggregate-leave-line c = sym (c .before .before .before .loop .inv .2)
+slice-aggregate-leave-line c =
+    let loop = c .before .before .before .loop in
+    sym (loop .inv .2)
 
 leave-line-requires : tie.Need-leave-line-requires Inv-loop μ-loop
-leave-line-requires c κs = (c .before .before .before .if1 .taken, c .before .before .before .before .before .loop .inv .2, c .before .before .before .before .before .loop .inv .1)
+leave-line-requires c κs =
+    let if1 = c .before .before .before .if1 in
+    let loop = c .before .before .before .before .before .loop in
+    (if1 .taken, loop .inv .2, loop .inv .1)
 
 loop-less : tie.Need-loop-less Inv-loop μ-loop
-loop-less c = let n = c .before .before .before .before .before .leave-line .ensures in omega (arith, n .0, n .1)
+loop-less c =
+    let leave-line = c .before .before .before .before .before .leave-line in
+    let n = leave-line .ensures in omega (arith, n .0, n .1)
 
 loop-again : tie.Need-loop-again Inv-loop μ-loop
-loop-again c = let n = c .before .before .before .before .before .leave-line .ensures in (n .1, n .2, c .before .before .before .before .before .leave-line .kept .1 .0 ∙ c .before .before .before .before .before .before .before .before .before .before .before .loop .inv .2, c .before .before .before .before .before .leave-line .kept .1 .1 .1 .0 ∙ c .before .before .before .before .before .before .before .before .before .before .before .loop .inv .3, c .before .before .before .before .before .leave-line .kept .1 .1 .1 .1 .1 .0 ∙ c .before .before .before .before .before .before .before .before .before .before .before .loop .inv .4)
+loop-again c =
+    let leave-line = c .before .before .before .before .before .leave-line in
+    let loop = c .before .before .before .before .before .before .before .before .before .before .before .loop in
+    let n = leave-line .ensures in
+    (n .1, n .2, leave-line .kept .1 .0 ∙ loop .inv .2, leave-line .kept .1 .1 .1 .0 ∙ loop .inv .3, leave-line .kept .1 .1 .1 .1 .1 .0 ∙ loop .inv .4)
 
 same-length : tie.Need-same-length Inv-loop μ-loop
-same-length c = c .before .before .loop .inv .3
+same-length c =
+    let loop = c .before .before .loop in
+    loop .inv .3
 
 same-length-2 : tie.Need-same-length-2 Inv-loop μ-loop
-same-length-2 c = c .before .before .loop .inv .4
+same-length-2 c =
+    let loop = c .before .before .loop in
+    loop .inv .4
 
 returns : tie.Need-returns Inv-loop μ-loop
 returns c =
     let entry = c .before .before .before .before .before .before .before in
+    let loop = c .before .before .loop in
     let a = entry .args in
-    let l = c .before .before .loop in
+    let l = loop in
     all-left (a .text .now) (a .rules .now) (l .list) (l .target) (a .end) (l .left) (l .inv .1) (omega arith)
 
 pub leave-lines-spec : {M : Type 1} → statement M

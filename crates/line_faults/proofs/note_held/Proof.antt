@@ -1,3 +1,5 @@
+-- `line_faults::note_held` meets its contract.
+-- Assumes nothing.
 use Rattle.line_faults.proofs.Lines.{bounds, room-here, line-skip, line-fault, line-extra, line-rule}
 use Rattle.line_faults.proofs.Notes.{fault-kept, rule-kept}
 use Rattle.line_faults.proofs.Kept.{notes-kept}
@@ -38,137 +40,142 @@ answered w o e =
     rw (← e) (rw (bytes-of .ensures) at said)
 
 add-at : tie.Need-add-at
-add-at c = let b = bounded (c .before .before .before .before .before .before .before .before .before) in omega (arith, c .before .before .before .before .before .before .before .before .before .pre .0 .stands .short, b .1)
+add-at c =
+    let entry = c .before .before .before .before .before .before .before .before .before in
+    let b = bounded (entry) in omega (arith, entry .pre .0 .stands .short, b .1)
 
 add-number : tie.Need-add-number
-add-number c = let b = bounded (c .before .before .before .before .before .before .before .before .before .before .before) in omega (arith, c .before .before .before .before .before .before .before .before .before .before .before .pre .0 .stands .short, b .1, b .2)
+add-number c =
+    let entry = c .before .before .before .before .before .before .before .before .before .before .before in
+    let b = bounded (entry) in omega (arith, entry .pre .0 .stands .short, b .1, b .2)
 
 add-number-2 : tie.Need-add-number-2
-add-number-2 c = let b = bounded (c .before .before .before .before .before .before .before .before .before .before .before) in omega (arith, c .before .before .before .before .before .before .before .before .before .before .before .pre .0 .stands .short, b .1, b .2)
+add-number-2 c =
+    let entry = c .before .before .before .before .before .before .before .before .before .before .before in
+    let b = bounded (entry) in omega (arith, entry .pre .0 .stands .short, b .1, b .2)
 
 bytes-of-requires : tie.Need-bytes-of-requires
-bytes-of-requires c κs = let b = bounded (c .before .before .before .before .before .before .before .before .before .before .before) in (b .0, b .1, c .before .before .before .before .before .before .before .before .before .before .before .pre .1 .room)
+bytes-of-requires c κs =
+    let entry = c .before .before .before .before .before .before .before .before .before .before .before in
+    let b = bounded (entry) in (b .0, b .1, entry .pre .1 .room)
 
 read-line-requires : tie.Need-read-line-requires
 read-line-requires c κs =
     let entry = c .before .before .before .before .before .before .before .before .before .before .before .before .before .before in
+    let bytes-of = c .before .before .bytes-of in
     let a = entry .args in
-    let room = room-less _ (length (heldIn (a .text .now) (a .copy .now) (a .noted .at) (a .line)) + 1) (a .values .now) (a .rows .now) (begun (a .noted .counts .rows) (a .noted .counts .used)) (omega arith) (line-room (a .text .now) (a .copy .now) (a .noted .at) (a .noted .number) (a .values .now) (a .rows .now) (a .noted .counts) (entry .pre .0 .stands) (a .line) (entry .pre .1)) in
-    (rw (c .before .before .bytes-of .ensures) (entry .pre .1 .clean), entry .pre .0 .upto .filled .rows, rw (c .before .before .bytes-of .ensures) room)
+    let room = room-less _ (length (heldIn (a .text .now) (a .copy .now) (a .noted .at) (a .line)) + 1) (a .values .now) (a .rows .now) (begun (a .noted .counts .rows) (a .noted .counts .used)) (omega arith)
+    (line-room (a .text .now) (a .copy .now) (a .noted .at) (a .noted .number) (a .values .now) (a .rows .now) (a .noted .counts) (entry .pre .0 .stands) (a .line) (entry .pre .1)) in
+    (rw (bytes-of .ensures) (entry .pre .1 .clean), entry .pre .0 .upto .filled .rows, rw (bytes-of .ensures) room)
 
 enum-told : tie.Need-enum-told
 enum-told c = search needs
 
-enum-known-f : tie.Need-enum-known-f
-enum-known-f c = search needs
-
-fault-number-requires : tie.Need-fault-number-requires
-fault-number-requires c κs = search needs
-
 put-note-requires : tie.Need-put-note-requires
 put-note-requires c κs =
     let entry = c .before .before .before .before .before .before .before .before .before .before .before .before .before .before .before .before .before .before .before .before .before .before .before .before in
+    let at-read-line = c .before .before .before .before .before .before .before .before .before in
+    let f = c .before .before .before .f in
+    let fault-number = c .fault-number in
     let a = entry .args in
-    let b = bounded entry in
-    (room-here (a .text .now) (a .copy .now) (a .values .now) (a .rows .now) (a .rules .now) (a .labels .now) (a .list .now) (a .noted) (entry .pre .0) (a .line .end) (a .line .newlines) (entry .pre .1 .joined-at .0) (entry .pre .1 .joined-at .1) (fault-kept (lent entry ∙ answered (c .before .before .before .before .before .before .before .before .before) (lines.Fault (c .before .before .before .f .given .0 .0)) (c .before .before .before .f .given .1) .0)), b .3, c .fault-number .ensures .1)
-
-enum-known-fill : tie.Need-enum-known-fill
-enum-known-fill c = search needs
+    let b = bounded entry in (
+      room-here (a .text .now) (a .copy .now) (a .values .now) (a .rows .now) (a .rules .now) (a .labels .now) (a .list .now) (a .noted) (entry .pre .0) (a .line .end) (a .line .newlines) (entry .pre .1 .joined-at .0)
+          (entry .pre .1 .joined-at .1) (fault-kept (lent entry ∙ answered (at-read-line) (lines.Fault (f .given .0 .0)) (f .given .1) .0)),
+      b .3,
+      fault-number .ensures .1,
+    )
 
 put-note-requires-2 : tie.Need-put-note-requires-2
 put-note-requires-2 c κs =
     let entry = c .before .before .before .before .before .before .before .before .before .before .before .before .before .before .before .before .before .before .before .before .before .before .before .before .before in
+    let at-read-line = c .before .before .before .before .before .before .before .before .before .before in
+    let fill = c .before .before .before .before .fill in
     let a = entry .args in
-    let b = bounded entry in
-    (room-here (a .text .now) (a .copy .now) (a .values .now) (a .rows .now) (a .rules .now) (a .labels .now) (a .list .now) (a .noted) (entry .pre .0) (a .line .end) (a .line .newlines) (entry .pre .1 .joined-at .0) (entry .pre .1 .joined-at .1) (rule-kept (lent entry ∙ answered (c .before .before .before .before .before .before .before .before .before .before) (lines.Rule (c .before .before .before .before .fill .given .0 .0)) (c .before .before .before .before .fill .given .1) .0)), b .3, omega arith)
-
-same-length : tie.Need-same-length
-same-length c = search needs
-
-same-length-2 : tie.Need-same-length-2
-same-length-2 c = search needs
-
-same-length-3 : tie.Need-same-length-3
-same-length-3 c = search needs
+    let b = bounded entry in (
+      room-here (a .text .now) (a .copy .now) (a .values .now) (a .rows .now) (a .rules .now) (a .labels .now) (a .list .now) (a .noted) (entry .pre .0) (a .line .end) (a .line .newlines) (entry .pre .1 .joined-at .0)
+          (entry .pre .1 .joined-at .1) (rule-kept (lent entry ∙ answered (at-read-line) (lines.Rule (fill .given .0 .0)) (fill .given .1) .0)),
+      b .3,
+      omega arith,
+    )
 
 returns : tie.Need-returns
 returns c =
     let entry = c .before .before .before .before .before .before .before .before .before .before .before .before .before .before .before .before .before .before .before .before .before .before .before .before .before .before .before .before in
+    let at-read-line = c .before .before .before .before .before .before .before .before .before .before .before .before .before in
+    let fill = c .before .before .before .before .before .before .before .fill in
+    let put-note2 = c .before .before .put-note2 in
+    let read-line = c .before .before .before .before .before .before .before .before .before .before .before .before .before .read-line in
+    let if1 = c .before .before .before .before .if1 in
     let a = entry .args in
-    let t = answered (c .before .before .before .before .before .before .before .before .before .before .before .before .before) (lines.Rule (c .before .before .before .before .before .before .before .fill .given .0 .0)) (c .before .before .before .before .before .before .before .fill .given .1) in
-    let put = c .before .before .put-note2 .ensures in
-    line-extra (a .text .now) (a .copy .now) (c .before .before .before .before .before .before .before .before .before .before .before .before .before .read-line .last .1 .0) (c .before .before .before .before .before .before .before .before .before .before .before .before .before .read-line .last .1 .1 .0) (a .rules .now) (a .labels .now) (a .list .now) (a .noted) (notes-kept (a .text .now) (a .copy .now) (a .values .now) (a .rows .now) _ _ (a .rules .now) (a .labels .now) (a .list .now) (a .noted) (entry .pre .0) (t .1 .kept)) (a .line .end) (a .line .newlines) (entry .pre .1 .joined-at .0) (entry .pre .1 .joined-at .1) _ _ (put .0) _ (lent entry ∙ t .0) (c .before .before .before .before .if1 .taken) (put .1)
+    let t = answered (at-read-line) (lines.Rule (fill .given .0 .0)) (fill .given .1) in
+    let put = put-note2 .ensures in
+    line-extra (a .text .now) (a .copy .now) (read-line .last .1 .0) (read-line .last .1 .1 .0) (a .rules .now) (a .labels .now) (a .list .now) (a .noted)
+    (notes-kept (a .text .now) (a .copy .now) (a .values .now) (a .rows .now) _ _ (a .rules .now) (a .labels .now) (a .list .now) (a .noted) (entry .pre .0) (t .1 .kept)) (a .line .end) (a .line .newlines)
+    (entry .pre .1 .joined-at .0) (entry .pre .1 .joined-at .1) _ _ (put .0) _ (lent entry ∙ t .0) (if1 .taken) (put .1)
 
 put-rule-requires : tie.Need-put-rule-requires
 put-rule-requires c κs =
     let entry = c .before .before .before .before .before .before .before .before .before .before .before .before .before .before .before .before .before .before .before .before .before .before .before .before .before .before in
+    let at-read-line = c .before .before .before .before .before .before .before .before .before .before .before in
+    let fill = c .before .before .before .before .before .fill in
+    let if1 = c .before .before .if1 in
     let a = entry .args in
     let b = bounded entry in
-    let g = answered (c .before .before .before .before .before .before .before .before .before .before .before) (lines.Rule (c .before .before .before .before .before .fill .given .0 .0)) (c .before .before .before .before .before .fill .given .1) .1 in
-    (c .before .before .if1 .left, entry .pre .0 .upto .filled .rules-room, entry .pre .0 .upto .filled .labels-room, b .3, g .rows, omega (arith, g .room .rows, g .room .few), g .held .label-in, g .held .goto-in)
+    let g = answered (at-read-line) (lines.Rule (fill .given .0 .0)) (fill .given .1) .1 in
+    (if1 .left, entry .pre .0 .upto .filled .rules-room, entry .pre .0 .upto .filled .labels-room, b .3, g .rows, omega (arith, g .room .rows, g .room .few), g .held .label-in, g .held .goto-in)
 
 put-note-requires-3 : tie.Need-put-note-requires-3
 put-note-requires-3 c κs =
-    let entry = c .before .before .before .before .before .before .before .before .before .before .before .before .before .before .before .before .before .before .before .before .before .before .before .before .before .before .before .before .before .before .before .before in
+    let earlier = c .before .before .before .before .before .before .before .before .before .before .before .before .before .before .before .before .before .before .before .before .before .before .before .before .before .before .before .before in
+    let entry = earlier .before .before .before .before in
+    let at-read-line = c .before .before .before .before .before .before .before .before .before .before .before .before .before .before .before .before .before in
+    let fill = c .before .before .before .before .before .before .before .before .before .before .before .fill in
     let a = entry .args in
-    let b = bounded entry in
-    (room-here (a .text .now) (a .copy .now) (a .values .now) (a .rows .now) (a .rules .now) (a .labels .now) (a .list .now) (a .noted) (entry .pre .0) (a .line .end) (a .line .newlines) (entry .pre .1 .joined-at .0) (entry .pre .1 .joined-at .1) (rule-kept (lent entry ∙ answered (c .before .before .before .before .before .before .before .before .before .before .before .before .before .before .before .before .before) (lines.Rule (c .before .before .before .before .before .before .before .before .before .before .before .fill .given .0 .0)) (c .before .before .before .before .before .before .before .before .before .before .before .fill .given .1) .0)), b .3, omega arith)
-
-add-t42 : tie.Need-add-t42
-add-t42 c = search needs
-
-same-length-4 : tie.Need-same-length-4
-same-length-4 c = search needs
-
-same-length-5 : tie.Need-same-length-5
-same-length-5 c = search needs
+    let b = bounded entry in (
+      room-here (a .text .now) (a .copy .now) (a .values .now) (a .rows .now) (a .rules .now) (a .labels .now) (a .list .now) (a .noted) (entry .pre .0) (a .line .end) (a .line .newlines) (entry .pre .1 .joined-at .0)
+          (entry .pre .1 .joined-at .1) (rule-kept (lent entry ∙ answered (at-read-line) (lines.Rule (fill .given .0 .0)) (fill .given .1) .0)),
+      b .3,
+      omega arith,
+    )
 
 returns-2 : tie.Need-returns-2
 returns-2 c =
     let entry = c .before .before .before .before .before .before .before .before .before .before .before .before .before .before .before .before .before .before .before .before .before in
+    let at-read-line = c .before .before .before .before .before .before in
+    let enum-told = c .enum-told in
     let a = entry .args in
-    let t = answered (c .before .before .before .before .before .before) lines.Skipped (c .enum-told .given .1) in
+    let t = answered (at-read-line) lines.Skipped (enum-told .given .1) in
     rw (t .1, t .2) (line-skip (a .text .now) (a .copy .now) (a .values .now) (a .rows .now) (a .rules .now) (a .labels .now) (a .list .now) (a .noted) (entry .pre .0) (a .line .end) (a .line .newlines) (entry .pre .1 .joined-at .0) (entry .pre .1 .joined-at .1) (lent entry ∙ t .0))
-
-same-length-6 : tie.Need-same-length-6
-same-length-6 c = search needs
-
-same-length-7 : tie.Need-same-length-7
-same-length-7 c = search needs
-
-same-length-8 : tie.Need-same-length-8
-same-length-8 c = search needs
 
 returns-3 : tie.Need-returns-3
 returns-3 c =
     let entry = c .before .before .before .before .before .before .before .before .before .before .before .before .before .before .before .before .before .before .before .before .before .before .before .before .before .before .before in
+    let at-read-line = c .before .before .before .before .before .before .before .before .before .before .before .before in
+    let f = c .before .before .before .before .before .before .f in
+    let put-note = c .before .before .put-note in
+    let read-line = c .before .before .before .before .before .before .before .before .before .before .before .before .read-line in
+    let fault-number = c .before .before .before .fault-number in
     let a = entry .args in
-    let t = answered (c .before .before .before .before .before .before .before .before .before .before .before .before) (lines.Fault (c .before .before .before .before .before .before .f .given .0 .0)) (c .before .before .before .before .before .before .f .given .1) in
-    let put = c .before .before .put-note .ensures in
-    line-fault (a .text .now) (a .copy .now) (c .before .before .before .before .before .before .before .before .before .before .before .before .read-line .last .1 .0) (c .before .before .before .before .before .before .before .before .before .before .before .before .read-line .last .1 .1 .0) (a .rules .now) (a .labels .now) (a .list .now) (a .noted) (notes-kept (a .text .now) (a .copy .now) (a .values .now) (a .rows .now) _ _ (a .rules .now) (a .labels .now) (a .list .now) (a .noted) (entry .pre .0) (t .1)) (a .line .end) (a .line .newlines) (entry .pre .1 .joined-at .0) (entry .pre .1 .joined-at .1) _ _ (put .0) (refusalOf (c .before .before .before .before .before .before .f .given .0 .0)) (lent entry ∙ t .0) (rw (c .before .before .before .fault-number .ensures .0) at (put .1))
-
-same-length-9 : tie.Need-same-length-9
-same-length-9 c = search needs
-
-same-length-10 : tie.Need-same-length-10
-same-length-10 c = search needs
-
-same-length-11 : tie.Need-same-length-11
-same-length-11 c = search needs
-
-same-length-12 : tie.Need-same-length-12
-same-length-12 c = search needs
-
-same-length-13 : tie.Need-same-length-13
-same-length-13 c = search needs
+    let t = answered (at-read-line) (lines.Fault (f .given .0 .0)) (f .given .1) in
+    let put = put-note .ensures in
+    line-fault (a .text .now) (a .copy .now) (read-line .last .1 .0) (read-line .last .1 .1 .0) (a .rules .now) (a .labels .now) (a .list .now) (a .noted)
+    (notes-kept (a .text .now) (a .copy .now) (a .values .now) (a .rows .now) _ _ (a .rules .now) (a .labels .now) (a .list .now) (a .noted) (entry .pre .0) (t .1)) (a .line .end) (a .line .newlines)
+    (entry .pre .1 .joined-at .0) (entry .pre .1 .joined-at .1) _ _ (put .0) (refusalOf (f .given .0 .0)) (lent entry ∙ t .0) (rw (fault-number .ensures .0) at (put .1))
 
 returns-4 : tie.Need-returns-4
 returns-4 c =
-    let entry = c .before .before .before .before .before .before .before .before .before .before .before .before .before .before .before .before .before .before .before .before .before .before .before .before .before .before .before .before .before .before .before .before .before .before .before .before in
+    let earlier = c .before .before .before .before .before .before .before .before .before .before .before .before .before .before .before .before .before .before .before .before .before .before .before .before .before .before .before .before in
+    let entry = earlier .before .before .before .before .before .before .before .before in
+    let at-read-line = c .before .before .before .before .before .before .before .before .before .before .before .before .before .before .before .before .before .before .before .before .before in
+    let fill = c .before .before .before .before .before .before .before .before .before .before .before .before .before .before .before .fill in
+    let put-note3 = c .before .before .before .put-note3 in
+    let put-rule = c .before .before .before .before .before .before .before .before .before .put-rule in
+    let if1 = c .before .before .before .before .before .before .before .before .before .before .before .before .if1 in
     let a = entry .args in
-    let t = answered (c .before .before .before .before .before .before .before .before .before .before .before .before .before .before .before .before .before .before .before .before .before) (lines.Rule (c .before .before .before .before .before .before .before .before .before .before .before .before .before .before .before .fill .given .0 .0)) (c .before .before .before .before .before .before .before .before .before .before .before .before .before .before .before .fill .given .1) in
-    let put = c .before .before .before .put-note3 .ensures in
-    line-rule (a .text .now) (a .copy .now) (a .values .now) (a .rows .now) (a .rules .now) (a .labels .now) (a .list .now) (a .noted) (entry .pre .0) (a .line .end) (a .line .newlines) (entry .pre .1 .joined-at .0) (entry .pre .1 .joined-at .1) _ _ (put .0) _ _ _ _ (c .before .before .before .before .before .before .before .before .before .before .before .before .before .before .before .fill .given .0 .0) _ (t .1) (lent entry ∙ t .0) (c .before .before .before .before .before .before .before .before .before .put-rule .ensures) (c .before .before .before .before .before .before .before .before .before .before .before .before .if1 .left) (put .1)
+    let t = answered (at-read-line) (lines.Rule (fill .given .0 .0)) (fill .given .1) in
+    let put = put-note3 .ensures in
+    line-rule (a .text .now) (a .copy .now) (a .values .now) (a .rows .now) (a .rules .now) (a .labels .now) (a .list .now) (a .noted) (entry .pre .0) (a .line .end) (a .line .newlines) (entry .pre .1 .joined-at .0)
+    (entry .pre .1 .joined-at .1) _ _ (put .0) _ _ _ _ (fill .given .0 .0) _ (t .1) (lent entry ∙ t .0) (put-rule .ensures) (if1 .left) (put .1)
 
 pub note-held-spec : {M : Type 1} → statement M
 note-held-spec =
@@ -180,28 +187,28 @@ note-held-spec =
     bytes-of-requires
     read-line-requires
     enum-told
-    enum-known-f
-    fault-number-requires
+    (λ c. search needs)
+    (λ c κs. search needs)
     put-note-requires
-    enum-known-fill
+    (λ c. search needs)
     put-note-requires-2
-    same-length
-    same-length-2
-    same-length-3
+    (λ c. search needs)
+    (λ c. search needs)
+    (λ c. search needs)
     returns
     put-rule-requires
     put-note-requires-3
-    add-t42
-    same-length-4
-    same-length-5
+    (λ c. search needs)
+    (λ c. search needs)
+    (λ c. search needs)
     returns-2
-    same-length-6
-    same-length-7
-    same-length-8
+    (λ c. search needs)
+    (λ c. search needs)
+    (λ c. search needs)
     returns-3
-    same-length-9
-    same-length-10
-    same-length-11
-    same-length-12
-    same-length-13
+    (λ c. search needs)
+    (λ c. search needs)
+    (λ c. search needs)
+    (λ c. search needs)
+    (λ c. search needs)
     returns-4)

@@ -1,3 +1,5 @@
+-- `line_faults::note_line` meets its contract.
+-- Assumes nothing.
 use Rattle.line_faults.proofs.Lines.{bounds, room-here, line-fault}
 use Rattle.line_faults.proofs.Notes.{fault-kept}
 use Rattle.line_faults.specs.Notes.{Notes}
@@ -28,110 +30,91 @@ lines-to w =
       upto = entry .pre .upto;
     }
 
-find-line-requires : tie.Need-find-line-requires
-find-line-requires c κs = search needs
-
-enum-known-line : tie.Need-enum-known-line
-enum-known-line c = search needs
-
 note-held-requires : tie.Need-note-held-requires
 note-held-requires c κs =
     let entry = c .before .before .before .before .before .before .before .before .before .before .before .before .before .before .before .before .before .before .before .before in
+    let at-find-line = c .before .before .before .before .before .before .before .before .before .before .before in
+    let line = c .before .before .before .before .before .before .before .line in
     let a = entry .args in
-    (lines-to (c .before .before .before .before .before .before .before .before .before .before .before), found-is (c .before .before .before .before .before .before .before .before .before .before .before) (found.At (c .before .before .before .before .before .before .before .line .given .0 .0)) (c .before .before .before .before .before .before .before .line .given .1))
-
-enum-known-end : tie.Need-enum-known-end
-enum-known-end c = search needs
+    (lines-to (at-find-line), found-is (at-find-line) (found.At (line .given .0 .0)) (line .given .1))
 
 note-fault-requires : tie.Need-note-fault-requires
 note-fault-requires c κs =
     let entry = c .before .before .before .before .before .before .before .before .before .before .before .before .before .before .before in
+    let at-find-line = c .before .before .before .before .before .before in
+    let end = c .before .before .end in
+    let find-line = c .before .before .before .before .before .before .find-line in
     let a = entry .args in
-    let found = found-is (c .before .before .before .before .before .before) (found.Open (c .before .before .end .given .0 .0) (c .before .before .end .given .0 .1 .0)) (c .before .before .end .given .1) in
-    let b = bounds (a .text .now) (c .before .before .before .before .before .before .find-line .last .1 .1 .0) (a .values .now) (a .rows .now) (a .rules .now) (a .labels .now) (a .list .now) (a .noted) (lines-to (c .before .before .before .before .before .before)) _ _ (found .0) (found .1) in
-    (room-here (a .text .now) (c .before .before .before .before .before .before .find-line .last .1 .1 .0) (a .values .now) (a .rows .now) (a .rules .now) (a .labels .now) (a .list .now) (a .noted) (lines-to (c .before .before .before .before .before .before)) _ _ (found .0) (found .1) (fault-kept (read-open (a .text .now) (c .before .before .before .before .before .before .find-line .last .1 .1 .0) (a .noted .at) _ _ found)), b .2, b .3, omega (arith, entry .pre .stands .short, b .1))
-
-enum-known-end-2 : tie.Need-enum-known-end-2
-enum-known-end-2 c = search needs
+    let found = found-is (at-find-line) (found.Open (end .given .0 .0) (end .given .0 .1 .0)) (end .given .1) in
+    let b = bounds (a .text .now) (find-line .last .1 .1 .0) (a .values .now) (a .rows .now) (a .rules .now) (a .labels .now) (a .list .now) (a .noted) (lines-to (at-find-line)) _ _ (found .0) (found .1) in (
+      room-here (a .text .now) (find-line .last .1 .1 .0) (a .values .now) (a .rows .now) (a .rules .now) (a .labels .now) (a .list .now) (a .noted) (lines-to (at-find-line)) _ _ (found .0) (found .1)
+          (fault-kept (read-open (a .text .now) (find-line .last .1 .1 .0) (a .noted .at) _ _ found)),
+      b .2,
+      b .3,
+      omega (arith, entry .pre .stands .short, b .1),
+    )
 
 note-fault-requires-2 : tie.Need-note-fault-requires-2
 note-fault-requires-2 c κs =
     let entry = c .before .before .before .before .before .before .before .before .before .before .before .before .before .before .before in
+    let at-find-line = c .before .before .before .before .before .before in
+    let end2 = c .before .before .end2 in
+    let find-line = c .before .before .before .before .before .before .find-line in
     let a = entry .args in
-    let found = found-is (c .before .before .before .before .before .before) (found.Bad (c .before .before .end2 .given .0 .0) (c .before .before .end2 .given .0 .1 .0)) (c .before .before .end2 .given .1) in
-    let b = bounds (a .text .now) (c .before .before .before .before .before .before .find-line .last .1 .1 .0) (a .values .now) (a .rows .now) (a .rules .now) (a .labels .now) (a .list .now) (a .noted) (lines-to (c .before .before .before .before .before .before)) _ _ (found .0 .0) (found .0 .1) in
-    (room-here (a .text .now) (c .before .before .before .before .before .before .find-line .last .1 .1 .0) (a .values .now) (a .rows .now) (a .rules .now) (a .labels .now) (a .list .now) (a .noted) (lines-to (c .before .before .before .before .before .before)) _ _ (found .0 .0) (found .0 .1) (fault-kept (read-bad (a .text .now) (c .before .before .before .before .before .before .find-line .last .1 .1 .0) (a .noted .at) _ _ found)), b .2, b .3, omega (arith, entry .pre .stands .short, b .1))
-
-same-length : tie.Need-same-length
-same-length c = search needs
-
-same-length-2 : tie.Need-same-length-2
-same-length-2 c = search needs
-
-same-length-3 : tie.Need-same-length-3
-same-length-3 c = search needs
-
-same-length-4 : tie.Need-same-length-4
-same-length-4 c = search needs
-
-same-length-5 : tie.Need-same-length-5
-same-length-5 c = search needs
-
-same-length-6 : tie.Need-same-length-6
-same-length-6 c = search needs
-
-returns : tie.Need-returns
-returns c = search needs
-
-same-length-7 : tie.Need-same-length-7
-same-length-7 c = search needs
-
-same-length-8 : tie.Need-same-length-8
-same-length-8 c = search needs
+    let found = found-is (at-find-line) (found.Bad (end2 .given .0 .0) (end2 .given .0 .1 .0)) (end2 .given .1) in
+    let b = bounds (a .text .now) (find-line .last .1 .1 .0) (a .values .now) (a .rows .now) (a .rules .now) (a .labels .now) (a .list .now) (a .noted) (lines-to (at-find-line)) _ _ (found .0 .0) (found .0 .1) in (
+      room-here (a .text .now) (find-line .last .1 .1 .0) (a .values .now) (a .rows .now) (a .rules .now) (a .labels .now) (a .list .now) (a .noted) (lines-to (at-find-line)) _ _ (found .0 .0) (found .0 .1)
+          (fault-kept (read-bad (a .text .now) (find-line .last .1 .1 .0) (a .noted .at) _ _ found)),
+      b .2,
+      b .3,
+      omega (arith, entry .pre .stands .short, b .1),
+    )
 
 returns-2 : tie.Need-returns-2
 returns-2 c =
     let entry = c .before .before .before .before .before .before .before .before .before .before .before .before .before .before .before .before .before .before in
+    let at-find-line = c .before .before .before .before .before .before .before .before .before in
+    let end = c .before .before .before .before .before .end in
+    let note-fault = c .before .before .note-fault in
+    let find-line = c .before .before .before .before .before .before .before .before .before .find-line in
     let a = entry .args in
-    let found = found-is (c .before .before .before .before .before .before .before .before .before) (found.Open (c .before .before .before .before .before .end .given .0 .0) (c .before .before .before .before .before .end .given .0 .1 .0)) (c .before .before .before .before .before .end .given .1) in
-    let put = c .before .before .note-fault .ensures in
-    rw (put .0) (line-fault (a .text .now) (c .before .before .before .before .before .before .before .before .before .find-line .last .1 .1 .0) (a .values .now) (a .rows .now) (a .rules .now) (a .labels .now) (a .list .now) (a .noted) (lines-to (c .before .before .before .before .before .before .before .before .before)) _ _ (found .0) (found .1) _ _ refl line-open (read-open (a .text .now) (c .before .before .before .before .before .before .before .before .before .find-line .last .1 .1 .0) (a .noted .at) _ _ found) (put .1))
-
-same-length-9 : tie.Need-same-length-9
-same-length-9 c = search needs
-
-same-length-10 : tie.Need-same-length-10
-same-length-10 c = search needs
+    let found = found-is (at-find-line) (found.Open (end .given .0 .0) (end .given .0 .1 .0)) (end .given .1) in
+    let put = note-fault .ensures in
+    rw (put .0) (line-fault (a .text .now) (find-line .last .1 .1 .0) (a .values .now) (a .rows .now) (a .rules .now) (a .labels .now) (a .list .now) (a .noted) (lines-to (at-find-line)) _ _ (found .0) (found .1) _ _ refl line-open (read-open (a .text .now) (find-line .last .1 .1 .0) (a .noted .at) _ _ found) (put .1))
 
 returns-3 : tie.Need-returns-3
 returns-3 c =
     let entry = c .before .before .before .before .before .before .before .before .before .before .before .before .before .before .before .before .before .before in
+    let at-find-line = c .before .before .before .before .before .before .before .before .before in
+    let end2 = c .before .before .before .before .before .end2 in
+    let note-fault2 = c .before .before .note-fault2 in
+    let find-line = c .before .before .before .before .before .before .before .before .before .find-line in
     let a = entry .args in
-    let found = found-is (c .before .before .before .before .before .before .before .before .before) (found.Bad (c .before .before .before .before .before .end2 .given .0 .0) (c .before .before .before .before .before .end2 .given .0 .1 .0)) (c .before .before .before .before .before .end2 .given .1) in
-    let put = c .before .before .note-fault2 .ensures in
-    rw (put .0) (line-fault (a .text .now) (c .before .before .before .before .before .before .before .before .before .find-line .last .1 .1 .0) (a .values .now) (a .rows .now) (a .rules .now) (a .labels .now) (a .list .now) (a .noted) (lines-to (c .before .before .before .before .before .before .before .before .before)) _ _ (found .0 .0) (found .0 .1) _ _ refl line-bad (read-bad (a .text .now) (c .before .before .before .before .before .before .before .before .before .find-line .last .1 .1 .0) (a .noted .at) _ _ found) (put .1))
+    let found = found-is (at-find-line) (found.Bad (end2 .given .0 .0) (end2 .given .0 .1 .0)) (end2 .given .1) in
+    let put = note-fault2 .ensures in
+    rw (put .0) (line-fault (a .text .now) (find-line .last .1 .1 .0) (a .values .now) (a .rows .now) (a .rules .now) (a .labels .now) (a .list .now) (a .noted) (lines-to (at-find-line)) _ _ (found .0 .0) (found .0 .1) _ _ refl line-bad (read-bad (a .text .now) (find-line .last .1 .1 .0) (a .noted .at) _ _ found) (put .1))
 
 pub note-line-spec : {M : Type 1} → statement M
 note-line-spec =
     tie.close
     (tie.spec
-    find-line-requires
-    enum-known-line
+    (λ c κs. search needs)
+    (λ c. search needs)
     note-held-requires
-    enum-known-end
+    (λ c. search needs)
     note-fault-requires
-    enum-known-end-2
+    (λ c. search needs)
     note-fault-requires-2
-    same-length
-    same-length-2
-    same-length-3
-    same-length-4
-    same-length-5
-    same-length-6
-    returns
-    same-length-7
-    same-length-8
+    (λ c. search needs)
+    (λ c. search needs)
+    (λ c. search needs)
+    (λ c. search needs)
+    (λ c. search needs)
+    (λ c. search needs)
+    (λ c. search needs)
+    (λ c. search needs)
+    (λ c. search needs)
     returns-2
-    same-length-9
-    same-length-10
+    (λ c. search needs)
+    (λ c. search needs)
     returns-3)

@@ -1,3 +1,5 @@
+-- `line_faults::put_note` meets its contract.
+-- Assumes nothing.
 use Rattle.line_faults.proofs.Numbers.{two-put, two-behind}
 use Rattle.table.specs.Puts.{Added}
 use lib.ListN.{set, length-set}
@@ -9,52 +11,35 @@ use borrow.Author.Needs.{needs}
 use Rattle.line_faults.proofs.put_note.Statement.{statement}
 use Rattle.line_faults.proofs.put_note.Tie as tie
 
-short-requires : tie.Need-short-requires
-short-requires c κs = search needs
-
-mul-list : tie.Need-mul-list
-mul-list c = search needs
-
-slice-write-list : tie.Need-slice-write-list
-slice-write-list c = search needs
-
-short-requires-2 : tie.Need-short-requires-2
-short-requires-2 c κs = search needs
-
-add-list : tie.Need-add-list
-add-list c = search needs
-
-mul-list-2 : tie.Need-mul-list-2
-mul-list-2 c = search needs
-
 slice-write-list-2 : tie.Need-slice-write-list-2
-slice-write-list-2 c = omega (arith, length-set (c .before .before .before .args .list .now) (c .before .before .before .args .used) (c .before .short .result))
-
-add-result : tie.Need-add-result
-add-result c = search needs
-
-same-length : tie.Need-same-length
-same-length c = search needs
+slice-write-list-2 c =
+    let entry = c .before .before .before in
+    let short = c .before .short in
+    omega (arith, length-set (entry .args .list .now) (entry .args .used) (short .result))
 
 returns : tie.Need-returns
-returns c = let a = c .before .before .before .args in (
-  refl,
-  subst₂ (λ (n k : ℕ). Added (n ∷ k ∷ []) (a .used) (a .list .now) (set (set (a .list .now) (a .used) (c .before .short .result)) (a .used + 1) (c .short2 .result))) (c .before .short .ensures) (c .short2 .ensures)
-      (two-put (a .list .now) (a .used) (c .before .short .result) (c .short2 .result) (c .before .before .before .pre .0)),
-  two-behind (a .list .now) (a .used) _ _,
-)
+returns c =
+    let entry = c .before .before .before in
+    let short = c .before .short in
+    let short2 = c .short2 in
+    let a = entry .args in (
+      refl,
+      subst₂ (λ (n k : ℕ). Added (n ∷ k ∷ []) (a .used) (a .list .now) (set (set (a .list .now) (a .used) (short .result)) (a .used + 1) (short2 .result))) (short .ensures) (short2 .ensures)
+          (two-put (a .list .now) (a .used) (short .result) (short2 .result) (entry .pre .0)),
+      two-behind (a .list .now) (a .used) _ _,
+    )
 
 pub put-note-spec : {M : Type 1} → statement M
 put-note-spec =
     tie.close
     (tie.spec
-    short-requires
-    mul-list
-    slice-write-list
-    short-requires-2
-    add-list
-    mul-list-2
+    (λ c κs. search needs)
+    (λ c. search needs)
+    (λ c. search needs)
+    (λ c κs. search needs)
+    (λ c. search needs)
+    (λ c. search needs)
     slice-write-list-2
-    add-result
-    same-length
+    (λ c. search needs)
+    (λ c. search needs)
     returns)

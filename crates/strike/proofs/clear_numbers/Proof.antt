@@ -27,9 +27,6 @@ done t₀ t i e h =
 loop-holds : tie.Need-loop-holds Inv-loop μ-loop
 loop-holds c = (omega arith, refl, refl)
 
-mul-list : tie.Need-mul-list Inv-loop μ-loop
-mul-list c = search needs
-
 loop-again : tie.Need-loop-again Inv-loop μ-loop
 loop-again c =
     let a = c .before in
@@ -46,4 +43,4 @@ returns : tie.Need-returns Inv-loop μ-loop
 returns c = let a = c .before in done (a .before .args .list .now) (a .loop .list) (a .loop .i) (a .loop .inv .2) (omega arith)
 
 pub clear-numbers-spec : {M : Type 1} → statement M
-clear-numbers-spec = tie.close (tie.spec Inv-loop μ-loop loop-holds mul-list (λ c. omega arith) (λ c. omega arith) (λ c. omega arith) loop-again same-length returns)
+clear-numbers-spec = tie.close (tie.spec Inv-loop μ-loop loop-holds (λ c. search needs) (λ c. omega arith) (λ c. omega arith) (λ c. omega arith) loop-again same-length returns)
