@@ -14,9 +14,12 @@
  *   answer[SPILLFINCH_TRIED]    how many devices were tried for the parent keys (KERNELS, SUBSYSTEMS, DRIVERS, ATTRS) of all rules: for a
  *                               visited rule with such keys whose other keys hold, the place of the nearest device that has them all, from 1, or
  *                               the length of the chain if none has; at most the visited count times that length; 0 for all but a run
- *   answer[5] to answer[7]      0, kept for later counts
+ *   answer[5]                   0, kept for later
+ *   answer[SPILLFINCH_COUNT]    how many lines were struck; 0 after a refusal and for all but a strike
+ *   answer[7]                   0, kept for later
  *
- * All bytes of `target` are written in every call: behind what was made they are zero, after a refusal all of them are.
+ * All bytes of `target` are written in every call, and all numbers of `strikes`: behind what was made they are zero, after a refusal all of
+ * them are.
  */
 #ifndef SPILLFINCH_H
 #define SPILLFINCH_H
@@ -36,6 +39,9 @@ extern "C" {
 /* The longest input that can be accepted. A target for a rules text must have the room of the longest. */
 #define SPILLFINCH_TEXT_MOST 32768
 #define SPILLFINCH_DEVICE_MOST 16384
+
+/* The numbers that a list of strikes must have room for: two for each of the 16,384 lines that can be struck. */
+#define SPILLFINCH_STRIKES_ROOM 32768
 
 /* Limits of a rules text: bytes of a line without its joins, bytes of a value after unescaping, pairs of a line, rules. */
 #define SPILLFINCH_LINE_MOST 1024
@@ -60,6 +66,7 @@ enum spillfinch_answer {
     SPILLFINCH_VISITED = 2,
     SPILLFINCH_USED = 3,
     SPILLFINCH_TRIED = 4,
+    SPILLFINCH_COUNT = 6,
     SPILLFINCH_ANSWER_LENGTH = 8
 };
 
@@ -127,6 +134,14 @@ void spillfinch_older(const uint8_t *device, size_t device_length, const uint8_t
  * check with their lines, and last 2 where the written text has 32,769 bytes, with line 0. */
 void spillfinch_write(const uint8_t *text, size_t text_length, uint8_t *target, size_t target_length,
                       uint32_t answer[SPILLFINCH_ANSWER_LENGTH]);
+
+/* Writes a text without its faulty lines: each of them keeps its newlines and nothing else, all physical lines of a join together. Struck are the lines
+ * with 10 to 17 or 20, then of the other rules all behind the 512th (18), then, the last line first, each rule whose GOTO has no LABEL behind it that is
+ * kept (19). `strikes` lists each struck line by two numbers, its line (of a join the first one) and the number that struck it, by line;
+ * answer[SPILLFINCH_COUNT] says how many. What is written is accepted by a check, and an accepted text is written as it is. Refusals: 1, for
+ * a target below SPILLFINCH_TEXT_MOST bytes or strikes below SPILLFINCH_STRIKES_ROOM numbers, and 2. */
+void spillfinch_strike(const uint8_t *text, size_t text_length, uint8_t *target, size_t target_length, uint16_t *strikes,
+                       size_t strikes_length, uint32_t answer[SPILLFINCH_ANSWER_LENGTH]);
 
 #ifdef __cplusplus
 }

@@ -6,8 +6,19 @@ use mathlib.Core.List.{List, []}
 use Rattle.text.specs.Run.{Answer}
 use Rattle.answers.specs.declared.Given.{Given}
 use Rattle.answers.specs.Answers.{answered}
-use Rattle.spillfinch.specs.Exports.{numbers, Gives}
+use Rattle.striking.specs.Striking.{StrikeAnswer}
+use Rattle.strike.specs.declared.Struck.{Struck}
+use Rattle.strike.specs.Struck.{struckOf}
+use Rattle.spillfinch.specs.Exports.{numbers, numbersWith, Gives, StrikeIs}
 
 -- the numbers and the target of an answer
 pub gives : (g : Given) (written target : List ℕ) (a : Answer) → answered g target ≡ a → written ≡ numbers (answered g []) → Gives written target a
 gives g written target a e w = (w ∙ ap numbers e, ap (λ (b : Answer). b .bytes) e)
+
+-- the same of a strike
+pub strike-gives : (r : Struck) (written target list : List ℕ) (a : StrikeAnswer) → struckOf r target list ≡ a → written ≡ numbersWith (answered (r .given) []) (r .count) → StrikeIs a written target list
+strike-gives r written target list a e w = (
+  w ∙ ap (λ (b : StrikeAnswer). numbersWith (b .target) (b .count)) e,
+  ap (λ (b : StrikeAnswer). b .target .bytes) e,
+  ap (λ (b : StrikeAnswer). b .list) e,
+)

@@ -6,7 +6,7 @@ ghost use mathlib.Core.List.{List, []};
 ghost use lib.ListN.{length};
 ghost use Rattle.answers.specs.Answers.{answered};
 ghost use Rattle.engine.specs.Operations.{fresh as fresh-answer, close as close-answer};
-ghost use Rattle.spillfinch.specs.Exports.{numbers, Gives, CheckGives, RunGives, WriteGives, NewerGives, OlderGives};
+ghost use Rattle.spillfinch.specs.Exports.{numbers, numbersWith, Gives, CheckGives, RunGives, WriteGives, NewerGives, OlderGives, StrikeGives};
 
 fn put_answer(given: Given, answer: &mut [u32; 8])
     ensures { λ _. ⌜ now (answer .exit) ≡ numbers (answered given []) ⌝ }
@@ -19,6 +19,21 @@ fn put_answer(given: Given, answer: &mut [u32; 8])
         given.tried,
         0,
         0,
+        0,
+    ];
+}
+
+fn put_counted(given: Given, count: u32, answer: &mut [u32; 8])
+    ensures { λ _. ⌜ now (answer .exit) ≡ numbersWith (answered given []) count ⌝ }
+{
+    *answer = [
+        given.number,
+        given.line,
+        given.visited,
+        given.used,
+        given.tried,
+        0,
+        count,
         0,
     ];
 }
@@ -92,4 +107,19 @@ pub extern "C" fn spillfinch_write(text: &[u8], target: &mut [u8], answer: &mut 
     ensures { λ _. ⌜ WriteGives (now (text .entry)) (length (now (target .entry))) (now (answer .exit)) (now (target .exit)) ⌝ }
 {
     put_answer(write::write(text, target), answer);
+}
+
+// Document 02, Item 12.
+#[no_mangle]
+pub extern "C" fn spillfinch_strike(
+    text: &[u8],
+    target: &mut [u8],
+    strikes: &mut [u16],
+    answer: &mut [u32; 8],
+)
+    ensures { λ _. ⌜ StrikeGives (now (text .entry)) (length (now (target .entry))) (length (now (strikes .entry))) (now (answer .exit)) (now (target .exit)) (now (strikes .exit)) ⌝ }
+{
+    let struck = strike::strike(text, target, strikes);
+    let given = struck.given;
+    put_counted(given, struck.count, answer);
 }
