@@ -230,6 +230,11 @@ fn short_lines() -> Workload {
     workload("short_lines", text_of(16_384, |_| String::from("#")))
 }
 
+/// As many lines with a fault as a text can have.
+pub fn faulty_lines() -> Vec<u8> {
+    text_of(16_384, |_| String::from("x"))
+}
+
 /// Four assignments a rule, of one letter each.
 fn short_pairs() -> Workload {
     workload(

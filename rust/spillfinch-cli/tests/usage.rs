@@ -5,7 +5,9 @@ mod common;
 use common::{program, repository, run_in, Folder};
 use std::process::Command;
 
-const COMMANDS: [&str; 7] = ["check", "run", "test", "write", "show", "import", "convert"];
+const COMMANDS: [&str; 8] = [
+    "check", "run", "test", "write", "strike", "show", "import", "convert",
+];
 
 fn help(command: &str) -> String {
     let said = run_in(&repository(), &[command, "--help"], b"");
@@ -29,7 +31,7 @@ fn every_command_has_an_example_that_works() {
         let said = run_in(&repository(), &example[1..], b"");
         assert_eq!(said.status, 0, "{command}: {}", said.err);
         assert!(!said.out.is_empty(), "{command}");
-        assert_eq!(said.err, "", "{command}");
+        assert_eq!(said.err.is_empty(), command != "strike", "{command}");
     }
 }
 

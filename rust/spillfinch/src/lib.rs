@@ -21,6 +21,15 @@ pub struct Ran {
     pub record: Vec<u8>,
 }
 
+/// What is left of a text without its faulty lines.
+#[derive(Clone, Debug, PartialEq, Eq)]
+pub struct Struck {
+    /// The text; of a struck line its newlines are left.
+    pub text: Vec<u8>,
+    /// Each line that was struck, and why, by line.
+    pub strikes: Vec<Refused>,
+}
+
 /// Reads a rules text without a device; the refusal is that of its first fault.
 pub fn check(text: &[u8]) -> Result<(), Refused> {
     let mut answer = Answer::default();
@@ -80,13 +89,31 @@ pub fn write(text: &[u8]) -> Result<Vec<u8>, Refused> {
     Ok(text)
 }
 
+/// A text without the lines that have faults. What is left is accepted; only a text over
+/// [`sizes::TEXT_MOST`] is refused.
+pub fn strike(text: &[u8]) -> Result<Struck, Refused> {
+    let mut list = vec![0; sizes::STRIKES_ROOM];
+    let (answer, text) = written(sizes::TEXT_MOST, |target, answer| {
+        calls::strike(text, target, &mut list, answer);
+    })?;
+    let strikes = list.chunks_exact(2).take(answer[calls::COUNT] as usize);
+    let strikes = strikes
+        .map(|strike| refused(u32::from(strike[1]), u32::from(strike[0])))
+        .collect();
+    Ok(Struck { text, strikes })
+}
+
 fn accepted(answer: &Answer) -> Result<(), Refused> {
     match answer[calls::NUMBER] {
         0 => Ok(()),
-        number => Err(Refused {
-            refusal: Refusal::of_number(number).expect("the header names every number"),
-            line: answer[calls::LINE],
-        }),
+        number => Err(refused(number, answer[calls::LINE])),
+    }
+}
+
+fn refused(number: u32, line: u32) -> Refused {
+    Refused {
+        refusal: Refusal::of_number(number).expect("the header names every number"),
+        line,
     }
 }
 

@@ -8,6 +8,8 @@ pub const OLD_OUTCOME_ROOM: usize = 17_611;
 pub const RUN_LIST_ROOM: usize = 8_225;
 
 pub const TEXT_MOST: usize = 32_768;
+/// Two numbers for each of the 16,384 lines that can be struck from a text.
+pub const STRIKES_ROOM: usize = 32_768;
 pub const LINE_MOST: usize = 1_024;
 pub const VALUE_MOST: usize = 256;
 pub const PAIRS_MOST: usize = 32;

@@ -38,6 +38,7 @@ fn sizes_are_those_of_the_header() {
         ("OUTCOME_ROOM", sizes::OUTCOME_ROOM),
         ("OLD_OUTCOME_ROOM", sizes::OLD_OUTCOME_ROOM),
         ("RUN_LIST_ROOM", sizes::RUN_LIST_ROOM),
+        ("STRIKES_ROOM", sizes::STRIKES_ROOM),
         ("TEXT_MOST", sizes::TEXT_MOST),
         ("LINE_MOST", sizes::LINE_MOST),
         ("VALUE_MOST", sizes::VALUE_MOST),

@@ -1,6 +1,8 @@
 //! Each operation once accepted and once refused.
 
-use spillfinch::{check, close, fresh, newer, older, run, sizes, write, Refusal, Refused};
+use spillfinch::{
+    check, close, fresh, newer, older, run, sizes, strike, write, Refusal, Refused, Struck,
+};
 
 /// ttyUSB0 with one property and no parents.
 const DEVICE: &[u8] = b"\x10\x10\xbc\x00\x00\x00\x40\x10\x07ID_MODELcounter\x0a\x86\x00\x00\
@@ -147,6 +149,62 @@ fn writes_no_text_that_is_too_long() {
     assert_eq!(tight.len(), 32_768);
     assert_eq!(check(&tight), Ok(()));
     assert_eq!(write(&tight), refused(Refusal::TextLong, 0));
+}
+
+/// A line for its number, and why it is struck.
+fn strikes(list: &[(u32, Refusal)]) -> Vec<Refused> {
+    let refused = |&(line, refusal)| Refused { refusal, line };
+    list.iter().map(refused).collect()
+}
+
+#[test]
+fn strikes_lines() {
+    let text = b"GOTO=\"a\"\nTAG+=\"a\"\nTAG+=\"b\" x\\\n\nLABEL=\"a\",GOTO=\"b\"\n#\nTAG+=\"c\"\\";
+    let struck = strike(text).expect("a text that is not too long");
+    assert_eq!(struck.text, b"\nTAG+=\"a\"\n\n\n\n#\n");
+    let list = [
+        (1, Refusal::LabelMissing),
+        (3, Refusal::CommaMissing),
+        (5, Refusal::LabelMissing),
+        (7, Refusal::LineOpen),
+    ];
+    assert_eq!(struck.strikes, strikes(&list));
+    assert_eq!(check(&struck.text), Ok(()));
+    let again = Struck {
+        text: struck.text.clone(),
+        strikes: Vec::new(),
+    };
+    assert_eq!(strike(&struck.text), Ok(again));
+    assert_eq!(strike(&[b'\n'; 32_769]), refused(Refusal::TextLong, 0));
+}
+
+/// Lines with faults of reading are no rules, and a rule past the 512th answers nothing.
+#[test]
+fn strikes_rules_past_the_most() {
+    let rules = "TAG+=\"t\"\n".repeat(511);
+    let text = format!("bad\n{rules}GOTO=\"l\"\nLABEL=\"l\"\n");
+    let struck = strike(text.as_bytes()).expect("a text that is not too long");
+    let list = [
+        (1, Refusal::KeyBad),
+        (513, Refusal::LabelMissing),
+        (514, Refusal::RuleExtra),
+    ];
+    assert_eq!(struck.strikes, strikes(&list));
+    assert_eq!(struck.text, format!("\n{rules}\n\n").as_bytes());
+}
+
+/// As many strikes as there can be, and the greatest number of a line.
+#[test]
+fn strikes_the_most() {
+    let struck = strike(&b"x\n".repeat(16_384)).expect("a text that is not too long");
+    assert_eq!(struck.text, vec![b'\n'; 16_384]);
+    assert_eq!(struck.strikes.len(), 16_384);
+    assert_eq!(struck.strikes[16_383].line, 16_384);
+    let mut text = vec![b'\n'; 32_768];
+    text[32_767] = b'x';
+    let struck = strike(&text).expect("a text that is not too long");
+    assert_eq!(struck.text, vec![b'\n'; 32_767]);
+    assert_eq!(struck.strikes, strikes(&[(32_768, Refusal::KeyBad)]));
 }
 
 #[test]

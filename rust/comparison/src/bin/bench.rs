@@ -7,7 +7,7 @@ use std::io::{self, Write};
 use std::process::ExitCode;
 use std::time::Instant;
 
-use comparison::workloads::{all_workloads, counter, family, Workload};
+use comparison::workloads::{all_workloads, counter, family, faulty_lines, Workload};
 use comparison::Linked;
 use reference::compare::{run_reply, Engine, Reference, Request};
 use reference::request::Written;
@@ -17,6 +17,7 @@ const USAGE: &str = "usage: bench
        bench list                       name, bytes and rules of each text
        bench text TEXT                  a text itself
        bench count ENGINE TEXT TIMES    run a text so often with an engine, linked or reference
+       bench call OPERATION TEXT TIMES  check or strike a text so often, faulty_lines among them
        bench worst CASES                the generated cases whose runs take longest beside the reference";
 
 /// How often each text is run by each engine, in turns; the best time of all counts.
@@ -40,6 +41,7 @@ fn main() -> ExitCode {
         }
         ["text", text] => show_text(text),
         ["count", engine, text, times] => count(engine, text, times),
+        ["call", operation, text, times] => call(operation, text, times),
         ["worst", cases] => show_worst(cases),
         _ => None,
     };
@@ -148,6 +150,25 @@ fn count(engine: &str, text: &str, times: &str) -> Option<()> {
     let mut bench = Bench::new(&workload.outcome);
     for _ in 0..times {
         bench.run(engine, &workload.text);
+    }
+    Some(())
+}
+
+/// Calls an operation that takes only a text.
+fn call(operation: &str, text: &str, times: &str) -> Option<()> {
+    let text = match text {
+        "faulty_lines" => faulty_lines(),
+        _ => workload_of(text)?.text,
+    };
+    let request = match operation {
+        "check" => Request::Check { text: &text },
+        "strike" => Request::Strike { text: &text },
+        _ => return None,
+    };
+    let times: usize = times.parse().ok()?;
+    let mut written = Written::with_target(sizes::TEXT).with_strikes(2 * sizes::STRIKES);
+    for _ in 0..times {
+        black_box(Linked.answer(black_box(&request), &mut written));
     }
     Some(())
 }

@@ -1,44 +1,20 @@
-//! Every fault of a text. The engine names the first; its line is emptied and the text is
-//! checked again, until what is left is accepted.
+//! Every fault of a text, as the engine strikes its lines.
 
-use spillfinch::{Refusal, Refused};
+use spillfinch::{Refusal, Refused, Struck};
 
 use super::{labels, Remark, Subject};
 use crate::syntax::{lines, Fault};
 
-/// A text without its faulty lines, and what they were refused for, by line.
-#[derive(Debug)]
-pub struct Struck {
-    pub refused: Vec<Refused>,
-    /// The text with those lines empty but for their newlines; all of it where it is not about
-    /// lines.
-    pub kept: Vec<u8>,
-}
-
+/// The text without its faulty lines, and what they were struck for; none of it where the whole
+/// text is refused.
 pub fn strike(text: &[u8]) -> Struck {
-    let lines = lines(text);
-    let mut kept: Vec<Vec<u8>> = lines.iter().map(|line| line.lent.to_vec()).collect();
-    let mut refused = Vec::new();
-    let mut left = text.to_vec();
-    while let Err(found) = spillfinch::check(&left) {
-        refused.push(found);
-        match found.line {
-            0 => left.clear(),
-            number => {
-                let at = lines.partition_point(|line| line.number < number);
-                kept[at] = vec![b'\n'; lines[at].newlines()];
-                left = kept.join(&b'\n');
-            }
-        }
-    }
-    refused.sort_by_key(|refused| refused.line);
-    Struck {
-        refused,
-        kept: left,
-    }
+    spillfinch::strike(text).unwrap_or_else(|refused| Struck {
+        text: Vec::new(),
+        strikes: vec![refused],
+    })
 }
 
-/// What is said of each refused line.
+/// What is said of each struck line.
 pub fn remarks(text: &[u8], struck: &Struck) -> Vec<Remark> {
     let all = lines(text);
     let line_of = |number: u32| all.partition_point(|line| line.number < number);
@@ -61,7 +37,7 @@ pub fn remarks(text: &[u8], struck: &Struck) -> Vec<Remark> {
             hint,
         }
     };
-    struck.refused.iter().map(remark).collect()
+    struck.strikes.iter().map(remark).collect()
 }
 
 /// A fault that was found here, if the engine says the same.

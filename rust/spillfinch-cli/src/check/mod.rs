@@ -59,7 +59,7 @@ pub struct Checked {
 pub fn check(path: PathBuf, text: Vec<u8>, allowed: &[u8]) -> Checked {
     let struck = faults::strike(&text);
     let mut remarks = faults::remarks(&text, &struck);
-    let mut warnings = warnings::of(&rules(&struck.kept));
+    let mut warnings = warnings::of(&rules(&struck.text));
     warnings.retain(|warning| match warning.subject {
         Subject::Warning(number) => !allowed.contains(&number),
         Subject::Fault(_) => true,

@@ -5,6 +5,7 @@ mod convert;
 mod import;
 mod run;
 mod show;
+mod strike;
 mod test;
 mod write;
 
@@ -21,11 +22,12 @@ type Done = Result<Report, Failure>;
 /// A command and what carries it out.
 type Row = (fn() -> Command, fn(&ArgMatches) -> Done);
 
-const COMMANDS: [Row; 7] = [
+const COMMANDS: [Row; 8] = [
     (check::command, check::run),
     (run::command, run::run),
     (test::command, test::run),
     (write::command, write::run),
+    (strike::command, strike::run),
     (show::command, show::run),
     (import::command, import::run),
     (convert::command, convert::run),
