@@ -56,7 +56,7 @@ long-laws = record { there = long-there; back = long-back }
 
 -- ---- a set
 
-whole-some : {A : Type 0} (p : Parse A) (a : A) → whole p ≡ some a → p ≡ got a []
+pub whole-some : {A : Type 0} (p : Parse A) (a : A) → whole p ≡ some a → p ≡ got a []
 whole-some {A = A} bad a e = absurd (Option·none-ne-some a e)
 whole-some {A = A} (got x (b ∷ bs)) a e = absurd (Option·none-ne-some a e)
 whole-some {A = A} (got x []) a e = ap (λ (y : A). got y []) (Option·some-injective x a e)
