@@ -1,0 +1,4 @@
+pub mod Judging
+pub mod Records
+pub mod Links
+pub mod Turns
