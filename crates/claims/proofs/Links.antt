@@ -93,5 +93,6 @@ module _ (n : ℕ) (rec : List ℕ) (s : State) (by : Bytes rec) (is : decode n 
         counted = w .counted;
         row = many-row (text-reads okLink) (r .count) (drop (r .links) rec) (s .links) (w .rest) (w .read);
         named = many-names (text-reads okLink) (λ x. x) (λ bs. refl) (r .count) (drop (r .links) rec) (s .links) (w .rest) (w .read) ∙ map-id (s .links);
+        apart = good .links .apart;
         priority = p;
       }

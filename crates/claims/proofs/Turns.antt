@@ -8,7 +8,9 @@ use native.Mathlib.Omega.{arith}
 use native.Mathlib.Numerals.{add-one}
 use lib.ListN.{length, take, drop, set, drop-of-length-le}
 use lib.Seq.{take-suc-set}
+use lib.Signed.{ltZ}
 use Rattle.lists.specs.Lists.{pick, any}
+use Rattle.lists.proofs.Lists.{pick-both}
 use Rattle.outcome.specs.State.{State}
 use Rattle.contest.specs.Contest.{claims, rank, Claimant, claimant, claimants, positions, higher, highest}
 use Rattle.claims.specs.Records.{statesIn, Standing, StandsAt}
@@ -72,6 +74,7 @@ pub record Seen (lent x : List ℕ) (c : Claimant) (list : List ℕ) (top : Clai
   pub standing : Standing lent q (drop i (statesIn lent))
   pub upto : i ≤ n
   pub few : count ≤ i
+  pub low : top .position ≤ i
   pub listed : take count list ++ positions (others lent x i) ≡ positions (c ∷ others lent x (c .position))
   pub highest-is : highest top (others lent x i) ≡ highest c (others lent x (c .position))
 
@@ -84,6 +87,7 @@ module _ (lent x : List ℕ) (c : Claimant) (n : ℕ) where
         standing = w;
         upto = upto;
         few = some;
+        low = omega arith;
         listed = ap (λ (l : List ℕ). l ++ positions (others lent x (c .position))) first;
         highest-is = refl;
       }
@@ -103,6 +107,7 @@ module _ (lent x : List ℕ) (c : Claimant) (n : ℕ) where
           standing = onward;
           upto = omega arith;
           few = omega (arith, w .few);
+          low = omega (arith, w .low);
           listed = ap (λ (cs : List Claimant). take count list ++ positions cs) (sym same) ∙ w .listed;
           highest-is = ap (highest top) (sym same) ∙ w .highest-is;
         }
@@ -119,6 +124,7 @@ module _ (lent x : List ℕ) (c : Claimant) (n : ℕ) where
           standing = onward;
           upto = omega arith;
           few = omega (arith, w .few);
+          low = subst (λ (d : Claimant). d .position ≤ i + 1) (sym t) (pick-both (λ (d : Claimant). d .position ≤ i + 1) (ltZ (top .priority) (r .priority)) here top (omega arith) (omega (arith, w .low)));
           listed = ap (λ (l : List ℕ). l ++ positions (others lent x (i + 1))) grown
               ∙ append-assoc (take count list) ((i + 1) ∷ []) (positions (others lent x (i + 1)))
               ∙ ap (λ (cs : List Claimant). take count list ++ positions cs) (sym same)

@@ -2,8 +2,10 @@
 -- Assumes nothing.
 use Prim.Native.Nat.{ℕ, suc, _≤_}
 use mathlib.Core.Path.{_≡_}
+use mathlib.Core.Bool.{true}
 use mathlib.Core.List.{List, _∷_}
 use lib.ListN.{length, take, drop}
+use Rattle.lists.specs.Bytes.{distinct}
 use Rattle.rows.specs.Row.{Row, names}
 use Rattle.rows.specs.declared.Kind.the-variants as kind
 use Rattle.outcome.specs.State.{State}
@@ -21,6 +23,7 @@ pub record ClaimsAre (rec : List ℕ) (s : State) (r : Claims) : Type 0 where
   pub counted : r .count ≡ length (s .links)
   pub row : Row kind.Text (r .count) (drop (r .links) rec)
   pub named : names kind.Text (r .count) (drop (r .links) rec) ≡ s .links
+  pub apart : distinct (s .links) ≡ true
   pub priority : r .priority ≡ rank s
 
 -- the first of records claims a name or not, and the others begin behind it
@@ -37,3 +40,4 @@ pub record HoldingIs (list name : List ℕ) (c : contest.Claimant) (ss : List St
   pub holder : r .holder ≡ highest c (claimants name (suc (c .position)) ss) .position
   pub claimed : take (r .count) list ≡ positions (c ∷ claimants name (suc (c .position)) ss)
   pub few : r .count ≤ 64
+  pub low : r .holder ≤ 64

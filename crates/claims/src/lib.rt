@@ -157,7 +157,7 @@ fn higher(c: Claimant, d: Claimant) -> Claimant
     if c.priority < d.priority { d } else { c }
 }
 
-fn byte(n: usize) -> u8
+pub fn byte(n: usize) -> u8
     requires { ⌜ n < 256 ⌝ }
     ensures { λ r. ⌜ r ≡ n ⌝ }
 {

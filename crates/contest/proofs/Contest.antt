@@ -21,7 +21,7 @@ use Rattle.contest.proofs.Order.{highest-is, Below, Rising, highest-top
 
 -- ---- names
 
-among-append : (x : List ℕ) (ys zs : List (List ℕ)) → among x (ys ++ zs) ≡ (among x ys || among x zs)
+pub among-append : (x : List ℕ) (ys zs : List (List ℕ)) → among x (ys ++ zs) ≡ (among x ys || among x zs)
 among-append x [] zs = refl
 among-append x (y ∷ ys) zs = ap (λ (t : Bool). sameBytes y x || t) (among-append x ys zs) ∙ sym (or-assoc (sameBytes y x) (among x ys) (among x zs))
 
@@ -76,7 +76,7 @@ names-ordered ss = names-listed (λ x. claimants x 1 ss) (firsts (linksOf ss))
 
 -- ---- who claims a name
 
-among-links : (x : List ℕ) (ss : List State) → among x (linksOf ss) ≡ any (claims x) ss
+pub among-links : (x : List ℕ) (ss : List State) → among x (linksOf ss) ≡ any (claims x) ss
 among-links x [] = refl
 among-links x (s ∷ ss) = among-append x (s .links) (linksOf ss) ∙ ap (λ (t : Bool). claims x s || t) (among-links x ss)
 

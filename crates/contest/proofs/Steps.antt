@@ -10,14 +10,22 @@ use Rattle.lists.proofs.Tests.{neither}
 use Rattle.lists.proofs.Bytes.{same-sym, same-eq}
 use Rattle.contest.specs.Contest.{firsts}
 
-reject-append : (out : List ℕ → Bool) (xs ys : List (List ℕ)) → reject out (xs ++ ys) ≡ reject out xs ++ reject out ys
+pub reject-append : {A : Type 0} (out : A → Bool) (xs ys : List A) → reject out (xs ++ ys) ≡ reject out xs ++ reject out ys
 reject-append out [] ys = refl
-reject-append out (x ∷ xs) ys = at (out x) (reject-append out xs ys)
+reject-append {A} out (x ∷ xs) ys = at (out x) (reject-append out xs ys)
   where
     at : (t : Bool) → reject out (xs ++ ys) ≡ reject out xs ++ reject out ys
         → pick t (reject out (xs ++ ys)) (x ∷ reject out (xs ++ ys)) ≡ pick t (reject out xs) (x ∷ reject out xs) ++ reject out ys
     at true ih = ih
-    at false ih = ap (λ (l : List (List ℕ)). x ∷ l) ih
+    at false ih = ap (λ (l : List A). x ∷ l) ih
+
+-- later claims only add names
+pub firsts-more : (xs ys : List (List ℕ)) → (zs : List (List ℕ)) × (firsts (xs ++ ys) ≡ firsts xs ++ zs)
+firsts-more [] ys = (firsts ys, refl)
+firsts-more (x ∷ xs) ys =
+    let (zs, e) = firsts-more xs ys in
+    let out : List ℕ → Bool = λ y. sameBytes y x in
+    (reject out zs, ap (λ (l : List (List ℕ)). x ∷ reject out l) e ∙ ap (λ (l : List (List ℕ)). x ∷ l) (reject-append out (firsts xs) zs))
 
 -- a name that was claimed before changes nothing, a new one goes last
 pub firsts-snoc : (xs : List (List ℕ)) (x : List ℕ) → firsts (xs ++ (x ∷ [])) ≡ firsts xs ++ pick (among x xs) [] (x ∷ [])

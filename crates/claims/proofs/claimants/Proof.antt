@@ -107,7 +107,7 @@ returns c =
     let loop-test = c .loop-test in
     let pre = c .before .before .before .before .before .before .pre in
     let (top, claimed) = seen-all (entry .set .now) (entry .name .now) (asClaimant (entry .first)) (entry .n) (loop .list) (asClaimant (loop .top)) (loop .q) (loop .i) (loop .count) (loop .inv .0) (omega (arith, loop-test .left, pre .0)) in
-    record { holder = ap (λ (c : contest.Claimant). c .position) top; claimed = claimed; few = omega (arith, loop .inv .0 .few, loop .inv .0 .upto, pre .1) }
+    record { holder = ap (λ (c : contest.Claimant). c .position) top; claimed = claimed; few = omega (arith, loop .inv .0 .few, loop .inv .0 .upto, pre .1); low = omega (arith, loop .inv .0 .low, loop .inv .0 .upto, pre .1) }
 
 pub claimants-spec : {M : Type 1} → statement M
 claimants-spec =
