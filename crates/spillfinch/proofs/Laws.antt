@@ -9,7 +9,10 @@ use Rattle.answers.specs.Answers.{answered}
 use Rattle.striking.specs.Striking.{StrikeAnswer}
 use Rattle.strike.specs.declared.Struck.{Struck}
 use Rattle.strike.specs.Struck.{struckOf}
-use Rattle.spillfinch.specs.Exports.{numbers, numbersWith, Gives, StrikeIs}
+use Rattle.sets.specs.Answer as sets
+use Rattle.set_answers.specs.Answers as set
+use Rattle.set_answers.specs.declared.Given as set-given
+use Rattle.spillfinch.specs.Exports.{numbers, numbersWith, Gives, StrikeIs, setNumbers, SetGives}
 
 -- the numbers and the target of an answer
 pub gives : (g : Given) (written target : List ℕ) (a : Answer) → answered g target ≡ a → written ≡ numbers (answered g []) → Gives written target a
@@ -22,3 +25,6 @@ strike-gives r written target list a e w = (
   ap (λ (b : StrikeAnswer). b .target .bytes) e,
   ap (λ (b : StrikeAnswer). b .list) e,
 )
+
+pub set-gives : (g : set-given.Given) (written target : List ℕ) (a : sets.Answer) → set.answered g target ≡ a → written ≡ setNumbers (set.answered g []) → SetGives written target a
+set-gives g written target a e w = (w ∙ ap setNumbers e, ap (λ (b : sets.Answer). b .bytes) e)

@@ -5,8 +5,9 @@ ghost use mathlib.Core.Path.{_≡_};
 ghost use mathlib.Core.List.{List, []};
 ghost use lib.ListN.{length};
 ghost use Rattle.answers.specs.Answers.{answered};
+ghost use Rattle.set_answers.specs.Answers.{answered as answered-set};
 ghost use Rattle.engine.specs.Operations.{fresh as fresh-answer, close as close-answer};
-ghost use Rattle.spillfinch.specs.Exports.{numbers, numbersWith, Gives, CheckGives, RunGives, WriteGives, NewerGives, OlderGives, StrikeGives};
+ghost use Rattle.spillfinch.specs.Exports.{numbers, numbersWith, Gives, CheckGives, RunGives, WriteGives, NewerGives, OlderGives, StrikeGives, setNumbers, ContestGives};
 
 fn put_answer(given: Given, answer: &mut [u32; 8])
     ensures { λ _. ⌜ now (answer .exit) ≡ numbers (answered given []) ⌝ }
@@ -34,6 +35,22 @@ fn put_counted(given: Given, count: u32, answer: &mut [u32; 8])
         given.tried,
         0,
         count,
+        0,
+    ];
+}
+
+// The same of an operation whose answer has a position and a count.
+fn put_set_answer(given: set_answers::Given, answer: &mut [u32; 8])
+    ensures { λ _. ⌜ now (answer .exit) ≡ setNumbers (answered-set given []) ⌝ }
+{
+    *answer = [
+        given.number,
+        given.line,
+        given.visited,
+        given.used,
+        given.tried,
+        given.position,
+        given.count,
         0,
     ];
 }
@@ -122,4 +139,12 @@ pub extern "C" fn spillfinch_strike(
     let struck = strike::strike(text, target, strikes);
     let given = struck.given;
     put_counted(given, struck.count, answer);
+}
+
+// Document 02, Item 7.
+#[no_mangle]
+pub extern "C" fn spillfinch_contest(set: &[u8], target: &mut [u8], answer: &mut [u32; 8])
+    ensures { λ _. ⌜ ContestGives (now (set .entry)) (length (now (target .entry))) (now (answer .exit)) (now (target .exit)) ⌝ }
+{
+    put_set_answer(holders::contest(set, target), answer);
 }
