@@ -14,9 +14,9 @@
  *   answer[SPILLFINCH_TRIED]    how many devices were tried for the parent keys (KERNELS, SUBSYSTEMS, DRIVERS, ATTRS) of all rules: for a
  *                               visited rule with such keys whose other keys hold, the place of the nearest device that has them all, from 1, or
  *                               the length of the chain if none has; at most the visited count times that length; 0 for all but a run
- *   answer[5]                   0, kept for later
- *   answer[SPILLFINCH_COUNT]    how many lines were struck; 0 after a refusal and for all but a strike
- *   answer[7]                   0, kept for later
+ *   answer[SPILLFINCH_POSITION] the record of a set that is refused, from 1 in the lent order; 0 if the refusal is about none
+ *   answer[SPILLFINCH_COUNT]    how many lines were struck, or how many names a contest lists; 0 after a refusal and for all else
+ *   answer[7]                   0
  *
  * All bytes of `target` are written in every call, and all numbers of `strikes`: behind what was made they are zero, after a refusal all of
  * them are.
@@ -31,10 +31,12 @@
 extern "C" {
 #endif
 
-/* The room that a target must have: the length of the fullest outcome record, of the fullest one of edition 1, and of the fullest run list. */
+/* The room that a target must have: the length of the fullest outcome record, of the fullest one of edition 1, of the fullest run list, and of
+ * the fullest list of a contest. */
 #define SPILLFINCH_OUTCOME_ROOM 18125
 #define SPILLFINCH_OLD_OUTCOME_ROOM 17611
 #define SPILLFINCH_RUN_LIST_ROOM 8225
+#define SPILLFINCH_CONTEST_ROOM 134144
 
 /* The longest input that can be accepted. A target for a rules text must have the room of the longest. */
 #define SPILLFINCH_TEXT_MOST 32768
@@ -60,12 +62,17 @@ extern "C" {
 #define SPILLFINCH_OUTPUT_MOST 512
 #define SPILLFINCH_SUBSTITUTED_MOST 512
 
+/* Limits of a set: its records, and the bytes of each of them. */
+#define SPILLFINCH_RECORDS_MOST 64
+#define SPILLFINCH_LENT_MOST 65535
+
 enum spillfinch_answer {
     SPILLFINCH_NUMBER = 0,
     SPILLFINCH_LINE = 1,
     SPILLFINCH_VISITED = 2,
     SPILLFINCH_USED = 3,
     SPILLFINCH_TRIED = 4,
+    SPILLFINCH_POSITION = 5,
     SPILLFINCH_COUNT = 6,
     SPILLFINCH_ANSWER_LENGTH = 8
 };
@@ -78,6 +85,7 @@ enum spillfinch_refusal {
     SPILLFINCH_DEVICE_BAD = 3,
     SPILLFINCH_OUTCOME_BAD = 4,        /* an outcome record that is faulty: one whose mode lets others write, or of another edition, is, too */
     SPILLFINCH_TOO_NEW = 5,            /* an outcome record that says what edition 1 cannot: an output, watch or nowatch */
+    SPILLFINCH_SET_BAD = 7,            /* a set of more than 64 records, or bytes that are not laid out as one */
     SPILLFINCH_LINE_BAD = 10,          /* a line that is too long or holds NUL */
     SPILLFINCH_KEY_BAD = 11,           /* a key that is unknown or missing */
     SPILLFINCH_ARGUMENT_BAD = 12,      /* an argument in braces that is missing, faulty or not taken by the key */
@@ -142,6 +150,16 @@ void spillfinch_write(const uint8_t *text, size_t text_length, uint8_t *target, 
  * a target below SPILLFINCH_TEXT_MOST bytes or strikes below SPILLFINCH_STRIKES_ROOM numbers, and 2. */
 void spillfinch_strike(const uint8_t *text, size_t text_length, uint8_t *target, size_t target_length, uint16_t *strikes,
                        size_t strikes_length, uint32_t answer[SPILLFINCH_ANSWER_LENGTH]);
+
+/* Lists every link that outcome records claim, each once, in the order of the first claims: which record holds it, and which others claim it.
+ * Of the records that claim a link the one with the highest link priority (with its sign) holds it, of equals the earliest.
+ *
+ * The set: a byte with the number of records; for each its device record and then the outcome record, each behind its length in two bytes,
+ * the higher one first. The list: for each name a byte with its length, one with the holder's position (from 1 in the lent order), one with the
+ * number of other claimants; the name; the positions of those others, a byte each, in lent order. Refusals: 1, 7; then record by record 3 and 4
+ * with the position. */
+void spillfinch_contest(const uint8_t *set, size_t set_length, uint8_t *target, size_t target_length,
+                        uint32_t answer[SPILLFINCH_ANSWER_LENGTH]);
 
 #ifdef __cplusplus
 }

@@ -1,5 +1,5 @@
 /* The library from C: checks rules texts, takes a device from its fresh outcome record over a run to its run list, converts the record to
- * edition 1 and back, and writes rules back. */
+ * edition 1 and back, asks who of two holds a link, and writes rules back. */
 #include <stdio.h>
 #include <string.h>
 
@@ -20,6 +20,7 @@ static uint8_t next[SPILLFINCH_OUTCOME_ROOM];
 static uint8_t old[SPILLFINCH_OLD_OUTCOME_ROOM];
 static uint8_t run_list[SPILLFINCH_RUN_LIST_ROOM];
 static uint8_t written[SPILLFINCH_TEXT_MOST];
+static uint8_t list[SPILLFINCH_CONTEST_ROOM];
 
 static void show_answer(const char *what, const uint32_t *answer)
 {
@@ -81,6 +82,42 @@ static void convert(size_t outcome_length)
     show_answer("to edition 1 with watch", answer);
 }
 
+/* A record behind its length, in a set; where it ends. */
+static size_t put_record(uint8_t *set, size_t at, const uint8_t *bytes, size_t length)
+{
+    set[at] = (uint8_t)(length >> 8);
+    set[at + 1] = (uint8_t)length;
+    memcpy(set + at + 2, bytes, length);
+    return at + 2 + length;
+}
+
+/* Two outcomes of one device that claim one link, the second with a higher link priority. */
+static void contest(size_t outcome_length)
+{
+    uint32_t answer[SPILLFINCH_ANSWER_LENGTH];
+    uint8_t set[1024] = {2};
+
+    const char *priority = "OPTIONS=\"link_priority=1\"\n";
+    spillfinch_run((const uint8_t *)priority, strlen(priority), device, device_length, outcome, outcome_length, next, sizeof next, answer);
+    const size_t next_length = answer[SPILLFINCH_USED];
+    size_t end = put_record(set, 1, device, device_length);
+    end = put_record(set, end, outcome, outcome_length);
+    const size_t second = put_record(set, end, device, device_length);
+    end = put_record(set, second, next, next_length);
+
+    spillfinch_contest(set, end, list, sizeof list, answer);
+    show_answer("contest", answer);
+    printf("%u name listed\n", (unsigned)answer[SPILLFINCH_COUNT]);
+    show_bytes(list, answer[SPILLFINCH_USED]);
+
+    spillfinch_contest(set, end - 1, list, sizeof list, answer);
+    show_answer("contest of a set that is cut short", answer);
+    end = put_record(set, second, next, next_length - 1);
+    spillfinch_contest(set, end, list, sizeof list, answer);
+    show_answer("contest with a record that is cut short", answer);
+    printf("it is record %u\n", (unsigned)answer[SPILLFINCH_POSITION]);
+}
+
 int main(void)
 {
     uint32_t answer[SPILLFINCH_ANSWER_LENGTH];
@@ -106,6 +143,7 @@ int main(void)
     show_answer("close beside a device record that is cut short", answer);
 
     convert(outcome_length);
+    contest(outcome_length);
 
     try_mode(5, outcome_length);
     try_mode(2, outcome_length);

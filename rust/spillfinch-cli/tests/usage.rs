@@ -5,8 +5,8 @@ mod common;
 use common::{program, repository, run_in, Folder};
 use std::process::Command;
 
-const COMMANDS: [&str; 8] = [
-    "check", "run", "test", "write", "strike", "show", "import", "convert",
+const COMMANDS: [&str; 9] = [
+    "check", "run", "test", "write", "strike", "show", "import", "convert", "contest",
 ];
 
 fn help(command: &str) -> String {

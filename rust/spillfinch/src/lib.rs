@@ -3,10 +3,12 @@
 //! The C functions of `include/spillfinch.h` are declared here and nowhere else.
 
 pub mod calls;
+mod contest;
 mod refusal;
 pub mod sizes;
 
-pub use refusal::{Refusal, Refused};
+pub use contest::{contest, Claimant, Contest, Held, Names};
+pub use refusal::{Refusal, Refused, RefusedSet};
 
 use calls::Answer;
 

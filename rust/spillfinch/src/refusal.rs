@@ -11,6 +11,7 @@ pub enum Refusal {
     DeviceBad = 3,
     OutcomeBad = 4,
     TooNew = 5,
+    SetBad = 7,
     LineBad = 10,
     KeyBad = 11,
     ArgumentBad = 12,
@@ -33,12 +34,13 @@ pub enum Refusal {
 use Refusal::*;
 
 impl Refusal {
-    pub const ALL: [Refusal; 22] = [
+    pub const ALL: [Refusal; 23] = [
         TargetShort,
         TextLong,
         DeviceBad,
         OutcomeBad,
         TooNew,
+        SetBad,
         LineBad,
         KeyBad,
         ArgumentBad,
@@ -76,6 +78,7 @@ impl Refusal {
             DeviceBad => "the device record is faulty",
             OutcomeBad => "the outcome record is faulty",
             TooNew => "edition 1 has no room for an output, watch or nowatch",
+            SetBad => "the set has more than 64 records, or is not laid out as one",
             LineBad => "line longer than 1024 bytes, or with a NUL byte",
             KeyBad => "unknown or missing key",
             ArgumentBad => "argument in braces missing, faulty or not taken",
@@ -120,3 +123,20 @@ impl fmt::Display for Refused {
 }
 
 impl std::error::Error for Refused {}
+
+/// A refusal of a set, and the record that it is about.
+#[derive(Clone, Copy, Debug, PartialEq, Eq)]
+pub struct RefusedSet {
+    pub refusal: Refusal,
+    /// From 1 in the lent order; 0 if the refusal is about the set as a whole.
+    pub position: u32,
+}
+
+impl fmt::Display for RefusedSet {
+    fn fmt(&self, f: &mut fmt::Formatter) -> fmt::Result {
+        let number = self.refusal.number();
+        write!(f, "refused {number} record {}", self.position)
+    }
+}
+
+impl std::error::Error for RefusedSet {}

@@ -6,6 +6,8 @@ pub const OUTCOME_ROOM: usize = 18_125;
 pub const OLD_OUTCOME_ROOM: usize = 17_611;
 /// The fullest run list.
 pub const RUN_LIST_ROOM: usize = 8_225;
+/// The fullest list of a contest.
+pub const CONTEST_ROOM: usize = 134_144;
 
 pub const TEXT_MOST: usize = 32_768;
 /// Two numbers for each of the 16,384 lines that can be struck from a text.
@@ -14,3 +16,5 @@ pub const LINE_MOST: usize = 1_024;
 pub const VALUE_MOST: usize = 256;
 pub const PAIRS_MOST: usize = 32;
 pub const RULES_MOST: usize = 512;
+/// Records of a set.
+pub const RECORDS_MOST: usize = 64;

@@ -39,6 +39,8 @@ fn sizes_are_those_of_the_header() {
         ("OLD_OUTCOME_ROOM", sizes::OLD_OUTCOME_ROOM),
         ("RUN_LIST_ROOM", sizes::RUN_LIST_ROOM),
         ("STRIKES_ROOM", sizes::STRIKES_ROOM),
+        ("CONTEST_ROOM", sizes::CONTEST_ROOM),
+        ("RECORDS_MOST", sizes::RECORDS_MOST),
         ("TEXT_MOST", sizes::TEXT_MOST),
         ("LINE_MOST", sizes::LINE_MOST),
         ("VALUE_MOST", sizes::VALUE_MOST),
@@ -60,6 +62,7 @@ fn refusals_are_those_of_the_header() {
 fn texts_name_the_limits() {
     for (refusal, size) in [
         (Refusal::TextLong, sizes::TEXT_MOST),
+        (Refusal::SetBad, sizes::RECORDS_MOST),
         (Refusal::LineBad, sizes::LINE_MOST),
         (Refusal::ValueBad, sizes::VALUE_MOST),
         (Refusal::PairExtra, sizes::PAIRS_MOST),

@@ -1,7 +1,8 @@
 //! Each operation once accepted and once refused.
 
 use spillfinch::{
-    check, close, fresh, newer, older, run, sizes, strike, write, Refusal, Refused, Struck,
+    check, close, contest, fresh, newer, older, run, sizes, strike, write, Claimant, Held, Refusal,
+    Refused, RefusedSet, Struck,
 };
 
 /// ttyUSB0 with one property and no parents.
@@ -47,6 +48,57 @@ fn converts() {
     assert_eq!(close(DEVICE, &old), refused(Refusal::OutcomeBad, 0));
     let watched = run(b"OPTIONS=\"watch\"", DEVICE, &start).expect("an accepted run");
     assert_eq!(older(DEVICE, &watched.record), refused(Refusal::TooNew, 0));
+}
+
+#[test]
+fn contests() {
+    let start = fresh(DEVICE).expect("a sound device");
+    let ran = |rules: &str| {
+        let ran = run(rules.as_bytes(), DEVICE, &start).expect("an accepted run");
+        ran.record
+    };
+    let low = ran("SYMLINK+=\"rope a\", OPTIONS=\"link_priority=-1\"");
+    let high = ran("SYMLINK+=\"b rope\", OPTIONS=\"link_priority=1\"");
+    let claimant = |outcome| Claimant {
+        device: DEVICE,
+        outcome,
+    };
+    let held = |name, holder, others| Held {
+        name,
+        holder,
+        others,
+    };
+    let list = contest(&[&low, &high, &low].map(|record| claimant(record))).expect("sound records");
+    let rows: Vec<Held> = list.into_iter().collect();
+    assert_eq!(
+        rows,
+        [
+            held(b"rope", 2, &[1, 3]),
+            held(b"a", 1, &[3]),
+            held(b"b", 2, &[]),
+        ]
+    );
+    assert_eq!((list.len(), list.is_empty()), (3, false));
+    let none = contest(&[]).expect("an empty set");
+    assert_eq!((none.names().count(), none.is_empty()), (0, true));
+
+    let refused = |refusal, position| Err(RefusedSet { refusal, position });
+    let faulty = Claimant {
+        device: b"",
+        outcome: b"",
+    };
+    assert_eq!(
+        contest(&[claimant(&low), claimant(b""), faulty]),
+        refused(Refusal::OutcomeBad, 2)
+    );
+    assert_eq!(contest(&[faulty]), refused(Refusal::DeviceBad, 1));
+    assert_eq!(contest(&[claimant(&low); 65]), refused(Refusal::SetBad, 0));
+    assert!(contest(&[claimant(&low); 64]).is_ok());
+    let long = vec![0; 65_535];
+    assert_eq!(contest(&[claimant(&long)]), refused(Refusal::OutcomeBad, 1));
+    let longer = vec![0; 65_536];
+    assert_eq!(contest(&[claimant(&longer)]), refused(Refusal::SetBad, 0));
+    assert_eq!(contest(&[claimant(&low); 256]), refused(Refusal::SetBad, 0));
 }
 
 /// Names of so many bytes that differ in their first one.

@@ -1,6 +1,7 @@
 //! The commands: for each, its arguments and its work.
 
 mod check;
+mod contest;
 mod convert;
 mod import;
 mod run;
@@ -31,6 +32,7 @@ const COMMANDS: [Row; 8] = [
     (show::command, show::run),
     (import::command, import::run),
     (convert::command, convert::run),
+    (contest::command, contest::run),
 ];
 
 pub fn command() -> Command {

@@ -1,0 +1,116 @@
+//! Who holds a link, as the command tells it.
+
+mod common;
+
+use common::{repository, run_in, Folder};
+use std::fs;
+
+const LINKS: &str = "link rope/trip\n  holder examples/link/b\n  other examples/link/a\n\
+    link rope/ttyUSB0\n  holder examples/link/a\nlink rope/ttyUSB1\n  holder examples/link/b\n";
+
+fn words(line: &str) -> Vec<&str> {
+    line.split(' ').collect()
+}
+
+/// The example's devices and rules.
+fn folder(name: &str) -> Folder {
+    let folder = Folder::new(name);
+    for file in ["counters.rules", "a.device", "b.device", "a", "b"] {
+        let example = repository().join("examples/link").join(file);
+        folder.file(file, fs::read(example).expect("an example"));
+    }
+    folder
+}
+
+#[test]
+fn two_counters_claim_one_link() {
+    let pairs = "contest examples/link/a examples/link/a.device examples/link/b \
+        examples/link/b.device";
+    run_in(&repository(), &words(pairs), b"").is(0, LINKS, "");
+    let other_way = "contest examples/link/b examples/link/b.device examples/link/a \
+        examples/link/a.device";
+    let said = run_in(&repository(), &words(other_way), b"");
+    assert_eq!(said.status, 0, "{}", said.err);
+    let first =
+        "link rope/trip\n  holder examples/link/b\n  other examples/link/a\nlink rope/ttyUSB1\n";
+    assert!(said.out.starts_with(first), "{}", said.out);
+}
+
+#[test]
+fn records_as_a_run_leaves_them() {
+    let folder = folder("contest_after_run");
+    for device in ["a", "b"] {
+        let run = format!("run counters.rules --device {device}.device --record {device}.packed");
+        let said = folder.run(&words(&run));
+        assert_eq!(said.status, 0, "{}", said.err);
+    }
+    let packed = folder.run(&words("contest a.packed a.device b.packed b.device"));
+    let form = folder.run(&words("contest a a.device b b.device"));
+    assert_eq!(form.status, 0, "{}", form.err);
+    packed.is(
+        0,
+        &form
+            .out
+            .replace(" a\n", " a.packed\n")
+            .replace(" b\n", " b.packed\n"),
+        "",
+    );
+}
+
+#[test]
+fn of_equals_the_first() {
+    let folder = folder("contest_equals");
+    folder.run(&words("contest a a.device a a.device")).is(
+        0,
+        "link rope/trip\n  holder a\n  other a\nlink rope/ttyUSB0\n  holder a\n  other a\n",
+        "",
+    );
+    folder.file("low", "priority -2147483648\nlink rope/trip\n");
+    folder.file("high", "priority 2147483647\nlink rope/trip\n");
+    folder
+        .run(&words("contest low a.device high b.device low a.device"))
+        .is(
+            0,
+            "link rope/trip\n  holder high\n  other low\n  other low\n",
+            "",
+        );
+    folder.file("none", "priority 7\n");
+    folder.run(&words("contest none a.device")).is(0, "", "");
+}
+
+#[test]
+fn refused() {
+    let folder = folder("contest_refused");
+    folder
+        .file("bad.device", b"\x10\0\0")
+        .file("bad", b"\x20\0\0");
+    let run = |line: &str| folder.run(&words(line));
+    run("contest a a.device bad b.device b bad.device").is(
+        1,
+        "",
+        "bad: refused 4: the outcome record is faulty\n",
+    );
+    run("contest a a.device bad bad.device").is(
+        1,
+        "",
+        "bad.device: refused 3: the device record is faulty\n",
+    );
+    let many = format!("contest{}", " a a.device".repeat(65));
+    run(&many).is(
+        1,
+        "",
+        "refused 7: the set has more than 64 records, or is not laid out as one\n",
+    );
+    let most = format!("contest{}", " a a.device".repeat(64));
+    assert_eq!(run(&most).status, 0);
+}
+
+#[test]
+fn bad_usage() {
+    let folder = folder("contest_usage");
+    let run = |line: &str| folder.run(&words(line));
+    run("contest a a.device b").is(2, "", "spillfinch: b: no device follows it\n");
+    assert_eq!(run("contest a").status, 2);
+    assert_eq!(run("contest").status, 2);
+    run("contest gone a.device").is(2, "", "spillfinch: gone: No such file or directory\n");
+}

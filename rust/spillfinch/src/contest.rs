@@ -1,0 +1,111 @@
+//! Which record holds a link that several claim.
+
+use crate::calls::{self, Answer};
+use crate::{sizes, Refusal, RefusedSet};
+
+/// An outcome record, and the record of the device that it belongs to.
+#[derive(Clone, Copy, Debug, PartialEq, Eq)]
+pub struct Claimant<'a> {
+    pub device: &'a [u8],
+    pub outcome: &'a [u8],
+}
+
+/// A name that is claimed. Positions count from 1 in the order in which the records were lent.
+#[derive(Clone, Copy, Debug, PartialEq, Eq)]
+pub struct Held<'a> {
+    pub name: &'a [u8],
+    /// The position of the record that holds the link.
+    pub holder: u8,
+    /// Those of the other records that claim it, in lent order.
+    pub others: &'a [u8],
+}
+
+/// All names that records claim, in the order in which they are first claimed.
+#[derive(Clone, Debug, PartialEq, Eq)]
+pub struct Contest {
+    rows: Vec<u8>,
+    names: usize,
+}
+
+impl Contest {
+    /// How many names are claimed.
+    pub fn len(&self) -> usize {
+        self.names
+    }
+
+    pub fn is_empty(&self) -> bool {
+        self.names == 0
+    }
+
+    pub fn names(&self) -> Names<'_> {
+        Names { rest: &self.rows }
+    }
+}
+
+impl<'a> IntoIterator for &'a Contest {
+    type Item = Held<'a>;
+    type IntoIter = Names<'a>;
+
+    fn into_iter(self) -> Names<'a> {
+        self.names()
+    }
+}
+
+/// The names of a contest, one by one.
+#[derive(Clone, Debug)]
+pub struct Names<'a> {
+    rest: &'a [u8],
+}
+
+impl<'a> Iterator for Names<'a> {
+    type Item = Held<'a>;
+
+    fn next(&mut self) -> Option<Held<'a>> {
+        let (&[name, holder, others], rest) = self.rest.split_first_chunk()?;
+        let (name, rest) = rest.split_at_checked(name.into())?;
+        let (others, rest) = rest.split_at_checked(others.into())?;
+        self.rest = rest;
+        Some(Held {
+            name,
+            holder,
+            others,
+        })
+    }
+}
+
+/// For every link that the records claim, the one that holds it: of those that claim it the one
+/// with the highest link priority, and of equals the earliest.
+pub fn contest(records: &[Claimant]) -> Result<Contest, RefusedSet> {
+    let set = lent(records).ok_or(RefusedSet {
+        refusal: Refusal::SetBad,
+        position: 0,
+    })?;
+    let mut target = vec![0; sizes::CONTEST_ROOM];
+    let mut answer = Answer::default();
+    calls::contest(&set, &mut target, &mut answer);
+    match answer[calls::NUMBER] {
+        0 => {
+            target.truncate(answer[calls::USED] as usize);
+            Ok(Contest {
+                rows: target,
+                names: answer[calls::COUNT] as usize,
+            })
+        }
+        number => Err(RefusedSet {
+            refusal: Refusal::of_number(number).expect("the header names every number"),
+            position: answer[calls::POSITION],
+        }),
+    }
+}
+
+/// The bytes of a set, if its counts and lengths can be said.
+fn lent(records: &[Claimant]) -> Option<Vec<u8>> {
+    let mut set = vec![u8::try_from(records.len()).ok()?];
+    for record in records {
+        for bytes in [record.device, record.outcome] {
+            set.extend(u16::try_from(bytes.len()).ok()?.to_be_bytes());
+            set.extend(bytes);
+        }
+    }
+    Some(set)
+}
