@@ -32,6 +32,7 @@ fn call(request: &Request, written: &mut Written, answer: &mut AnswerArray) {
             outcome,
         } => calls::run(text, device, outcome, target, answer),
         Request::Close { device, outcome } => calls::close(device, outcome, target, answer),
+        Request::Contest { set } => calls::contest(set, target, answer),
         Request::Write { text } => calls::write(text, target, answer),
         Request::Strike { text } => calls::strike(text, target, strikes, answer),
         Request::Newer { device, outcome } => calls::newer(device, outcome, target, answer),
@@ -62,6 +63,7 @@ impl Engine for LinkedApart {
                 device: &own(device),
                 outcome: &own(outcome),
             }),
+            Request::Contest { set } => call(Request::Contest { set: &own(set) }),
             Request::Write { text } => call(Request::Write { text: &own(text) }),
             Request::Strike { text } => call(Request::Strike { text: &own(text) }),
             Request::Newer { device, outcome } => call(Request::Newer {

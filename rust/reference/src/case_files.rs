@@ -16,6 +16,10 @@ pub fn write_case(directory: &Path, case: &Case) -> io::Result<()> {
     let mut rooms = format!("fresh {fresh}\nrun {run}\nclose {close}\n");
     match &case.extra {
         Extra::Nothing => {}
+        Extra::Contest { set, room } => {
+            fs::write(directory.join("set"), set)?;
+            rooms += &format!("contest {room}\n");
+        }
         Extra::Convert { old, newer, older } => {
             fs::write(directory.join("old"), old)?;
             rooms += &format!("newer {newer}\nolder {older}\n");
@@ -42,6 +46,11 @@ pub fn read_case(directory: &Path) -> io::Result<Case> {
             old: fs::read(directory.join("old"))?,
             newer: room("newer")?,
             older: room("older")?,
+        }
+    } else if let Ok(room) = room("contest") {
+        Extra::Contest {
+            set: fs::read(directory.join("set"))?,
+            room,
         }
     } else if let Ok(room) = room("write") {
         Extra::Write { room }

@@ -17,6 +17,7 @@ pub enum Operation {
     Close,
     /// The close of the record that the run has left.
     CloseAfterRun,
+    Contest,
     Newer,
     OlderAfterNewer,
     Older,

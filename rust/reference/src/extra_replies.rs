@@ -8,6 +8,11 @@ use crate::request::Written;
 pub fn extra_replies(engine: &dyn Engine, case: &Case) -> Vec<Reply> {
     match &case.extra {
         Extra::Nothing => Vec::new(),
+        Extra::Contest { set, room } => {
+            let request = Request::Contest { set };
+            let written = Written::with_target(*room);
+            vec![reply(engine, Operation::Contest, &request, written)]
+        }
         Extra::Convert { old, newer, older } => convert_replies(engine, case, old, *newer, *older),
         Extra::Write { room } => write_replies(engine, &case.text, *room),
         Extra::Strike { room, strikes } => strike_replies(engine, &case.text, *room, *strikes),

@@ -1,5 +1,6 @@
 //! Generated cases: a rules text, a device record, an outcome record, target lengths, and what else is asked for.
 
+mod contest_edges;
 mod damage;
 mod edge_cases;
 pub mod edges;
@@ -8,6 +9,7 @@ pub mod faults;
 pub mod joins;
 mod pairs;
 mod patterns;
+pub mod record_sets;
 pub mod rng;
 mod rules_text;
 mod strike_edges;

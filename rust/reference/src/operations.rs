@@ -1,8 +1,10 @@
 //! The operations on packed records, with the numbers that they give back.
 
+use crate::contest::{self, Contested};
 use crate::device::Device;
 use crate::engine::Runner;
 use crate::outcome::{Edition, Outcome};
+use crate::record_set::{RecordPair, RecordSet};
 use crate::refusal::{Fault, Refusal};
 use crate::rules;
 use crate::run_list::RunList;
@@ -65,6 +67,12 @@ pub fn run(text: &[u8], device: &[u8], outcome: &[u8], target: &mut [u8]) -> Ans
 /// Writes the run list of an outcome.
 pub fn close(device: &[u8], outcome: &[u8], target: &mut [u8]) -> Answer {
     let result = make_close(device, outcome, target.len());
+    deliver(result, target)
+}
+
+/// Writes the holder of each link that the records of a set claim, with the other claimants.
+pub fn contest(set: &[u8], target: &mut [u8]) -> Answer {
+    let result = make_contest(set, target.len());
     deliver(result, target)
 }
 
@@ -154,6 +162,32 @@ fn make_close(device: &[u8], outcome: &[u8], room: usize) -> Result<Accepted, Re
         record: run_list.encode(),
         ..Accepted::default()
     })
+}
+
+fn make_contest(set: &[u8], room: usize) -> Result<Accepted, Refusal> {
+    check_room(room, sizes::CONTEST_TARGET)?;
+    let outcomes: Vec<Outcome> = (1..)
+        .zip(decode_set(set)?.entries)
+        .map(|(position, records)| {
+            let outcome = decode_records(&records);
+            outcome.map_err(|refusal| refusal.at_position(position))
+        })
+        .collect::<Result<_, _>>()?;
+    let list: Vec<Contested> = contest::contest(&outcomes);
+    Ok(Accepted {
+        count: list.len() as u32,
+        record: contest::encode(&list),
+        ..Accepted::default()
+    })
+}
+
+fn decode_set(set: &[u8]) -> Result<RecordSet, Refusal> {
+    RecordSet::decode(set).ok_or(Fault::Set.without_line())
+}
+
+fn decode_records(records: &RecordPair) -> Result<Outcome, Refusal> {
+    let device = decode_device(&records.device)?;
+    decode_outcome(&records.outcome, &device)
 }
 
 fn make_newer(device: &[u8], outcome: &[u8], room: usize) -> Result<Accepted, Refusal> {

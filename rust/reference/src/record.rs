@@ -44,11 +44,23 @@ impl<'a> BitReader<'a> {
 
     /// The fields before each text fill whole bytes, so a text starts at a byte.
     pub fn text(&mut self, length: usize) -> Option<Vec<u8>> {
+        let text = self.bytes(length)?;
+        (!text.contains(&0)).then_some(text)
+    }
+
+    /// Any bytes, NUL among them.
+    fn bytes(&mut self, length: usize) -> Option<Vec<u8>> {
         debug_assert_eq!(self.position % 8, 0);
         let start = self.position / 8;
-        let text = self.record.get(start..start + length)?;
+        let bytes = self.record.get(start..start + length)?;
         self.position += 8 * length;
-        (!text.contains(&0)).then(|| text.to_vec())
+        Some(bytes.to_vec())
+    }
+
+    /// Any bytes behind their length, as in a set.
+    pub fn long_bytes(&mut self) -> Option<Vec<u8>> {
+        let length = self.count(16)?;
+        self.bytes(length)
     }
 
     pub fn end(&self) -> Option<()> {
@@ -102,6 +114,11 @@ impl BitWriter {
     pub fn text(&mut self, text: &[u8]) {
         debug_assert_eq!(self.bits_in_last, 0);
         self.record.extend_from_slice(text);
+    }
+
+    pub fn long_bytes(&mut self, bytes: &[u8]) {
+        self.count(16, bytes.len());
+        self.text(bytes);
     }
 
     pub fn finish(self) -> Vec<u8> {

@@ -9,6 +9,7 @@ pub enum Fault {
     DeviceRecord = 3,
     OutcomeRecord = 4,
     NotInEdition1 = 5,
+    Set = 7,
     Line = 10,
     Key = 11,
     Argument = 12,
@@ -29,12 +30,13 @@ pub enum Fault {
 }
 
 impl Fault {
-    pub const ALL: [Fault; 22] = [
+    pub const ALL: &[Fault] = &[
         Fault::Target,
         Fault::Text,
         Fault::DeviceRecord,
         Fault::OutcomeRecord,
         Fault::NotInEdition1,
+        Fault::Set,
         Fault::Line,
         Fault::Key,
         Fault::Argument,

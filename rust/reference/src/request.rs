@@ -23,6 +23,9 @@ pub enum Request<'a> {
         device: &'a [u8],
         outcome: &'a [u8],
     },
+    Contest {
+        set: &'a [u8],
+    },
     Write {
         text: &'a [u8],
     },
@@ -102,6 +105,7 @@ impl Engine for Reference {
                 outcome,
             } => operations::run(text, device, outcome, target),
             Request::Close { device, outcome } => operations::close(device, outcome, target),
+            Request::Contest { set } => operations::contest(set, target),
             Request::Write { text } => operations::write(text, target),
             Request::Strike { text } => operations::strike(text, target, strikes),
             Request::Newer { device, outcome } => operations::newer(device, outcome, target),

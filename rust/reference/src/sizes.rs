@@ -38,6 +38,11 @@ pub const OUTPUT: usize = 512;
 pub const OUTCOME_TARGET: usize = 18_125;
 /// The same of edition 1.
 pub const OLD_OUTCOME_TARGET: usize = 17_611;
+/// The records of a set, each with its device.
+pub const SET_RECORDS: usize = 64;
+/// The list of a contest in which each record claims all the links that it can, none of them
+/// another's.
+pub const CONTEST_TARGET: usize = SET_RECORDS * LINKS * (3 + LINK);
 /// The fullest run list, and so the least room for a target of one.
 pub const RUN_LIST_TARGET: usize = 8_225;
 /// The struck lines of a text, and so the least room for a list of them.

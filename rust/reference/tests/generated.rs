@@ -51,6 +51,7 @@ fn every_faulty_pair_gives_its_number() {
 
 /// The numbers that cases reach with what they ask for beside check, fresh, run and close.
 const EXTRA_ANSWERS: &[(Operation, &[u32])] = &[
+    (Operation::Contest, &[0, 1, 3, 4, 7]),
     (Operation::Newer, &[0, 1, 3, 4]),
     (Operation::OlderAfterNewer, &[0, 1, 4]),
     (Operation::Older, &[0, 1, 3, 4, 5]),
@@ -73,7 +74,7 @@ fn cases_reach_everything() {
     });
     assert!(findings.is_empty());
     assert_eq!(coverage.cases, CASES);
-    for fault in Fault::ALL {
+    for &fault in Fault::ALL {
         let count = coverage.number_count(fault.number());
         assert!(count >= 20, "{fault:?} only {count} times\n{coverage}");
     }

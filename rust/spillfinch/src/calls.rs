@@ -47,6 +47,14 @@ extern "C" {
         answer: *mut Answer,
     );
 
+    fn spillfinch_contest(
+        set: *const u8,
+        set_length: usize,
+        target: *mut u8,
+        target_length: usize,
+        answer: *mut Answer,
+    );
+
     fn spillfinch_write(
         text: *const u8,
         text_length: usize,
@@ -128,6 +136,18 @@ pub fn close(device: &[u8], outcome: &[u8], target: &mut [u8], answer: &mut Answ
             device.len(),
             outcome.as_ptr(),
             outcome.len(),
+            target.as_mut_ptr(),
+            target.len(),
+            answer,
+        );
+    }
+}
+
+pub fn contest(set: &[u8], target: &mut [u8], answer: &mut Answer) {
+    unsafe {
+        spillfinch_contest(
+            set.as_ptr(),
+            set.len(),
             target.as_mut_ptr(),
             target.len(),
             answer,

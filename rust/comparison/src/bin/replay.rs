@@ -84,6 +84,7 @@ fn show_replies(case: &Case, replies: &[Reply]) {
             | Operation::WriteAgain
             | Operation::Strike
             | Operation::StrikeAgain => Some(String::from_utf8_lossy(record).into_owned()),
+            Operation::Contest => None,
             Operation::Older | Operation::OlderAfterNewer => {
                 Outcome::decode_edition(Edition::First, record, chain_length)
                     .map(|outcome| show_outcome(&outcome))

@@ -29,7 +29,7 @@ fn case(text: Vec<u8>, device: Vec<u8>, outcome: Vec<u8>) -> Case {
 }
 
 /// A device with a parent and a few properties and attributes.
-fn some_device(rng: &mut Rng) -> Device {
+pub fn some_device(rng: &mut Rng) -> Device {
     loop {
         let mut device = world::device(rng);
         device.properties.truncate(4);

@@ -1,5 +1,6 @@
 //! Cases at and just past each limit, and records with a single fault.
 
+use super::contest_edges::CONTEST_EDGES;
 use super::edge_cases::*;
 use super::rng::Rng;
 use super::rules_text::broken;
@@ -845,6 +846,7 @@ pub const WRITER_EDGES: &[Edge] = &[
 pub const EDGES: &[&[Edge]] = &[
     STRIKE_EDGES,
     WRITER_EDGES,
+    CONTEST_EDGES,
     CONVERSION_EDGES,
     TEXT_EDGES,
     JOIN_EDGES,

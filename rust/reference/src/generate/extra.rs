@@ -1,6 +1,7 @@
 //! What is asked for beside the check, the fresh record, the run and the close.
 
 use super::damage::damage;
+use super::record_sets::record_set;
 use super::rng::Rng;
 use super::Case;
 use crate::device::Device;
@@ -10,6 +11,11 @@ use crate::sizes;
 #[derive(Clone, Debug, PartialEq, Eq)]
 pub enum Extra {
     Nothing,
+    /// The holders of the links that the records of a set claim.
+    Contest {
+        set: Vec<u8>,
+        room: usize,
+    },
     /// The conversion of a record of edition 1, that of the case's outcome record, and back.
     Convert {
         old: Vec<u8>,
@@ -36,6 +42,10 @@ pub fn extra(rng: &mut Rng, case: &Case) -> Extra {
             room: room(rng, sizes::TEXT),
         },
         14..=16 => strike(rng),
+        17..=22 => Extra::Contest {
+            set: record_set(rng),
+            room: room(rng, sizes::CONTEST_TARGET),
+        },
         _ => Extra::Nothing,
     }
 }

@@ -24,6 +24,14 @@ pub fn world(rng: &mut Rng) -> World {
     World { device, outcome }
 }
 
+/// A device with an outcome that mostly claims links.
+pub fn claimant(rng: &mut Rng) -> (Device, Outcome) {
+    let device = device(rng);
+    let limit = if rng.percent(90) { 5 } else { 17 };
+    let outcome = used_outcome(rng, &device, limit);
+    (device, outcome)
+}
+
 pub fn device(rng: &mut Rng) -> Device {
     Device {
         action: rng.pick(&Action::ALL),
