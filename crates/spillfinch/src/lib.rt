@@ -24,15 +24,16 @@ fn put_answer(given: Given, answer: &mut [u32; 8])
     ];
 }
 
-fn put_counted(given: Given, count: u32, answer: &mut [u32; 8])
-    ensures { λ _. ⌜ now (answer .exit) ≡ numbersWith (answered given []) count ⌝ }
+// The same with a count.
+fn put_counted(struck: Given, count: u32, answer: &mut [u32; 8])
+    ensures { λ _. ⌜ now (answer .exit) ≡ numbersWith (answered struck []) count ⌝ }
 {
     *answer = [
-        given.number,
-        given.line,
-        given.visited,
-        given.used,
-        given.tried,
+        struck.number,
+        struck.line,
+        struck.visited,
+        struck.used,
+        struck.tried,
         0,
         count,
         0,
@@ -40,17 +41,17 @@ fn put_counted(given: Given, count: u32, answer: &mut [u32; 8])
 }
 
 // The same of an operation whose answer has a position and a count.
-fn put_set_answer(given: set_answers::Given, answer: &mut [u32; 8])
-    ensures { λ _. ⌜ now (answer .exit) ≡ setNumbers (answered-set given []) ⌝ }
+fn put_set_answer(told: set_answers::Given, answer: &mut [u32; 8])
+    ensures { λ _. ⌜ now (answer .exit) ≡ setNumbers (answered-set told []) ⌝ }
 {
     *answer = [
-        given.number,
-        given.line,
-        given.visited,
-        given.used,
-        given.tried,
-        given.position,
-        given.count,
+        told.number,
+        told.line,
+        told.visited,
+        told.used,
+        told.tried,
+        told.position,
+        told.count,
         0,
     ];
 }

@@ -23,7 +23,7 @@ type Done = Result<Report, Failure>;
 /// A command and what carries it out.
 type Row = (fn() -> Command, fn(&ArgMatches) -> Done);
 
-const COMMANDS: [Row; 8] = [
+const COMMANDS: [Row; 9] = [
     (check::command, check::run),
     (run::command, run::run),
     (test::command, test::run),
