@@ -39,10 +39,12 @@ use Rattle.outcome.specs.Edits as edits
 use Rattle.text.specs.Lines as lines
 use Rattle.text.specs.Reading as text
 use Rattle.text.specs.Running as running
-use Rattle.text.specs.Run as run
+use Rattle.sheet.specs.Sheet as sheet
+use Rattle.sheet.specs.Sheet.{Reply, Sheet}
 use Rattle.engine.specs.Match as matching
 use Rattle.engine.specs.Substitute as substitute
 use Rattle.engine.specs.Assign as assign
+use Rattle.engine.specs.Programs as programs
 use Rattle.engine.specs.Step as step
 use Rattle.engine.specs.Operations as operations
 use Rattle.engine.specs.Convert as convert
@@ -103,6 +105,21 @@ chain16 = deviceOf [] (member "/a/b/c/d/e/f/g/h/i/j/k/l/m/n/o/p" "s" "" [])
     ∷ member "/a" "s" "d" (("f", "top") ∷ [])
     ∷ [])
 
+-- a sheet with no entries, and an entry
+unfoldable pub blank : List ℕ
+blank = 0 ∷ []
+
+unfoldable pub answer : String → Bool → String → Reply
+unfolding bytes
+answer c good o = record { success = good; command = bytes c; output = bytes o }
+
+-- what programs said
+unfoldable pub said : List Reply
+unfolding answer
+said =
+    answer "q" true "yes\n\n" ∷ answer "f" false "no" ∷ answer "r ttyUSB0" true "a b\n" ∷ answer "n" true "" ∷ answer "got yes" true "2"
+    ∷ answer "m" true "0666" ∷ answer "w" true " \t" ∷ answer "i" true "a\nb\r\n" ∷ []
+
 -- ---- cases
 
 pub data Case : Type 0 where
@@ -114,6 +131,8 @@ pub data Case : Type 0 where
   refuses : String → String → ℕ → ℕ → Case
   -- on a device, from its fresh record, a text gives this listing
   lists : String → Device → String → String → Case
+  -- the same with an answer sheet (document 02, Item 6)
+  sheets : String → Device → List Reply → String → String → Case
   -- an answer has this number, line, visited count and used length, fills its room, and is zero behind the used bytes
   answers : String → Answer → ℕ → ℕ → ℕ → ℕ → ℕ → Case
   -- an answer has this count of devices tried (document 02, Item 9)
@@ -134,11 +153,12 @@ isRefused (refused (line l f)) n m = eqb (number f) n && eqb l m
 isRefused (ok rs) n m = false
 
 unfoldable pub right : Case → Bool
-unfolding bytesOf.sameBytes bytesOf.starts runs.span runs.splitAt runs.trim runs.endsInSpace runs.endDigits items.items items.inBraces quoted.bytes pattern.members pattern.bodyOf pattern.elements pattern.eats pattern.anySuffix pattern.fits pattern.alternativeMatches pattern.wellFormed pattern.matches template.names template.letters template.nameIn template.pieces template.wellFormed key.rows key.rowIn key.rowOf pair.isBuiltin pair.valueOf setting.digitsFrom setting.integerOf setting.settingOf reading.readKey reading.isType reading.readArgument reading.readOp reading.quoted reading.unescape reading.readPlain coded.escapes coded.escapeIn coded.coded reading.readCoded reading.readValue reading.sound reading.readPair reading.readPairs reading.readLine bits.toBits bits.fromBits bits.bitsOf bits.bytesOf bits.numberAt fields.packed deviceHead.header deviceHead.lensBytes device.actionNames device.actionOf device.encode device.decode outcomeHead.header outcome.encode outcome.decode outcome.fresh outcome1.renewed outcome1.aged outcome1.encodeOld outcome1.decodeOld edits.addEntry edits.replaceProperty edits.setProperty lines.newlines lines.stageOf lines.linesIn lines.numbered lines.lines lines.unjoined text.readLent text.collect text.goesTo text.settle text.readText running.runFrom run.answer run.runChecked run.run matching.valueHolds matching.listHolds matching.seenBy matching.attrHolds matching.driverHolds matching.keyHolds matching.pairHolds matching.allHold matching.hasParents matching.parentHolds matching.parentsHold matching.nearest matching.placeOf matching.matched matching.tried decimal.decimalOn substitute.inserted substitute.pieceText substitute.textOf substitute.substituted substitute.filled assign.changeEntry assign.namesIn assign.changeLinks assign.linked assign.changeTags assign.tagged assign.changeRuns assign.queued assign.owned assign.grouped assign.moded assign.changeProperties assign.valued assign.assigned assign.assignPair assign.assignAll step.stepAt step.step operations.decodeFor operations.freshChecked operations.fresh operations.runList operations.commands operations.closeChecked operations.close convert.decodeOldFor convert.newerChecked convert.newer convert.olderChecked convert.older listing.escaped listing.lineOf listing.listingOf listing.listed listing.printed listing.listingFrom listing.listing
+unfolding blank bytesOf.sameBytes bytesOf.starts runs.span runs.splitAt runs.trim runs.chomp runs.endsInSpace runs.endDigits items.items items.inBraces quoted.bytes pattern.members pattern.bodyOf pattern.elements pattern.eats pattern.anySuffix pattern.fits pattern.alternativeMatches pattern.wellFormed pattern.matches template.names template.letters template.nameIn template.pieces template.wellFormed key.rows key.rowIn key.rowOf pair.isBuiltin pair.valueOf setting.digitsFrom setting.integerOf setting.settingOf reading.readKey reading.isType reading.readArgument reading.readOp reading.quoted reading.unescape reading.readPlain coded.escapes coded.escapeIn coded.coded reading.readCoded reading.readValue reading.sound reading.readPair reading.readPairs reading.readLine bits.toBits bits.fromBits bits.bitsOf bits.bytesOf bits.numberAt fields.packed deviceHead.header deviceHead.lensBytes device.actionNames device.actionOf device.encode device.decode outcomeHead.header outcome.encode outcome.decode outcome.fresh outcome1.renewed outcome1.aged outcome1.encodeOld outcome1.decodeOld edits.addEntry edits.replaceProperty edits.setProperty lines.newlines lines.stageOf lines.linesIn lines.numbered lines.lines lines.unjoined text.readLent text.collect text.goesTo text.settle text.readText running.runFrom matching.valueHolds matching.listHolds matching.seenBy matching.attrHolds matching.driverHolds matching.keyHolds matching.pairHolds matching.allHold matching.hasParents matching.parentHolds matching.parentsHold matching.nearest matching.placeOf matching.matched matching.tried decimal.decimalOn substitute.inserted substitute.pieceText substitute.textOf substitute.substituted substitute.filled assign.changeEntry assign.namesIn assign.changeLinks assign.linked assign.changeTags assign.tagged assign.changeRuns assign.queued assign.owned assign.grouped assign.moded assign.changeProperties assign.valued assign.assigned assign.assignPair assign.assignAll programs.stored programs.asked programs.askPair programs.askAll programs.resultHolds programs.resultsHold step.finished step.stepAt step.step sheet.encode sheet.decode sheet.replyTo operations.decodeFor operations.runChecked operations.ran operations.run operations.freshChecked operations.fresh operations.runList operations.commands operations.closeChecked operations.close convert.decodeOldFor convert.newerChecked convert.newer convert.olderChecked convert.older listing.escaped listing.lineOf listing.listingOf listing.listed listing.printed listing.listingFrom listing.listing
 right (matches name p v b) = pattern.wellFormed (bytes p) && same b (pattern.matches (bytes p) (bytes v))
 right (valued name v n) = hasLength (reading.readValue (bytes v)) n
 right (refuses name t n l) = isRefused (text.readText reading.reader (bytes t)) n l
-right (lists name d t shown) = sameBytes (listing.listing (bytes t) (device.encode d)) (bytes shown)
+right (lists name d t shown) = sameBytes (listing.listing (bytes t) (device.encode d) blank) (bytes shown)
+right (sheets name d a t shown) = sameBytes (listing.listing (bytes t) (device.encode d) (sheet.encode a)) (bytes shown)
 right (answers name a n l v u room) =
     eqb (a .number) n
     && (eqb (a .line) l
@@ -151,6 +171,7 @@ nameOf (matches name p v b) = name
 nameOf (valued name v n) = name
 nameOf (refuses name t n l) = name
 nameOf (lists name d t shown) = name
+nameOf (sheets name d a t shown) = name
 nameOf (answers name a n l v u room) = name
 nameOf (tries name a n) = name
 nameOf (leaves name a made) = name
@@ -184,10 +205,10 @@ refused3 name dev = answers name (operations.fresh dev 18125) 3 0 0 0 18125
 
 -- beside the bare device
 unfoldable pub refused4 : String → List ℕ → Case
-refused4 name out = answers name (operations.run [] bare out 18125) 4 0 0 0 18125
+refused4 name out = answers name (operations.run [] bare out blank 18125) 4 0 0 0 18125
 
 unfoldable pub sound4 : String → List ℕ → Case
-sound4 name out = leaves name (operations.run [] bare out 18125) out
+sound4 name out = leaves name (operations.run [] bare out blank 18125) out
 
 -- a record with counts in the bytes 8 to 10 of its header, and entries
 unfoldable pub record-of : ℕ → ℕ → ℕ → List ℕ → List ℕ

@@ -20,7 +20,7 @@ use Rattle.entries.specs.Entry.{Property, okProp, keys, lookup, orEmpty}
 use Rattle.entries.proofs.Entries.{Clean, lookup-clean}
 use Rattle.template.specs.Template as T
 use Rattle.template.specs.Decimal.{decimalOn, decimal}
-use Rattle.template.specs.Template.{Piece, Form, plain, braced, Named, names, letters, nameIn, textIn, withText, formed, namedPiece, Sign, dollar-sign, percent-sign, no-sign, signOf, pieceBy, pieceAt, pieces}
+use Rattle.template.specs.Template.{Piece, Form, plain, whole, braced, Named, names, letters, nameIn, textIn, withText, startsBrace, formed, namedPiece, Sign, dollar-sign, percent-sign, no-sign, signOf, pieceBy, pieceAt, pieces}
 use Rattle.device.specs.Device.{Member, Device, chain, nameOf, attrOf, memberAt, okPath, okMember}
 use Rattle.lists.specs.Sizes.{mostPath, mostSubsystem, mostAttributes}
 use Rattle.engine.specs.Substitute.{ofMatched, attrAt, firstOf, Source, matchedIn, inserted, isWritten, noSpace, pieceText, textOf, piecesOf, substituted}
@@ -39,11 +39,13 @@ cleanPiece T.major = true
 cleanPiece T.minor = true
 cleanPiece (T.attr k) = true
 cleanPiece (T.env k) = true
+cleanPiece T.result = true
 cleanPiece T.dollar = true
 cleanPiece T.percent = true
 
 abbrev FormOk : Form → Type 0
 FormOk (plain p) = cleanPiece p ≡ true
+FormOk (whole p) = cleanPiece p ≡ true
 FormOk (braced f) = (k : List ℕ) → cleanPiece (f k) ≡ true
 
 abbrev ItemOk : Option (Item Piece) → Type 0
@@ -65,11 +67,11 @@ nameIn-ok (n ∷ ns) (h, k) bs = pick-both NameOk (starts (n .name) bs) (some n)
 
 names-ok : All (λ (n : Named). FormOk (n .form)) names
 unfolding names
-names-ok = (refl, (refl, (refl, (refl, (refl, ((λ k. refl), ((λ k. refl), (refl, (refl, (refl, tt))))))))))
+names-ok = (refl, (refl, (refl, (refl, (refl, ((λ k. refl), ((λ k. refl), (refl, (refl, (refl, (refl, tt)))))))))))
 
 letters-ok : All (λ (n : Named). FormOk (n .form)) letters
 unfolding letters
-letters-ok = (refl, (refl, (refl, (refl, ((λ k. refl), ((λ k. refl), (refl, (refl, (refl, tt)))))))))
+letters-ok = (refl, (refl, (refl, (refl, ((λ k. refl), ((λ k. refl), (refl, (refl, (refl, (refl, tt))))))))))
 
 withText-ok : (f : List ℕ → Piece) (n : ℕ) (o : Option (List ℕ)) → ((k : List ℕ) → cleanPiece (f k) ≡ true) → ItemOk (withText f n o)
 withText-ok f n none h = tt
@@ -77,6 +79,7 @@ withText-ok f n (some text) h = h text
 
 formed-ok : (f : Form) (n : ℕ) (rest : List ℕ) → FormOk f → ItemOk (formed f n rest)
 formed-ok (plain p) n rest h = h
+formed-ok (whole p) n rest h = pick-both ItemOk (startsBrace rest) none (some (record { value = p; more = n })) tt h
 formed-ok (braced f) n rest h = withText-ok f n (textIn rest) h
 
 named-ok : (o : Option Named) (bs : List ℕ) → NameOk o → ItemOk (namedPiece o bs)
@@ -181,7 +184,7 @@ decimal-clean (suc k) n done h = at (ltb n 10) refl (λ m more g. decimal-clean 
     at true e ih = rw (e, decimalOn) (both-and (not (eqb (48 + n) 0)) (clean done) (digit-clean n) h)
     at false e ih = rw (e, decimalOn) (ih (n / 10) ((48 + n % 10) ∷ done) (both-and (not (eqb (48 + n % 10) 0)) (clean done) (digit-clean (n % 10)) h))
 
-module _ (c : Source) (g : Sound (c .device)) (k : all okProp (c .properties) ≡ true) where
+module _ (c : Source) (g : Sound (c .device)) (k : all okProp (c .properties) ≡ true) (x : clean (c .output) ≡ true) where
   event-clean : MemberClean (c .device .event)
   event-clean = member-clean (c .device .event) (g .event)
 
@@ -203,6 +206,7 @@ module _ (c : Source) (g : Sound (c .device)) (k : all okProp (c .properties) �
       (or-clean (firstOf (attrOf f (c .device .event)) (attrAt f (matchedIn c)))
       (first-clean (attrOf f (c .device .event)) (attrAt f (matchedIn c)) (lookup-clean f (c .device .event .attributes) (event-clean .attributes)) (attrAt-clean f (matchedIn c) matched-clean)))
   inserted-clean (T.env f) h = or-clean (lookup f (c .properties)) (lookup-clean f (c .properties) k)
+  inserted-clean T.result h = x
   inserted-clean T.dollar h = refl
   inserted-clean T.percent h = refl
 

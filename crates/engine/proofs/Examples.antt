@@ -4,16 +4,17 @@
 use Prim.Native.Nat.{ℕ}
 use Prim.Native.String.{String}
 use mathlib.Core.Path.{_≡_, refl}
+use mathlib.Core.Bool.{true, false}
 use mathlib.Core.List.{List, [], _∷_, _++_}
 use lib.ListN.{take, drop, replicate}
 use Rattle.lists.specs.Quoted.{bytes}
 use Rattle.device.specs.Device as device
 use Rattle.engine.specs.Operations as operations
 use Rattle.engine.specs.Convert as convert
-use Rattle.engine.proofs.Cases.{Case, lists, answers, tries, leaves, wrong, properties, member, deviceOf, alone, tty, usb, chain16, changed, bare, empty, empty1, refused3, refused4, sound4, record-of}
+use Rattle.engine.proofs.Cases.{Case, lists, sheets, answers, tries, leaves, wrong, properties, member, deviceOf, alone, tty, usb, chain16, changed, blank, answer, bare, empty, empty1, refused3, refused4, sound4, record-of}
 
 pub examples : List Case
-unfolding properties member deviceOf alone tty usb chain16 changed bare empty empty1 refused3 refused4 sound4 record-of
+unfolding properties member deviceOf alone tty usb chain16 changed blank answer bare empty empty1 refused3 refused4 sound4 record-of
 examples =
     lists "all digits" (alone [] "/b/0123" []) "SYMLINK+=\"x%n\"" "visited 1\ntried 0\npriority 0\nlink x0123\n"
     -- a 17th link; one that is held already; a place that was freed
@@ -25,8 +26,8 @@ examples =
     ∷ lists "highest priority" tty "OPTIONS=\"link_priority=2147483647\"" "visited 1\ntried 0\npriority 2147483647\n"
     ∷ lists "priority too high" tty "OPTIONS=\"link_priority=2147483648\"" "refused 15 line 1\n"
     -- the longest line
-    ∷ answers "1,024 bytes" (operations.run (35 ∷ replicate 1023 120) bare empty 18125) 0 0 0 13 18125
-    ∷ answers "1,025 bytes" (operations.run (10 ∷ 35 ∷ replicate 1024 120) bare empty 18125) 10 2 0 0 18125
+    ∷ answers "1,024 bytes" (operations.run (35 ∷ replicate 1023 120) bare empty blank 18125) 0 0 0 13 18125
+    ∷ answers "1,025 bytes" (operations.run (10 ∷ 35 ∷ replicate 1024 120) bare empty blank 18125) 10 2 0 0 18125
     -- the listing's example
     ∷ lists "listing" usb "KERNEL==\"ttyUSB[0-9]*\", ATTRS{serial}==\"RC-0417\", SYMLINK+=\"rope/trip%n\", MODE=\"0660\", GROUP=\"dialout\"" "visited 1\ntried 2\npriority 0\nmode 0660\ngroup dialout\nlink rope/trip0\n"
     ∷ lists "listing refused" tty "\nTAG+=\"a\"\n\nGOTO=\"b\"\n" "refused 19 line 4\n"
@@ -79,22 +80,22 @@ examples =
     ∷ lists "34 empty" tty "MODE=\"\"" "refused 34 line 1\n"
     -- 1
     ∷ answers "1 fresh" (operations.fresh bare 18124) 1 0 0 0 18124
-    ∷ answers "1 run" (operations.run (bytes "x") bare empty 18124) 1 0 0 0 18124
+    ∷ answers "1 run" (operations.run (bytes "x") bare empty blank 18124) 1 0 0 0 18124
     ∷ answers "1 close" (operations.close bare empty 8224) 1 0 0 0 8224
     ∷ answers "close needs less" (operations.close bare empty 8225) 0 0 0 1 8225
     -- the packed forms by hand
-    ∷ leaves "closes links" (operations.run (bytes "SYMLINK:=\"\"") bare empty 18125) (changed 0 40 empty)
-    ∷ leaves "closes tags" (operations.run (bytes "TAG:=\"\"") bare empty 18125) (changed 0 36 empty)
-    ∷ leaves "closes runs" (operations.run (bytes "RUN:=\"\"") bare empty 18125) (changed 0 34 empty)
-    ∷ leaves "closes owner" (operations.run (bytes "OWNER:=\"o\"") bare empty 18125) (changed 0 33 (changed 1 1 empty) ++ (111 ∷ []))
-    ∷ leaves "closes group" (operations.run (bytes "GROUP:=\"g\"") bare empty 18125) (changed 1 128 (changed 2 4 empty) ++ (103 ∷ []))
-    ∷ leaves "closes mode" (operations.run (bytes "MODE:=\"1\"") bare empty 18125) (changed 1 64 (changed 2 2 (changed 4 32 empty)))
-    ∷ leaves "priority -1" (operations.run (bytes "OPTIONS=\"link_priority=-1\"") bare empty 18125) (changed 4 31 (changed 5 255 (changed 6 255 (changed 7 255 (changed 8 224 empty)))))
+    ∷ leaves "closes links" (operations.run (bytes "SYMLINK:=\"\"") bare empty blank 18125) (changed 0 40 empty)
+    ∷ leaves "closes tags" (operations.run (bytes "TAG:=\"\"") bare empty blank 18125) (changed 0 36 empty)
+    ∷ leaves "closes runs" (operations.run (bytes "RUN:=\"\"") bare empty blank 18125) (changed 0 34 empty)
+    ∷ leaves "closes owner" (operations.run (bytes "OWNER:=\"o\"") bare empty blank 18125) (changed 0 33 (changed 1 1 empty) ++ (111 ∷ []))
+    ∷ leaves "closes group" (operations.run (bytes "GROUP:=\"g\"") bare empty blank 18125) (changed 1 128 (changed 2 4 empty) ++ (103 ∷ []))
+    ∷ leaves "closes mode" (operations.run (bytes "MODE:=\"1\"") bare empty blank 18125) (changed 1 64 (changed 2 2 (changed 4 32 empty)))
+    ∷ leaves "priority -1" (operations.run (bytes "OPTIONS=\"link_priority=-1\"") bare empty blank 18125) (changed 4 31 (changed 5 255 (changed 6 255 (changed 7 255 (changed 8 224 empty)))))
     ∷ leaves "fresh" (operations.fresh bare 18125) empty
     ∷ leaves "fresh, longer target" (operations.fresh bare 20000) empty
-    ∷ leaves "empty text" (operations.run [] bare empty 18125) empty
-    ∷ answers "visited" (operations.run (bytes "TAG=\"a\"\n\n#\nKERNEL==\"b\"") bare empty 18125) 0 0 2 15 18125
-    ∷ leaves "packed run" (operations.run (bytes "KERNELS==\"a\", RUN{builtin}+=\"xy\"") bare empty 18125) (record-of 0 0 1 (132 ∷ 4 ∷ 120 ∷ 121 ∷ []))
+    ∷ leaves "empty text" (operations.run [] bare empty blank 18125) empty
+    ∷ answers "visited" (operations.run (bytes "TAG=\"a\"\n\n#\nKERNEL==\"b\"") bare empty blank 18125) 0 0 2 15 18125
+    ∷ leaves "packed run" (operations.run (bytes "KERNELS==\"a\", RUN{builtin}+=\"xy\"") bare empty blank 18125) (record-of 0 0 1 (132 ∷ 4 ∷ 120 ∷ 121 ∷ []))
     ∷ leaves "run list" (operations.close bare (record-of 0 0 1 (132 ∷ 4 ∷ 37 ∷ 107 ∷ [])) 8225) (8 ∷ 128 ∷ 32 ∷ 97 ∷ [])
     -- 3, and what is sound beside it
     ∷ refused3 "3 empty" []
@@ -111,8 +112,8 @@ examples =
     ∷ refused3 "3 parent is no cut" (changed 0 17 bare ++ drop 7 bare)
     ∷ answers "root as parent" (operations.fresh ((17 ∷ 0 ∷ 0 ∷ 0 ∷ 0 ∷ 0 ∷ 0 ∷ 2 ∷ 0 ∷ 0 ∷ 0 ∷ 47 ∷ 97 ∷ 47 ∷ 98 ∷ []) ++ drop 7 bare) 18125) 0 0 0 13 18125
     -- 3 comes after a fault of the text
-    ∷ answers "text first" (operations.run (bytes "x") [] [] 18125) 11 1 0 0 18125
-    ∷ answers "device next" (operations.run (bytes "") [] [] 18125) 3 0 0 0 18125
+    ∷ answers "text first" (operations.run (bytes "x") [] [] blank 18125) 11 1 0 0 18125
+    ∷ answers "device next" (operations.run (bytes "") [] [] blank 18125) 3 0 0 0 18125
     -- 4
     ∷ refused4 "4 empty" []
     ∷ refused4 "4 edition 1" (changed 0 16 empty)
@@ -148,7 +149,7 @@ examples =
     ∷ lists "closed, then removed" tty "SYMLINK:=\"a b\", SYMLINK-=\"a\"" "visited 1\ntried 0\npriority 0\nlink a\nlink b\n"
     ∷ lists "closed within a rule" tty "TAG:=\"t\", TAG+=\"u\", TAG-=\"t\", TAG=\"v\", OWNER:=\"o\", OWNER=\"b\", MODE:=\"1\", MODE:=\"9\"" "visited 1\ntried 0\npriority 0\nmode 0001\nowner o\ntag t\n"
     ∷ lists "closed, no 30" (alone (("v", "xxxxxxxxxxxxxxxxxxxxxxxxxxxxxxxxxxxxxxxxxxxxxxxxxxxxxxxxxxxxxxxx") ∷ []) "/a" []) "OWNER:=\"o\"\nOWNER=\"$env{v}$env{v}$env{v}$env{v}$env{v}$env{v}$env{v}$env{v}+\"" "visited 2\ntried 0\npriority 0\nowner o\nenv v=xxxxxxxxxxxxxxxxxxxxxxxxxxxxxxxxxxxxxxxxxxxxxxxxxxxxxxxxxxxxxxxx\n"
-    ∷ leaves "closed in the record" (operations.run (bytes "SYMLINK+=\"/\", SYMLINK-=\"..\", TAG=\"t\"") bare (changed 0 40 empty) 18125) (changed 0 40 (record-of 0 0 32 (1 ∷ 116 ∷ [])))
+    ∷ leaves "closed in the record" (operations.run (bytes "SYMLINK+=\"/\", SYMLINK-=\"..\", TAG=\"t\"") bare (changed 0 40 empty) blank 18125) (changed 0 40 (record-of 0 0 32 (1 ∷ 116 ∷ [])))
     ∷ lists "owner apart from group" tty "OWNER:=\"o\"\nGROUP=\"g\", GROUP=\"h\", OWNER=\"p\"" "visited 2\ntried 0\npriority 0\nowner o\ngroup h\n"
     ∷ lists "present but empty" (deviceOf [] (member "/p/e1" "tty" "" (("s", "") ∷ [])) (member "/p" "usb" "d" (("s", "P") ∷ []) ∷ [])) "SUBSYSTEMS==\"usb\", SYMLINK+=\"x$attr{s} y%s{t}\"" "visited 1\ntried 2\npriority 0\nlink x\nlink y\n"
     ∷ lists "attribute trimmed at its end" (deviceOf [] (member "/p/e1" "tty" "" (("s", " a\tb \n") ∷ [])) (member "/p" "usb" "d" [] ∷ [])) "SYMLINK+=\"x$attr{s}\", RUN+=\"$attr{s}.\"" "visited 1\ntried 0\npriority 0\nlink x_a_b\nprogram  a\\x09b.\n"
@@ -156,7 +157,7 @@ examples =
     ∷ lists "missing is not empty" tty "ATTRS{serial}!=\"\", SYMLINK+=\"$id\"\nATTRS{serial}==\"\", SYMLINK+=\"x$id\"" "visited 2\ntried 4\npriority 0\nlink ttyUSB0\n"
     ∷ lists "no driver" tty "DRIVERS==\"\", SYMLINK+=\"x$id$driver\"\nDRIVERS==\"?*\", SYMLINK+=\"y$driver\"\nDRIVER==\"\", TAG+=\"t\"\nDRIVER!=\"*\", TAG+=\"u\"" "visited 4\ntried 5\npriority 0\nlink yftdi\ntag u\n"
     ∷ lists "parent key and event key" tty "KERNEL==\"ttyUSB0\", KERNELS==\"usb1\", ATTR{serial}!=\"*\", ATTRS{serial}==\"hub\", SYMLINK+=\"$id/$attr{serial}\"" "visited 1\ntried 3\npriority 0\nlink usb1/hub\n"
-    ∷ leaves "place 16" (operations.run (bytes "KERNELS==\"a\", RUN+=\"%b\"\nKERNELS==\"p\", RUN{builtin}+=\"x\"") (device.encode chain16) empty 18125) (record-of 0 0 2 (64 ∷ 4 ∷ 37 ∷ 98 ∷ 132 ∷ 2 ∷ 120 ∷ []))
+    ∷ leaves "place 16" (operations.run (bytes "KERNELS==\"a\", RUN+=\"%b\"\nKERNELS==\"p\", RUN{builtin}+=\"x\"") (device.encode chain16) empty blank 18125) (record-of 0 0 2 (64 ∷ 4 ∷ 37 ∷ 98 ∷ 132 ∷ 2 ∷ 120 ∷ []))
     ∷ lists "from label to label" tty "GOTO=\"a\"\nTAG+=\"x\"\nLABEL=\"a\", GOTO=\"a\"\nTAG+=\"y\"\nLABEL=\"a\", TAG+=\"z\"" "visited 3\ntried 0\npriority 0\ntag z\n"
     ∷ lists "label on a rule that fails" tty "GOTO=\"a\"\nTAG+=\"x\"\nLABEL=\"a\", KERNEL==\"no\", TAG+=\"y\", GOTO=\"a\"\nTAG+=\"z\"\nLABEL=\"a\"" "visited 4\ntried 0\npriority 0\ntag z\n"
     ∷ lists "jump over a jump" tty "GOTO=\"b\"\nGOTO=\"c\"\nLABEL=\"b\", TAG+=\"b\"\nTAG+=\"x\"\nLABEL=\"c\"" "visited 4\ntried 0\npriority 0\ntag b\ntag x\n"
@@ -165,80 +166,16 @@ examples =
     ∷ lists "30 before 31" (alone (("v", "xxxxxxxxxxxxxxxxxxxxxxxxxxxxxxxxxxxxxxxxxxxxxxxxxxxxxxxxxxxxxxxx") ∷ []) "/a" []) "SYMLINK+=\"/$env{v}$env{v}$env{v}$env{v}$env{v}$env{v}$env{v}$env{v}\"" "refused 30 line 1\n"
     ∷ leaves "close to nothing" (operations.close bare (record-of 0 0 2 (0 ∷ 14 ∷ 36 ∷ 101 ∷ 110 ∷ 118 ∷ 123 ∷ 120 ∷ 125 ∷ 128 ∷ 4 ∷ 37 ∷ 98 ∷ [])) 8225) (16 ∷ 0 ∷ 0 ∷ 128 ∷ 0 ∷ [])
     ∷ leaves "close of 512" (operations.close bare (record-of 0 4 1 ((3 ∷ 0 ∷ 107 ∷ replicate 256 121) ++ (128 ∷ 28 ∷ (bytes "$env{k}$env{k}")))) 8225) (8 ∷ 192 ∷ 0 ∷ replicate 512 121)
-    ∷ leaves "every section" (operations.run (bytes "OWNER=\"o\", GROUP=\"gh\", SYMLINK=\"l/m n\", ENV{k}=\"v\", ENV{w}=\"xy\", TAG=\"t\", RUN=\"a\", RUN{builtin}+=\"b\", MODE=\"4\", OPTIONS=\"link_priority=258\"") bare empty 18125) (32 ∷ 1 ∷ 10 ∷ 0 ∷ 128 ∷ 0 ∷ 0 ∷ 32 ∷ 66 ∷ 8 ∷ 34 ∷ 0 ∷ 0 ∷ 111 ∷ 103 ∷ 104 ∷ 3 ∷ 108 ∷ 47 ∷ 109 ∷ 1 ∷ 110 ∷ 2 ∷ 1 ∷ 107 ∷ 118 ∷ 2 ∷ 2 ∷ 119 ∷ 120 ∷ 121 ∷ 1 ∷ 116 ∷ 0 ∷ 2 ∷ 97 ∷ 128 ∷ 2 ∷ 98 ∷ [])
-    ∷ leaves "16 of each, packed" (operations.run (bytes "SYMLINK=\"a b c d e f g h i j k l m n o p\"\nTAG+=\"a\", TAG+=\"b\", TAG+=\"c\", TAG+=\"d\", TAG+=\"e\", TAG+=\"f\", TAG+=\"g\", TAG+=\"h\", TAG+=\"i\", TAG+=\"j\", TAG+=\"k\", TAG+=\"l\", TAG+=\"m\", TAG+=\"n\", TAG+=\"o\", TAG+=\"p\"\nRUN+=\"a\", RUN+=\"a\", RUN+=\"a\", RUN+=\"a\", RUN+=\"a\", RUN+=\"a\", RUN+=\"a\", RUN+=\"a\", RUN+=\"a\", RUN+=\"a\", RUN+=\"a\", RUN+=\"a\", RUN+=\"a\", RUN+=\"a\", RUN+=\"a\", RUN+=\"a\"") bare empty 18125) (32 ∷ 0 ∷ 0 ∷ 0 ∷ 0 ∷ 0 ∷ 0 ∷ 0 ∷ 16 ∷ 2 ∷ 16 ∷ 0 ∷ 0 ∷ 1 ∷ 97 ∷ 1 ∷ 98 ∷ 1 ∷ 99 ∷ 1 ∷ 100 ∷ 1 ∷ 101 ∷ 1 ∷ 102 ∷ 1 ∷ 103 ∷ 1 ∷ 104 ∷ 1 ∷ 105 ∷ 1 ∷ 106 ∷ 1 ∷ 107 ∷ 1 ∷ 108 ∷ 1 ∷ 109 ∷ 1 ∷ 110 ∷ 1 ∷ 111 ∷ 1 ∷ 112 ∷ 1 ∷ 97 ∷ 1 ∷ 98 ∷ 1 ∷ 99 ∷ 1 ∷ 100 ∷ 1 ∷ 101 ∷ 1 ∷ 102 ∷ 1 ∷ 103 ∷ 1 ∷ 104 ∷ 1 ∷ 105 ∷ 1 ∷ 106 ∷ 1 ∷ 107 ∷ 1 ∷ 108 ∷ 1 ∷ 109 ∷ 1 ∷ 110 ∷ 1 ∷ 111 ∷ 1 ∷ 112 ∷ 0 ∷ 2 ∷ 97 ∷ 0 ∷ 2 ∷ 97 ∷ 0 ∷ 2 ∷ 97 ∷ 0 ∷ 2 ∷ 97 ∷ 0 ∷ 2 ∷ 97 ∷ 0 ∷ 2 ∷ 97 ∷ 0 ∷ 2 ∷ 97 ∷ 0 ∷ 2 ∷ 97 ∷ 0 ∷ 2 ∷ 97 ∷ 0 ∷ 2 ∷ 97 ∷ 0 ∷ 2 ∷ 97 ∷ 0 ∷ 2 ∷ 97 ∷ 0 ∷ 2 ∷ 97 ∷ 0 ∷ 2 ∷ 97 ∷ 0 ∷ 2 ∷ 97 ∷ 0 ∷ 2 ∷ 97 ∷ [])
-    ∷ leaves "a link that cleaning would not give" (operations.run (bytes "SYMLINK-=\"$$\"\nOPTIONS=\"string_escape=none\", SYMLINK-=\"$$\"\nMODE=\"0\", OPTIONS=\"link_priority=-2147483648\"") bare (32 ∷ 128 ∷ 3 ∷ 255 ∷ 160 ∷ 0 ∷ 0 ∷ 0 ∷ 33 ∷ 4 ∷ 33 ∷ 0 ∷ 0 ∷ 1 ∷ 36 ∷ 2 ∷ 2 ∷ 125 ∷ 10 ∷ 255 ∷ 2 ∷ 32 ∷ 47 ∷ 0 ∷ 4 ∷ 37 ∷ 37 ∷ []) 18125) (32 ∷ 128 ∷ 2 ∷ 0 ∷ 16 ∷ 0 ∷ 0 ∷ 0 ∷ 0 ∷ 4 ∷ 33 ∷ 0 ∷ 0 ∷ 2 ∷ 2 ∷ 125 ∷ 10 ∷ 255 ∷ 2 ∷ 32 ∷ 47 ∷ 0 ∷ 4 ∷ 37 ∷ 37 ∷ [])
+    ∷ leaves "every section" (operations.run (bytes "OWNER=\"o\", GROUP=\"gh\", SYMLINK=\"l/m n\", ENV{k}=\"v\", ENV{w}=\"xy\", TAG=\"t\", RUN=\"a\", RUN{builtin}+=\"b\", MODE=\"4\", OPTIONS=\"link_priority=258\"") bare empty blank 18125) (32 ∷ 1 ∷ 10 ∷ 0 ∷ 128 ∷ 0 ∷ 0 ∷ 32 ∷ 66 ∷ 8 ∷ 34 ∷ 0 ∷ 0 ∷ 111 ∷ 103 ∷ 104 ∷ 3 ∷ 108 ∷ 47 ∷ 109 ∷ 1 ∷ 110 ∷ 2 ∷ 1 ∷ 107 ∷ 118 ∷ 2 ∷ 2 ∷ 119 ∷ 120 ∷ 121 ∷ 1 ∷ 116 ∷ 0 ∷ 2 ∷ 97 ∷ 128 ∷ 2 ∷ 98 ∷ [])
+    ∷ leaves "16 of each, packed" (operations.run (bytes "SYMLINK=\"a b c d e f g h i j k l m n o p\"\nTAG+=\"a\", TAG+=\"b\", TAG+=\"c\", TAG+=\"d\", TAG+=\"e\", TAG+=\"f\", TAG+=\"g\", TAG+=\"h\", TAG+=\"i\", TAG+=\"j\", TAG+=\"k\", TAG+=\"l\", TAG+=\"m\", TAG+=\"n\", TAG+=\"o\", TAG+=\"p\"\nRUN+=\"a\", RUN+=\"a\", RUN+=\"a\", RUN+=\"a\", RUN+=\"a\", RUN+=\"a\", RUN+=\"a\", RUN+=\"a\", RUN+=\"a\", RUN+=\"a\", RUN+=\"a\", RUN+=\"a\", RUN+=\"a\", RUN+=\"a\", RUN+=\"a\", RUN+=\"a\"") bare empty blank 18125) (32 ∷ 0 ∷ 0 ∷ 0 ∷ 0 ∷ 0 ∷ 0 ∷ 0 ∷ 16 ∷ 2 ∷ 16 ∷ 0 ∷ 0 ∷ 1 ∷ 97 ∷ 1 ∷ 98 ∷ 1 ∷ 99 ∷ 1 ∷ 100 ∷ 1 ∷ 101 ∷ 1 ∷ 102 ∷ 1 ∷ 103 ∷ 1 ∷ 104 ∷ 1 ∷ 105 ∷ 1 ∷ 106 ∷ 1 ∷ 107 ∷ 1 ∷ 108 ∷ 1 ∷ 109 ∷ 1 ∷ 110 ∷ 1 ∷ 111 ∷ 1 ∷ 112 ∷ 1 ∷ 97 ∷ 1 ∷ 98 ∷ 1 ∷ 99 ∷ 1 ∷ 100 ∷ 1 ∷ 101 ∷ 1 ∷ 102 ∷ 1 ∷ 103 ∷ 1 ∷ 104 ∷ 1 ∷ 105 ∷ 1 ∷ 106 ∷ 1 ∷ 107 ∷ 1 ∷ 108 ∷ 1 ∷ 109 ∷ 1 ∷ 110 ∷ 1 ∷ 111 ∷ 1 ∷ 112 ∷ 0 ∷ 2 ∷ 97 ∷ 0 ∷ 2 ∷ 97 ∷ 0 ∷ 2 ∷ 97 ∷ 0 ∷ 2 ∷ 97 ∷ 0 ∷ 2 ∷ 97 ∷ 0 ∷ 2 ∷ 97 ∷ 0 ∷ 2 ∷ 97 ∷ 0 ∷ 2 ∷ 97 ∷ 0 ∷ 2 ∷ 97 ∷ 0 ∷ 2 ∷ 97 ∷ 0 ∷ 2 ∷ 97 ∷ 0 ∷ 2 ∷ 97 ∷ 0 ∷ 2 ∷ 97 ∷ 0 ∷ 2 ∷ 97 ∷ 0 ∷ 2 ∷ 97 ∷ 0 ∷ 2 ∷ 97 ∷ [])
+    ∷ leaves "a link that cleaning would not give" (operations.run (bytes "SYMLINK-=\"$$\"\nOPTIONS=\"string_escape=none\", SYMLINK-=\"$$\"\nMODE=\"0\", OPTIONS=\"link_priority=-2147483648\"") bare (32 ∷ 128 ∷ 3 ∷ 255 ∷ 160 ∷ 0 ∷ 0 ∷ 0 ∷ 33 ∷ 4 ∷ 33 ∷ 0 ∷ 0 ∷ 1 ∷ 36 ∷ 2 ∷ 2 ∷ 125 ∷ 10 ∷ 255 ∷ 2 ∷ 32 ∷ 47 ∷ 0 ∷ 4 ∷ 37 ∷ 37 ∷ []) blank 18125) (32 ∷ 128 ∷ 2 ∷ 0 ∷ 16 ∷ 0 ∷ 0 ∷ 0 ∷ 0 ∷ 4 ∷ 33 ∷ 0 ∷ 0 ∷ 2 ∷ 2 ∷ 125 ∷ 10 ∷ 255 ∷ 2 ∷ 32 ∷ 47 ∷ 0 ∷ 4 ∷ 37 ∷ 37 ∷ [])
     ∷ lists "ATTR and whitespace" (alone [] "/a" (("s", " \t") ∷ ("t", "x\t \u{b}") ∷ ("e", "") ∷ [])) "ATTR{s}==\"\", ATTR{t}==\"x\", ATTR{e}==\"\", ATTR{no}!=\"\", TAG+=\"1\"\nATTR{s}==\" \", TAG+=\"2\"\nATTR{s}==\" \t\", TAG+=\"3\"\nATTR{t}==\"x\t\", TAG+=\"4\"\nATTR{e}==\" \", TAG+=\"5\"\nATTR{no}!=\" \", TAG+=\"6\"\nATTR{t}!=\"x\", TAG+=\"7\"\nATTR{t}!=\"x \", TAG+=\"8\"" "visited 8\ntried 0\npriority 0\ntag 1\ntag 3\ntag 6\ntag 8\n"
     ∷ lists "ENV keeps its whitespace" (alone (("e", "x ") ∷ []) "/a" []) "ENV{e}==\"x\", TAG+=\"1\"\nENV{e}==\"x \", TAG+=\"2\"\nENV{e}!=\"x\", TAG+=\"3\"" "visited 3\ntried 0\npriority 0\nenv e=x \ntag 2\ntag 3\n"
     ∷ lists "DEVPATH and KERNEL" tty "DEVPATH==\"*/usb1/*\", DEVPATH!=\"/devices\", KERNEL==\"ttyUSB?\", SUBSYSTEM==\"tty|usb\", TAG+=\"1\"\nDEVPATH==\"ttyUSB0\", TAG+=\"2\"\nKERNEL==\"*/ttyUSB0\", TAG+=\"3\"" "visited 3\ntried 0\npriority 0\ntag 1\n"
-    ∷ leaves "unbind" (operations.run (bytes "ACTION==\"unbind\", TAG=\"a\"\nACTION==\"bind\", TAG=\"b\"") (changed 1 224 bare) empty 18125) (record-of 0 0 32 (1 ∷ 97 ∷ []))
+    ∷ leaves "unbind" (operations.run (bytes "ACTION==\"unbind\", TAG=\"a\"\nACTION==\"bind\", TAG=\"b\"") (changed 1 224 bare) empty blank 18125) (record-of 0 0 32 (1 ∷ 97 ∷ []))
     ∷ lists "lists judged whole" tty "SYMLINK+=\"a/b c\", TAG+=\"x\"\nSYMLINK==\"a*b\", SYMLINK==\"c\", SYMLINK!=\"a\", TAG==\"x\", TAG!=\"c\", TAG+=\"1\"\nSYMLINK==\"?|*/b\", SYMLINK!=\"a*|d\", TAG+=\"2\"\nSYMLINK!=\"*\", TAG+=\"3\"" "visited 4\ntried 0\npriority 0\nlink a/b\nlink c\ntag x\ntag 1\n"
     ∷ lists "numbers of a node" tty "RUN+=\"%M:%m $major/$minor %% $$ %p $devpath %k %n\"" "visited 1\ntried 0\npriority 0\nprogram 188:3 188/3 % $ /devices/usb1/1-1/ttyUSB0 /devices/usb1/1-1/ttyUSB0 ttyUSB0 0\n"
     ∷ lists "signs in turn" tty "RUN+=\"$$kernel %%k $$$kernel %%%k\"" "visited 1\ntried 0\npriority 0\nprogram $kernel %k $ttyUSB0 %ttyUSB0\n"
-    -- document 02, Item 4: an absent attribute or driver is not an empty one; ENV and SUBSYSTEM keep the empty reading
-    ∷ lists "no serial" (alone [] "/a" []) "ATTR{serial}!=\"*\", TAG+=\"1\"\nATTR{serial}==\"*\", TAG+=\"2\"\nATTR{serial}==\"\", TAG+=\"3\"\nATTR{serial}!=\"\", TAG+=\"4\"" "visited 4\ntried 0\npriority 0\ntag 1\ntag 4\n"
-    ∷ lists "a serial of no bytes" (alone [] "/a" (("serial", "") ∷ [])) "ATTR{serial}!=\"*\", TAG+=\"1\"\nATTR{serial}==\"*\", TAG+=\"2\"\nATTR{serial}==\"\", TAG+=\"3\"\nATTR{serial}!=\"\", TAG+=\"4\"" "visited 4\ntried 0\npriority 0\ntag 2\ntag 3\n"
-    ∷ lists "a serial of blanks" (alone [] "/a" (("serial", " \t") ∷ [])) "ATTR{serial}==\"\", TAG+=\"1\"\nATTR{serial}!=\"*\", TAG+=\"2\"" "visited 2\ntried 0\npriority 0\ntag 1\n"
-    ∷ lists "absent at each device" tty "ATTRS{serial}!=\"*\", SYMLINK+=\"a$id\"\nATTRS{serial}==\"*\", SYMLINK+=\"b$id\"\nSUBSYSTEMS==\"usb\", ATTRS{serial}!=\"*\", SYMLINK+=\"c$id\"\nATTRS{serial}==\"hub\", SYMLINK+=\"d$id\"" "visited 4\ntried 9\npriority 0\nlink attyUSB0\nlink b1-1\nlink dusb1\n"
-    ∷ lists "no driver at each device" tty "DRIVERS!=\"*\", SYMLINK+=\"a$id\"\nDRIVERS==\"*\", SYMLINK+=\"b$id\"\nDRIVERS!=\"ftdi\", KERNELS!=\"ttyUSB0\", SYMLINK+=\"c$id\"\nDRIVER==\"*\", TAG+=\"1\"\nDRIVER!=\"*\", TAG+=\"2\"" "visited 5\ntried 6\npriority 0\nlink attyUSB0\nlink b1-1\nlink cusb1\ntag 2\n"
-    ∷ lists "a driver" (deviceOf [] (member "/p/e1" "" "d" []) []) "DRIVER==\"?\", DRIVER!=\"e\", TAG+=\"1\"\nDRIVER!=\"*\", TAG+=\"2\"\nSUBSYSTEM==\"\", SUBSYSTEMS==\"*\", TAG+=\"3\"\nENV{x}==\"\", ENV{x}==\"*\", TAG+=\"4\"\nENV{x}!=\"*\", TAG+=\"5\"" "visited 5\ntried 1\npriority 0\ntag 1\ntag 3\ntag 4\n"
-    ∷ lists "templates insert nothing" tty "SYMLINK+=\"a$attr{serial}b$driver%b\", RUN+=\"x$attr{none}y$env{none}z\"" "visited 1\ntried 0\npriority 0\nlink ab\nprogram xyz\n"
-    -- document 02, Item 8: 36 where the assignment takes place, after 30 and 34, before what stands to its right
-    ∷ lists "0002" tty "TAG+=\"a\"\nMODE=\"0002\"" "refused 36 line 2\n"
-    ∷ lists "0666" tty "MODE:=\"666\"" "refused 36 line 1\n"
-    ∷ lists "0775 and 1" tty "MODE=\"0775\"\nMODE=\"1\"" "visited 2\ntried 0\npriority 0\nmode 0001\n"
-    ∷ lists "last digits 2 3 6 7" tty "MODE=\"4\", MODE=\"5\", MODE=\"7774\", MODE=\"1\", MODE=\"0\", MODE=\"20\", MODE=\"3\"" "refused 36 line 1\n"
-    ∷ lists "34 before 36" tty "MODE=\"00002\"" "refused 34 line 1\n"
-    ∷ lists "36 before its right" tty "MODE=\"0006\", SYMLINK+=\"..\", MODE=\"9\"" "refused 36 line 1\n"
-    ∷ lists "36 behind its left" tty "SYMLINK+=\"..\", MODE=\"0006\"" "refused 31 line 1\n"
-    ∷ lists "no 36 in a rule that fails" tty "KERNEL==\"x\", MODE=\"0666\"" "visited 1\ntried 0\npriority 0\n"
-    ∷ lists "no 36 where closed" tty "MODE:=\"0640\"\nMODE=\"0666\"" "visited 2\ntried 0\npriority 0\nmode 0640\n"
-    ∷ lists "36 from a property" (alone (("m", "0666") ∷ []) "/a" []) "MODE=\"$env{m}\"" "refused 36 line 1\n"
-    ∷ refused4 "4 mode 0666" (changed 2 2 (changed 3 54 (changed 4 192 empty)))
-    ∷ sound4 "mode 0664" (changed 2 2 (changed 3 54 (changed 4 128 empty)))
-    ∷ answers "close, 4 mode 0666" (operations.close bare (changed 2 2 (changed 3 54 (changed 4 192 empty))) 8225) 4 0 0 0 8225
-    -- document 02, Item 9: the place of the nearest device that satisfies the parent keys, or the chain's length, for every rule whose other
-    -- keys hold
-    ∷ lists "tried: event, parent, hub, in vain" tty "KERNELS==\"ttyUSB0\"\nKERNELS==\"1-1\"\nKERNELS==\"usb1\"\nKERNELS==\"x\"" "visited 4\ntried 9\npriority 0\n"
-    ∷ lists "tried: other keys first" tty "KERNEL==\"x\", KERNELS==\"usb1\"\nKERNELS==\"usb1\", KERNEL==\"x\"\nKERNELS==\"x\", TAG==\"t\"\nKERNELS==\"x\", TAG!=\"t\"" "visited 4\ntried 3\npriority 0\n"
-    ∷ lists "tried: all keys at one device" tty "KERNELS==\"1-1\", DRIVERS==\"usb\"\nSUBSYSTEMS==\"usb\", DRIVERS!=\"ftdi\"" "visited 2\ntried 6\npriority 0\n"
-    ∷ lists "tried: no parent keys" tty "KERNEL==\"ttyUSB0\", TAG+=\"t\"\nTAG==\"t\"" "visited 2\ntried 0\npriority 0\ntag t\n"
-    ∷ lists "tried: a jump passes over" tty "GOTO=\"a\"\nKERNELS==\"usb1\"\nLABEL=\"a\", KERNELS==\"1-1\"" "visited 2\ntried 2\npriority 0\n"
-    ∷ lists "tried: absent is not empty" tty "ATTRS{serial}!=\"*\"\nATTRS{serial}==\"\"" "visited 2\ntried 4\npriority 0\n"
-    ∷ tries "tried of 16" (operations.run (bytes "KERNELS==\"a\"\nATTRS{f}==\"no\"\nKERNELS==\"p\"") (device.encode chain16) empty 18125) 33
-    ∷ tries "refused, nothing tried" (operations.run (bytes "KERNELS==\"a\"\nMODE=\"9\"") bare empty 18125) 0
-    ∷ tries "fresh" (operations.fresh bare 18125) 0
-    ∷ tries "close" (operations.close bare empty 8225) 0
-    ∷ lists "Item 1: a newline at the end of a match value" (alone [] "/a" (("s", "v\n") ∷ [])) "ATTR{s}==e\"v\\n\", TAG+=\"1\"\nATTR{s}==\"v\", TAG+=\"2\"\nATTR{s}==e\"v\\n\\n\", TAG+=\"3\"" "visited 3\ntried 0\npriority 0\ntag 1\ntag 2\n"
-    ∷ lists "Item 1: a written newline in a link" tty "SYMLINK=e\"a\\nb c\\\\\", ENV{k}=e\"\\\\\"" "visited 1\ntried 0\npriority 0\nlink a_b\nlink c_\nenv k=\\x5c\n"
-    ∷ lists "Item 10: a refusal names the first physical line" tty "TAG+=\"a\"\n\\\nSYMLINK+=\\\n\"/x\"" "refused 31 line 2\n"
-    ∷ lists "Item 10: a joined rule is one rule" tty "KERNEL==\"tty\\\nUSB?\", \\\n TAG+=\"a\\\nb\"\n# c \\\nTAG+=\"c\"" "visited 2\ntried 0\npriority 0\ntag ab\ntag c\n"
-    -- document 02, Item 5: watch in OPTIONS and in the listing
-    ∷ lists "watch" tty "GROUP=\"g\", SYMLINK+=\"l\", OPTIONS=\"watch\"" "visited 1\ntried 0\npriority 0\ngroup g\nwatch\nlink l\n"
-    ∷ lists "nowatch" tty "OPTIONS+=\"nowatch\"" "visited 1\ntried 0\npriority 0\nnowatch\n"
-    ∷ lists "latest watch" tty "OPTIONS=\"watch\", OPTIONS=\"nowatch\"\nOPTIONS+=\"watch\"\nKERNEL==\"x\", OPTIONS=\"nowatch\"" "visited 3\ntried 0\npriority 0\nwatch\n"
-    ∷ lists "watch keeps the escape" tty "OPTIONS=\"string_escape=none\", OPTIONS=\"watch\", SYMLINK+=\"(a)\"" "visited 1\ntried 0\npriority 0\nwatch\nlink (a)\n"
-    ∷ leaves "packed watch" (operations.run (bytes "OPTIONS=\"nowatch\"") bare empty 18125) (changed 12 32 empty)
-    ∷ leaves "output is kept" (operations.run (bytes "OWNER=\"o\"") bare (changed 12 144 empty ++ (97 ∷ 98 ∷ [])) 18125) (changed 1 1 (changed 12 144 empty) ++ (97 ∷ 98 ∷ 111 ∷ []))
-    ∷ refused4 "4 watch 3" (changed 12 48 empty)
-    ∷ refused4 "4 unused bits" (changed 12 1 empty)
-    ∷ refused4 "4 NUL in the output" (changed 12 64 empty ++ (0 ∷ []))
-    ∷ sound4 "output with a newline at its end" (changed 12 64 empty ++ (10 ∷ []))
-    -- the converters: 1, 3, 4, 5
-    ∷ leaves "to new" (convert.newer bare empty1 18125) empty
-    ∷ leaves "to old" (convert.older bare empty 17611) empty1
-    ∷ answers "to new in more room" (convert.newer bare empty1 20000) 0 0 0 13 20000
-    ∷ answers "to new, 1" (convert.newer [] [] 18124) 1 0 0 0 18124
-    ∷ answers "to old, 1" (convert.older [] [] 17610) 1 0 0 0 17610
-    ∷ answers "to new, 3" (convert.newer [] [] 18125) 3 0 0 0 18125
-    ∷ answers "to old, 3" (convert.older [] (changed 12 16 empty) 17611) 3 0 0 0 17611
-    ∷ answers "to new, 4" (convert.newer bare empty 18125) 4 0 0 0 18125
-    ∷ answers "to old, 4" (convert.older bare empty1 17611) 4 0 0 0 17611
-    ∷ answers "to new, 4 mode 0666" (convert.newer bare (changed 2 2 (changed 3 54 (changed 4 192 empty1))) 18125) 4 0 0 0 18125
-    ∷ answers "to old, 4 before 5" (convert.older bare (record-of 0 0 1 (8 ∷ 2 ∷ 97 ∷ []) ++ []) 17611) 4 0 0 0 17611
-    ∷ answers "to old, 5 watch" (convert.older bare (changed 12 16 empty) 17611) 5 0 0 0 17611
-    ∷ answers "to old, 5 output" (convert.older bare (changed 12 64 empty ++ (97 ∷ [])) 17611) 5 0 0 0 17611
-    ∷ leaves "to new, every section" (convert.newer bare (16 ∷ 1 ∷ 10 ∷ 0 ∷ 128 ∷ 0 ∷ 0 ∷ 32 ∷ 66 ∷ 8 ∷ 34 ∷ 111 ∷ 103 ∷ 104 ∷ 3 ∷ 108 ∷ 47 ∷ 109 ∷ 1 ∷ 110 ∷ 2 ∷ 1 ∷ 107 ∷ 118 ∷ 2 ∷ 2 ∷ 119 ∷ 120 ∷ 121 ∷ 1 ∷ 116 ∷ 0 ∷ 2 ∷ 97 ∷ 128 ∷ 2 ∷ 98 ∷ []) 18125) (32 ∷ 1 ∷ 10 ∷ 0 ∷ 128 ∷ 0 ∷ 0 ∷ 32 ∷ 66 ∷ 8 ∷ 34 ∷ 0 ∷ 0 ∷ 111 ∷ 103 ∷ 104 ∷ 3 ∷ 108 ∷ 47 ∷ 109 ∷ 1 ∷ 110 ∷ 2 ∷ 1 ∷ 107 ∷ 118 ∷ 2 ∷ 2 ∷ 119 ∷ 120 ∷ 121 ∷ 1 ∷ 116 ∷ 0 ∷ 2 ∷ 97 ∷ 128 ∷ 2 ∷ 98 ∷ [])
     ∷ []
 
 pub shown : wrong examples ≡ []

@@ -11,36 +11,41 @@ use lib.Dec.{leb, ltb, eqb}
 use lib.IntN.{ℤ, pos, negsuc}
 use borrow.Author.Tests.{le-leb, leb-true}
 use Rattle.lists.specs.Lists.{pick, isEmpty, all, reject}
-use Rattle.lists.specs.Bytes.{between, clean, okText}
+use Rattle.lists.specs.Bytes.{between, sameBytes, clean, okText}
 use Rattle.lists.specs.Runs.{splitAt}
-use Rattle.lists.specs.Checked.{Checked, refused, ok, _>>=_, _>>_, require, Holds}
-use Rattle.lists.specs.Refusal.{Refusal, mode-bad, mode-shared}
-use Rattle.lists.proofs.Checked.{holds-bind, holds-seq, holds-require, holds-map}
+use Rattle.lists.specs.Checked.{Checked, refused, ok, _>>=_, _>>_, require, found, Holds}
+use Rattle.lists.specs.Refusal.{Refusal, mode-bad, command-missing, mode-shared}
+use Rattle.lists.proofs.Checked.{holds-bind, holds-seq, holds-require, holds-found, holds-map}
 use Rattle.lists.proofs.Tests.{and-both, both-and}
 use Rattle.lists.proofs.Lists.{all-snoc, all-map, reject-all}
 use Rattle.lists.proofs.Bytes.{split-clean}
 use Rattle.bits.specs.Signed.{fromSigned}
 use Rattle.entries.specs.Entry.{Property, okProp}
-use Rattle.rules.specs.Key.{Key, ACTION, DEVPATH, KERNEL, KERNELS, SUBSYSTEM, SUBSYSTEMS, DRIVER, DRIVERS, ATTR, ATTRS, ENV, SYMLINK, TAG, OWNER, GROUP, MODE, RUN, LABEL, GOTO, OPTIONS, Op, equal, unequal, assign, add, remove, final, isMatch}
+use Rattle.rules.specs.Key.{Key, ACTION, DEVPATH, KERNEL, KERNELS, SUBSYSTEM, SUBSYSTEMS, DRIVER, DRIVERS, ATTR, ATTRS, ENV, SYMLINK, TAG, OWNER, GROUP, MODE, RUN, LABEL, GOTO, OPTIONS, PROGRAM, RESULT, sameKey, Op, equal, unequal, assign, add, remove, final, isMatch}
 use Rattle.rules.specs.Pair.{Pair, Rule}
 use Rattle.rules.specs.Setting.{Setting, escape-none, escape-replace, watched, unwatched, priority, settingOf}
 use Rattle.device.specs.Device.{Member, Device, chain}
-use Rattle.outcome.specs.Content.{okLink, okName, okOwner, octal, octalFrom, okMode, modeNumber, othersWrite}
+use Rattle.outcome.specs.Content.{okLink, okName, okOwner, okOutput, octal, octalFrom, okMode, modeNumber, othersWrite}
 use Rattle.outcome.specs.Head.{Closed}
 use Rattle.outcome.specs.State.{Run, State, ModeBits, okRun, okTag, Entries, Properties, Runs, Good}
-use Rattle.outcome.specs.Change.{withClosed, withOwner, withGroup, withMode, withPriority, withWatch, withLinks, withProperties, withTags, withRuns, shutLinks, shutTags, shutRuns, shutOwner, shutGroup, shutMode}
+use Rattle.outcome.specs.Change.{withClosed, withOwner, withGroup, withMode, withPriority, withOutput, withWatch, withLinks, withProperties, withTags, withRuns, shutLinks, shutTags, shutRuns, shutOwner, shutGroup, shutMode}
 use Rattle.text.specs.Engine.{Stepped, went}
-use Rattle.lists.specs.Sizes.{mostChain, mostKey, mostTag, mostTags, mostValue, mostLinks, mostSubstituted}
+use Rattle.lists.specs.Sizes.{mostChain, mostKey, mostTag, mostTags, mostValue, mostLinks, mostOutput, mostSubstituted}
 use Rattle.template.specs.Template.{wellFormed}
 use Rattle.device.proofs.Sound.{Sound}
 use Rattle.rules.proofs.Sound.{SoundFor, SoundPair, SoundRule, In32, Range, setting-range}
 use Rattle.outcome.specs.Edits.{property}
-use Rattle.outcome.proofs.Change.{closed-good, owner-good, group-good, mode-good, priority-good, watch-good, links-good, properties-good, tags-good, runs-good}
+use Rattle.outcome.proofs.Change.{closed-good, owner-good, group-good, mode-good, priority-good, output-good, watch-good, links-good, properties-good, tags-good, runs-good}
 use Rattle.outcome.proofs.Edits.{empty-entries, add-entry, remove-entry, remove-property, set-property, empty-runs, add-run}
 use Rattle.engine.specs.Match.{parentsHold, nearest, hasParents, placeOf, allHold, matched}
 use Rattle.engine.specs.Substitute.{Source, substituted, within, filled}
 use Rattle.engine.specs.Assign.{Escape, unset, as-is, replaced, Work, left, linkByte, cleanByte, cleaned, isAsIs, cleanName, cleanValue, kept, closing, isRemove, namesIn, changeLinks, sourceOf, linked, changeEntry, changeTags, tagged, runFor, changeRuns, queued, ownerIn, owned, grouped, modeIn, moded, changeProperties, valued, setBy, leaves, assigned, assignPair, assignAll}
-use Rattle.engine.specs.Step.{ended, begun, stepAt, step}
+use Rattle.engine.specs.Programs.{programHolds, stored, asked, askPair, askedThen, askAll, resultsHold}
+use Rattle.engine.specs.Step.{ended, begun, finished, stepAt, step}
+use Rattle.sheet.specs.Sheet.{Reply, Sheet, okReply, replyTo}
+use Rattle.sheet.proofs.RoundTrip.{reply-sizes, reply-output}
+use Rattle.lists.specs.Runs.{chomp}
+use Rattle.lists.proofs.Bytes.{chomp-clean, chomp-size}
 use Rattle.engine.proofs.Clean.{substituted-clean}
 
 -- ---- closing
@@ -184,7 +189,7 @@ module _ (d : Device) (dg : Sound d) where
 
       at : (b : Bool) → leb (length (substituted spaceless (sourceOf d place s) v)) mostSubstituted ≡ b
           → Holds (λ (t : List ℕ). clean t ≡ true) (within (substituted spaceless (sourceOf d place s) v))
-      at true e = rw (e, within) (substituted-clean (sourceOf d place s) dg (g .properties .each) spaceless v h)
+      at true e = rw (e, within) (substituted-clean (sourceOf d place s) dg (g .properties .each) (and-both (leb (length (s .output)) mostOutput) (clean (s .output)) (g .output) .1) spaceless v h)
       at false e = rw (e, within) tt
 
   module _ (place : ℕ) (near : place ≤ size) (p : Pair) (sp : SoundPair p) where
@@ -341,6 +346,8 @@ module _ (d : Device) (dg : Sound d) where
     assigned-good RUN w h g = skipped (w .state .closed .runs) w (leaves w (queued place p (w .state))) g (leaves-good w (queued place p (w .state)) (queued-good (w .state) h g))
     assigned-good LABEL w h g = g
     assigned-good GOTO w h g = g
+    assigned-good PROGRAM w h g = g
+    assigned-good RESULT w h g = g
     assigned-good OPTIONS w h g = set-good (settingOf (p .value)) w (setting-range (p .value)) g
 
     pair-good : (w : Work) → Good size (w .state) → Holds GoodWork (assignPair d place p w)
@@ -391,19 +398,83 @@ module _ (d : Device) (dg : Sound d) where
 
   -- ---- one rule
 
+  abbrev WentGood : Stepped State → Type 0
+  WentGood (went s held) = Good size s
+
   abbrev Went : Checked Refusal (Stepped State) → Type 0
-  Went (refused f) = Unit {0}
-  Went (ok (went s held)) = Good size s
+  Went c = Holds WentGood c
 
   ended-went : (c : Checked Refusal Work) → Holds (λ (w : Work). Good size (w .state)) c → Went (ended c)
   ended-went (refused f) h = tt
   ended-went (ok w) h = h
 
-  stepAt-went : (o : Option ℕ) (r : Rule) (s : State) → Near size o → SoundRule r → Good size s → Went (stepAt o d r s)
-  unfolding stepAt
-  stepAt-went none r s near h g = g
-  stepAt-went (some place) r s near h g = ended-went (assignAll d place r (begun s)) (all-good place near r h (begun s) g)
+  -- ---- document 02, Item 6: programs
 
-  pub step-good : (r : Rule) (s s′ : State) (held : Bool) → SoundRule r → Good size s → step d r s ≡ ok (went s′ held) → Good size s′
-  unfolding step
-  step-good r s s′ held h g e = subst Went e (stepAt-went (matched d s r) r s (matched-near s r) h g)
+  stored-good : (r : Reply) (s : State) → okReply r ≡ true → Good size s → Good size (stored r s)
+  unfolding stored
+  stored-good r s h g = at (r .success) refl
+    where
+      okay : okOutput (chomp (r .output)) ≡ true
+      okay =
+          let a = reply-sizes r h .1 in
+          let b = chomp-size (r .output) in
+          both-and (leb (length (chomp (r .output))) mostOutput) (clean (chomp (r .output))) (le-leb (length (chomp (r .output))) mostOutput (omega arith)) (chomp-clean (r .output) (reply-output r h))
+
+      at : (t : Bool) → r .success ≡ t → Good size (stored r s)
+      at true e = rw (e, stored) (output-good size s g (chomp (r .output)) okay)
+      at false e = rw (e, stored) g
+
+  reply-okay : (c : List ℕ) (a : Sheet) → all okReply a ≡ true → (r : Reply) → replyTo c a ≡ some r → okReply r ≡ true
+  unfolding replyTo
+  reply-okay c [] h r e = let z : _≡_ {A = ℕ} 0 1 = cc in absurd (omega arith)
+  reply-okay c (q ∷ a) h r e = at (sameBytes (q .command) c) refl (λ f. reply-okay c a (and-both (okReply q) (all okReply a) h .1) r f)
+    where
+      at : (t : Bool) → sameBytes (q .command) c ≡ t → (replyTo c a ≡ some r → okReply r ≡ true) → okReply r ≡ true
+      at true f ih = let k : some q ≡ some r = rw f at e in let w : q ≡ r = cc in subst (λ (x : Reply). okReply x ≡ true) w (and-both (okReply q) (all okReply a) h .0)
+      at false f ih = let k : replyTo c a ≡ some r = rw f at e in ih k
+
+  module _ (a : Sheet) (sound : all okReply a ≡ true) where
+    asked-went : (place : ℕ) (p : Pair) → SoundPair p → (s : State) → Good size s → Went (asked a d place p s)
+    unfolding asked
+    asked-went place p sp s g =
+        holds-bind (λ (t : List ℕ). clean t ≡ true) WentGood (filled false (sourceOf d place s) (p .value)) _ (filled-clean false place s (p .value) (sp .value) g)
+        (λ t _. holds-bind (λ (r : Reply). replyTo t a ≡ some r) WentGood (found (replyTo t a) command-missing) _ (holds-found (replyTo t a) command-missing)
+        (λ r e. stored-good r s (reply-okay t a sound r e) g))
+
+    pair-went : (place : ℕ) (p : Pair) → SoundPair p → (s : State) → Good size s → Went (askPair a d place p s)
+    unfolding askPair
+    pair-went place p sp s g = at (sameKey (p .key) PROGRAM) refl
+      where
+        at : (t : Bool) → sameKey (p .key) PROGRAM ≡ t → Went (askPair a d place p s)
+        at true e = rw (e, askPair) (asked-went place p sp s g)
+        at false e = rw (e, askPair) g
+
+    then-went : (x : Stepped State) (later : State → Checked Refusal (Stepped State)) → WentGood x → ((s : State) → Good size s → Went (later s)) → Went (askedThen x later)
+    then-went (went s true) later g f = f s g
+    then-went (went s false) later g f = g
+
+    all-went : (place : ℕ) (r : Rule) → SoundRule r → (s : State) → Good size s → Went (askAll a d place r s)
+    unfolding askAll
+    all-went place [] h s g = g
+    all-went place (p ∷ ps) (h, hs) s g =
+        holds-bind WentGood WentGood (askPair a d place p s) (λ x. askedThen x (λ s′. askAll a d place ps s′)) (pair-went place p h s g)
+        (λ x k. then-went x (λ s′. askAll a d place ps s′) k (λ s′ g′. all-went place ps hs s′ g′))
+
+    finished-went : (place : ℕ) (r : Rule) → place ≤ size → SoundRule r → (s : State) → Good size s → Went (finished d place r s)
+    unfolding finished
+    finished-went place r near h s g = at (resultsHold s r) refl
+      where
+        at : (t : Bool) → resultsHold s r ≡ t → Went (finished d place r s)
+        at true e = rw (e, finished) (ended-went (assignAll d place r (begun s)) (all-good place near r h (begun s) g))
+        at false e = rw (e, finished) g
+
+    stepAt-went : (o : Option ℕ) (r : Rule) (s : State) → Near size o → SoundRule r → Good size s → Went (stepAt o a d r s)
+    unfolding stepAt
+    stepAt-went none r s near h g = g
+    stepAt-went (some place) r s near h g =
+        holds-bind WentGood WentGood (askAll a d place r s) (λ x. askedThen x (finished d place r)) (all-went place r h s g)
+        (λ x k. then-went x (finished d place r) k (λ s′ g′. finished-went place r near h s′ g′))
+
+    pub step-good : (r : Rule) (s s′ : State) (held : Bool) → SoundRule r → Good size s → step a d r s ≡ ok (went s′ held) → Good size s′
+    unfolding step
+    step-good r s s′ held h g e = subst Went e (stepAt-went (matched d s r) r s (matched-near s r) h g)

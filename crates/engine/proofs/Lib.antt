@@ -1,6 +1,7 @@
 pub mod Clean
 pub mod Keeps
 pub mod Laws
+pub mod Runs
 pub mod Absent
 pub mod Tried
 pub mod Sizes
@@ -8,3 +9,4 @@ pub mod Convert
 pub mod Cases
 pub mod Marked
 pub mod Examples
+pub mod Items

@@ -7,10 +7,10 @@ use mathlib.Core.Bool.{true, false}
 use mathlib.Core.List.{List, [], _∷_}
 use Rattle.lists.specs.Quoted.{bytes}
 use Rattle.engine.specs.Operations as operations
-use Rattle.engine.proofs.Cases.{Case, matches, valued, refuses, lists, leaves, wrong, properties, member, deviceOf, alone, tty, bare, empty}
+use Rattle.engine.proofs.Cases.{Case, matches, valued, refuses, lists, leaves, wrong, properties, member, deviceOf, alone, tty, blank, bare, empty}
 
 pub examples : List Case
-unfolding properties member deviceOf alone tty bare empty
+unfolding properties member deviceOf alone tty blank bare empty
 examples =
     matches "M1 *" "*" "" true
     ∷ matches "M2 ttyS" "tty[SR]" "ttyS" true
@@ -34,7 +34,7 @@ examples =
     ∷ lists "M10 as it is" (alone (("P", "a b") ∷ []) "/a" []) "OPTIONS=\"string_escape=none\", SYMLINK+=\"$env{P}\"" "visited 1\ntried 0\npriority 0\nlink a\nlink b\nenv P=a b\n"
     ∷ lists "M11" tty "SYMLINK+=\"../x\"" "refused 31 line 1\n"
     ∷ lists "M12 0660" tty "MODE=\"0660\"" "visited 1\ntried 0\npriority 0\nmode 0660\n"
-    ∷ leaves "M12 is 432" (operations.run (bytes "MODE=\"0660\"") bare empty 18125) (32 ∷ 0 ∷ 2 ∷ 54 ∷ 0 ∷ 0 ∷ 0 ∷ 0 ∷ 0 ∷ 0 ∷ 0 ∷ 0 ∷ 0 ∷ [])
+    ∷ leaves "M12 is 432" (operations.run (bytes "MODE=\"0660\"") bare empty blank 18125) (32 ∷ 0 ∷ 2 ∷ 54 ∷ 0 ∷ 0 ∷ 0 ∷ 0 ∷ 0 ∷ 0 ∷ 0 ∷ 0 ∷ 0 ∷ [])
     ∷ lists "M12 888" tty "MODE=\"888\"" "refused 34 line 1\n"
     ∷ lists "M12 00660" tty "MODE=\"00660\"" "refused 34 line 1\n"
     ∷ []

@@ -69,13 +69,13 @@ pub record Made (n : ℕ) (cs : List Command) : Type 0 where
   pub count : length cs ≡ n
   pub each : all shortText cs ≡ true
 
-pub commands-made : (d : Device) (ps : List Property) (rs : List Run) → Holds (Made (length rs)) (commands d ps rs)
+pub commands-made : (d : Device) (ps : List Property) (x : List ℕ) (rs : List Run) → Holds (Made (length rs)) (commands d ps x rs)
 unfolding commands
-commands-made d ps [] = record { count = refl; each = refl }
-commands-made d ps (r ∷ rs) =
-    let c : Source = record { device = d; place = r .place; properties = ps } in
+commands-made d ps o [] = record { count = refl; each = refl }
+commands-made d ps o (r ∷ rs) =
+    let c : Source = record { device = d; place = r .place; properties = ps; output = o } in
     holds-bind (λ (x : List ℕ). leb (length x) mostSubstituted ≡ true) (Made (suc (length rs))) (filled false c (r .template)) _ (filled-short false c (r .template))
-    (λ x k. holds-bind (Made (length rs)) (Made (suc (length rs))) (commands d ps rs) _ (commands-made d ps rs)
+    (λ x k. holds-bind (Made (length rs)) (Made (suc (length rs))) (commands d ps o rs) _ (commands-made d ps o rs)
     (λ cs m. record { count = ap suc (m .count); each = both-and (leb (length x) mostSubstituted) (all shortText cs) k (m .each) }))
 
 command-size : (c : Command) → shortText c ≡ true → length (encCommand c) ≤ 514
@@ -96,8 +96,8 @@ close-fits dev out room by =
     holds-seq (λ (_ : Unit {0}). leb fullestRunList room ≡ true) Q (require (leb fullestRunList room) (line 0 target-short)) _ (holds-require (leb fullestRunList room) (line 0 target-short))
     (λ _ full. holds-bind (λ (d : Device). D.decode dev ≡ some d) Q (found (D.decode dev) (line 0 device-bad)) _ (holds-found (D.decode dev) (line 0 device-bad))
     (λ d is. holds-bind (λ (s : State). O.decode (length (chain d)) out ≡ some s) Q (found (O.decode (length (chain d)) out) (line 0 outcome-bad)) _ (holds-found (O.decode (length (chain d)) out) (line 0 outcome-bad))
-    (λ s at. holds-bind (Made (length (s .runs))) Q (onLine 0 (commands d (s .properties) (s .runs))) _
-    (holds-onLine (Made (length (s .runs))) 0 (commands d (s .properties) (s .runs)) (commands-made d (s .properties) (s .runs)))
+    (λ s at. holds-bind (Made (length (s .runs))) Q (onLine 0 (commands d (s .properties) (s .output) (s .runs))) _
+    (holds-onLine (Made (length (s .runs))) 0 (commands d (s .properties) (s .output) (s .runs)) (commands-made d (s .properties) (s .output) (s .runs)))
     (λ cs m. omega (arith, list-size (length (s .runs)) cs m (back (length (chain d)) out s by at .1 .runs .few), leb-true fullestRunList room full)))))
 
 pub close-length : (dev out : List ℕ) (room : ℕ) → Bytes out → length (close dev out room .bytes) ≡ room

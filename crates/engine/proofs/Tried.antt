@@ -10,7 +10,7 @@ use native.Mathlib.Omega.{arith}
 use lib.Dec.{leb}
 use lib.ListN.{length}
 use Rattle.lists.specs.Checked.{Checked, refused, ok, require, found, Holds, Placed, line}
-use Rattle.lists.specs.Refusal.{Refusal, target-short, device-bad, outcome-bad}
+use Rattle.lists.specs.Refusal.{Refusal, target-short, device-bad, outcome-bad, sheet-bad}
 use Rattle.lists.specs.Sizes.{fullestOutcome}
 use Rattle.lists.proofs.Checked.{holds-bind, holds-seq, holds-found, holds-map}
 use Rattle.rules.specs.Pair.{Rule}
@@ -20,11 +20,11 @@ use Rattle.device.specs.Device.{Member, Device, chain}
 use Rattle.outcome.specs.State.{State}
 use Rattle.text.specs.Reading.{readText}
 use Rattle.text.specs.Running.{next, Halt, Ran, runFrom}
-use Rattle.text.specs.Run.{answer, runChecked}
-use Rattle.text.specs.Run as generic
+use Rattle.sheet.specs.Sheet as Sheets
+use Rattle.sheet.specs.Sheet.{Sheet}
 use Rattle.text.proofs.Sanity.{tried-within}
 use Rattle.engine.specs.Match.{allHold, parentsHold, nearest, hasParents, placeOf, matched, placeOr, tried}
-use Rattle.engine.specs.Operations.{decodeFor, engine, run}
+use Rattle.engine.specs.Operations.{decodeFor, engine, runChecked, ran, run}
 
 -- where a search that begins at place n ends, in a chain whose last place is `most`
 or-near : (n : ℕ) (ms : List Member) (r : Rule) (most : ℕ) → n + length ms ≤ suc most → placeOr most (nearest n ms r) ≤ most
@@ -65,28 +65,29 @@ trivial (ok a) = tt
 abbrev Bounded : Device → Halt State → Type 0
 Bounded d h = h .tried ≤ h .visited * length (chain d)
 
-answer-bounded : (n room : ℕ) (c : Ran State) → Holds (λ (h : Halt State). h .tried ≤ h .visited * n) c → answer engine room c .tried ≤ answer engine room c .visited * n
-unfolding answer
-answer-bounded n room (refused (line k f)) h = zero-le
-answer-bounded n room (ok a) h = h
+ran-bounded : (n room : ℕ) (c : Ran State) → Holds (λ (h : Halt State). h .tried ≤ h .visited * n) c → ran room c .tried ≤ ran room c .visited * n
+unfolding ran
+ran-bounded n room (refused (line k f)) h = zero-le
+ran-bounded n room (ok a) h = h
 
-module _ (text dev out : List ℕ) (room : ℕ) (d : Device) (is : D.decode dev ≡ some d) where
+module _ (text dev out sheet : List ℕ) (room : ℕ) (d : Device) (is : D.decode dev ≡ some d) where
   same : (e : Device) → D.decode dev ≡ some e → d ≡ e
   same e at = let q : some d ≡ some e = sym is ∙ at in cc
 
-  bounded : (e : Device) → d ≡ e → (s : State) (rs : List (Placed Rule)) → Holds (Bounded d) (runFrom engine e next s rs)
-  bounded e q s rs = subst (λ (x : Device). Holds (Bounded d) (runFrom engine x next s rs)) q (tried-within engine d (length (chain d)) (tried-small d) rs next s)
+  bounded : (a : Sheet) (e : Device) → d ≡ e → (s : State) (rs : List (Placed Rule)) → Holds (Bounded d) (runFrom (engine a) e next s rs)
+  bounded a e q s rs = subst (λ (x : Device). Holds (Bounded d) (runFrom (engine a) x next s rs)) q (tried-within (engine a) d (length (chain d)) (tried-small d) rs next s)
 
-  run-bounded : Holds (Bounded d) (runChecked engine text dev out room)
+  run-bounded : Holds (Bounded d) (runChecked text dev out sheet room)
   unfolding runChecked
   run-bounded =
       holds-seq (λ (_ : Unit {0}). Unit {0}) (Bounded d) (require (leb fullestOutcome room) (line 0 target-short)) _ (trivial (require (leb fullestOutcome room) (line 0 target-short)))
       (λ _ _. holds-bind (λ (_ : List (Placed Rule)). Unit {0}) (Bounded d) (readText reader text) _ (trivial (readText reader text))
       (λ rs _. holds-bind (λ (e : Device). D.decode dev ≡ some e) (Bounded d) (found (D.decode dev) (line 0 device-bad)) _ (holds-found (D.decode dev) (line 0 device-bad))
       (λ e at. holds-bind (λ (_ : State). Unit {0}) (Bounded d) (found (decodeFor e out) (line 0 outcome-bad)) _ (trivial (found (decodeFor e out) (line 0 outcome-bad)))
-      (λ s _. bounded e (same e at) s rs))))
+      (λ s _. holds-bind (λ (_ : Sheet). Unit {0}) (Bounded d) (found (Sheets.decode sheet) (line 0 sheet-bad)) _ (trivial (found (Sheets.decode sheet) (line 0 sheet-bad)))
+      (λ a _. bounded a e (same e at) s rs)))))
 
   -- of every run, refused or not
-  pub run-tried : run text dev out room .tried ≤ run text dev out room .visited * length (chain d)
-  unfolding generic.run
-  run-tried = answer-bounded (length (chain d)) room (runChecked engine text dev out room) run-bounded
+  pub run-tried : run text dev out sheet room .tried ≤ run text dev out sheet room .visited * length (chain d)
+  unfolding run
+  run-tried = ran-bounded (length (chain d)) room (runChecked text dev out sheet room) run-bounded

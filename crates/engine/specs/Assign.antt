@@ -14,7 +14,7 @@ use Rattle.lists.specs.Sizes.{mostLinks, mostTags, mostRuns}
 use Rattle.lists.specs.Refusal.{Refusal, link-bad, owner-bad, mode-bad, mode-shared}
 use Rattle.bits.specs.Signed.{fromSigned}
 use Rattle.entries.specs.Entry.{Property, keys}
-use Rattle.rules.specs.Key.{Key, ACTION, DEVPATH, KERNEL, KERNELS, SUBSYSTEM, SUBSYSTEMS, DRIVER, DRIVERS, ATTR, ATTRS, ENV, SYMLINK, TAG, OWNER, GROUP, MODE, RUN, LABEL, GOTO, OPTIONS, Op, equal, unequal, assign, add, remove, final, isMatch}
+use Rattle.rules.specs.Key.{Key, ACTION, DEVPATH, KERNEL, KERNELS, SUBSYSTEM, SUBSYSTEMS, DRIVER, DRIVERS, ATTR, ATTRS, ENV, SYMLINK, TAG, OWNER, GROUP, MODE, RUN, LABEL, GOTO, OPTIONS, PROGRAM, RESULT, Op, equal, unequal, assign, add, remove, final, isMatch}
 use Rattle.rules.specs.Pair.{Pair, Rule, isBuiltin}
 use Rattle.rules.specs.Setting.{Setting, escape-none, escape-replace, watched, unwatched, priority, settingOf}
 use Rattle.device.specs.Device.{Device}
@@ -110,7 +110,7 @@ changeLinks o (x ∷ xs) ls = require (okName x) link-bad >> (changeEntry o most
 
 -- from what substitutions come now
 abbrev pub sourceOf : Device → ℕ → State → Source
-sourceOf d place s = record { device = d; place = place; properties = s .properties }
+sourceOf d place s = record { device = d; place = place; properties = s .properties; output = s .output }
 
 unfoldable pub linked : Device → ℕ → Pair → Work → Checked Refusal State
 linked d place p w = do
@@ -225,6 +225,8 @@ assigned ATTR d place p w = ok w
 assigned ATTRS d place p w = ok w
 assigned LABEL d place p w = ok w
 assigned GOTO d place p w = ok w
+assigned PROGRAM d place p w = ok w
+assigned RESULT d place p w = ok w
 
 -- one pair of a rule that matched
 unfoldable pub assignPair : Device → ℕ → Pair → Work → Checked Refusal Work

@@ -1,6 +1,7 @@
 pub mod Match
 pub mod Substitute
 pub mod Assign
+pub mod Programs
 pub mod Step
 pub mod Operations
 pub mod Convert

@@ -18,9 +18,8 @@ use Rattle.entries.specs.Entry.{Property}
 use Rattle.device.specs.Device as D
 use Rattle.outcome.specs.State as O
 use Rattle.outcome.specs.State.{State}
-use Rattle.text.specs.Run.{runChecked}
 use Rattle.template.specs.Decimal.{decimal}
-use Rattle.engine.specs.Operations.{engine, Command, commands}
+use Rattle.engine.specs.Operations.{runChecked, Command, commands}
 
 -- a digit in hexadecimal, lower case
 abbrev pub hex : ℕ → ℕ
@@ -90,11 +89,11 @@ freshOr none = []
 freshOr (some d) = O.encode (O.fresh d)
 
 -- a run from a record, then a close of what it left
-unfoldable pub listed : List ℕ → List ℕ → List ℕ → Checked (Placed Refusal) (List ℕ)
-listed text dev out = do
-  h ← runChecked engine text dev out fullestOutcome
+unfoldable pub listed : List ℕ → List ℕ → List ℕ → List ℕ → Checked (Placed Refusal) (List ℕ)
+listed text dev out sheet = do
+  h ← runChecked text dev out sheet fullestOutcome
   d ← found (D.decode dev) (line 0 device-bad)
-  cs ← onLine 0 (commands d (h .state .properties) (h .state .runs))
+  cs ← onLine 0 (commands d (h .state .properties) (h .state .output) (h .state .runs))
   ok (listingOf (h .visited) (h .tried) (h .state) cs)
 
 unfoldable pub printed : Checked (Placed Refusal) (List ℕ) → List ℕ
@@ -102,9 +101,9 @@ unfolding bytes
 printed (refused (line n f)) = bytes "refused " ++ (decimal (number f) ++ (bytes " line " ++ (decimal n ++ (10 ∷ []))))
 printed (ok l) = l
 
--- from a record, and from the fresh one
-unfoldable pub listingFrom : List ℕ → List ℕ → List ℕ → List ℕ
-listingFrom text dev out = printed (listed text dev out)
+-- from a record, and from the fresh one; with an answer sheet (document 02, Item 6)
+unfoldable pub listingFrom : List ℕ → List ℕ → List ℕ → List ℕ → List ℕ
+listingFrom text dev out sheet = printed (listed text dev out sheet)
 
-unfoldable pub listing : List ℕ → List ℕ → List ℕ
-listing text dev = listingFrom text dev (freshOr (D.decode dev))
+unfoldable pub listing : List ℕ → List ℕ → List ℕ → List ℕ
+listing text dev sheet = listingFrom text dev (freshOr (D.decode dev)) sheet

@@ -9,7 +9,7 @@ use Rattle.lists.specs.Lists.{pick, all, any}
 use Rattle.lists.specs.Runs.{trim, endsInSpace}
 use Rattle.entries.specs.Entry.{lookup, orEmpty}
 use Rattle.pattern.specs.Pattern.{matches}
-use Rattle.rules.specs.Key.{Key, ACTION, DEVPATH, KERNEL, KERNELS, SUBSYSTEM, SUBSYSTEMS, DRIVER, DRIVERS, ATTR, ATTRS, ENV, SYMLINK, TAG, OWNER, GROUP, MODE, RUN, LABEL, GOTO, OPTIONS, Op, equal, unequal, assign, add, remove, final, isMatch}
+use Rattle.rules.specs.Key.{Key, ACTION, DEVPATH, KERNEL, KERNELS, SUBSYSTEM, SUBSYSTEMS, DRIVER, DRIVERS, ATTR, ATTRS, ENV, SYMLINK, TAG, OWNER, GROUP, MODE, RUN, LABEL, GOTO, OPTIONS, PROGRAM, RESULT, Op, equal, unequal, assign, add, remove, final, isMatch}
 use Rattle.rules.specs.Pair.{Pair, Rule}
 use Rattle.device.specs.Device.{Member, Device, chain, nameOf, attrOf, actionOf}
 use Rattle.outcome.specs.State.{State}
@@ -80,6 +80,9 @@ keyHolds RUN d s p = true
 keyHolds LABEL d s p = true
 keyHolds GOTO d s p = true
 keyHolds OPTIONS d s p = true
+-- document 02, Item 6: these are judged behind all others (Programs)
+keyHolds PROGRAM d s p = true
+keyHolds RESULT d s p = true
 
 -- one pair, if it is judged at the event device or the outcome; an assignment asks nothing
 unfoldable pub pairHolds : Device → State → Pair → Bool
@@ -111,6 +114,8 @@ isParent RUN = false
 isParent LABEL = false
 isParent GOTO = false
 isParent OPTIONS = false
+isParent PROGRAM = false
+isParent RESULT = false
 
 unfoldable pub hasParents : Rule → Bool
 hasParents r = any (λ p. isParent (p .key)) r
@@ -137,6 +142,8 @@ parentHolds RUN m p = true
 parentHolds LABEL m p = true
 parentHolds GOTO m p = true
 parentHolds OPTIONS m p = true
+parentHolds PROGRAM m p = true
+parentHolds RESULT m p = true
 
 -- all parent keys at one device
 unfoldable pub parentsHold : Member → Rule → Bool
@@ -151,7 +158,7 @@ nearest n (m ∷ ms) r = elim (parentsHold m r) [ true ↦ some n | false ↦ ne
 unfoldable pub placeOf : Device → Rule → Option ℕ
 placeOf d r = elim (hasParents r) [ true ↦ nearest 1 (chain d) r | false ↦ some 0 ]
 
--- none if the rule does not match; else the place of the matched device
+-- none if a key other than PROGRAM and RESULT does not hold; else the place of the matched device
 unfoldable pub matched : Device → State → Rule → Option ℕ
 matched d s r = elim (allHold d s r) [ true ↦ placeOf d r | false ↦ none ]
 

@@ -32,11 +32,12 @@ abbrev pub firstOf : Option (List ℕ) → Option (List ℕ) → Option (List �
 firstOf none b = b
 firstOf (some v) b = some v
 
--- where substitutions come from: the device, the matched place, the properties at that moment
+-- where substitutions come from: the device, the matched place, the properties at that moment, the output stored by then (document 02, Item 6)
 pub record Source : Type 0 where
   pub device : Device
   pub place : ℕ
   pub properties : List Property
+  pub output : List ℕ
 
 abbrev pub matchedIn : Source → Option Member
 matchedIn c = memberAt (c .place) (c .device)
@@ -52,6 +53,7 @@ inserted c T.major = decimal (c .device .major)
 inserted c T.minor = decimal (c .device .minor)
 inserted c (T.attr k) = trim (orEmpty (firstOf (attrOf k (c .device .event)) (attrAt k (matchedIn c))))
 inserted c (T.env k) = orEmpty (lookup k (c .properties))
+inserted c T.result = c .output
 inserted c T.dollar = 36 ∷ []
 inserted c T.percent = 37 ∷ []
 
@@ -66,6 +68,7 @@ isWritten T.major = false
 isWritten T.minor = false
 isWritten (T.attr k) = false
 isWritten (T.env k) = false
+isWritten T.result = false
 isWritten T.dollar = false
 isWritten T.percent = false
 

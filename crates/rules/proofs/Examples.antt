@@ -180,7 +180,7 @@ examples =
     -- 11
     ∷ unread "FOO" 11 1 ∷ unread "FOO=\"a\"" 11 1 ∷ unread "=\"a\"" 11 1 ∷ unread "\"a\"" 11 1 ∷ unread "kernel==\"a\"" 11 1 ∷ unread "KERNELSX==\"a\"" 11 1
     ∷ unread "KERNE==\"a\"" 11 1 ∷ unread "\r" 11 1 ∷ unread "KERNEL==\"a\"," 11 1 ∷ unread "KERNEL==\"a\", " 11 1 ∷ unread "KERNEL==\"a\", # c" 11 1 ∷ unread "KERNEL==\"a\",,ACTION==\"b\"" 11 1
-    ∷ unread ",KERNEL==\"a\"" 11 1 ∷ unread "{a}==\"b\"" 11 1 ∷ unread "KERNEL==\"a\", foo==\"b\"" 11 1 ∷ unread "NAME=\"x\"" 11 1 ∷ unread "PROGRAM=\"x\"" 11 1
+    ∷ unread ",KERNEL==\"a\"" 11 1 ∷ unread "{a}==\"b\"" 11 1 ∷ unread "KERNEL==\"a\", foo==\"b\"" 11 1 ∷ unread "NAME=\"x\"" 11 1
     ∷ unread "IMPORT{file}=\"x\"" 11 1 ∷ unread "TEST==\"x\"" 11 1 ∷ unread "TAGS==\"x\"" 11 1 ∷ unread "A" 11 1 ∷ unread "_" 11 1 ∷ unread "FOO{}=" 11 1 ∷ unread "OPTION=\"string_escape=none\"" 11 1
     ∷ unread "ENVX{a}=\"b\"" 11 1 ∷ unread "RUNS=\"a\"" 11 1 ∷ unread "ACTIONKERNEL==\"a\"" 11 1 ∷ unread "\u{b}KERNEL==\"a\"" 11 1
     -- 12
@@ -224,6 +224,10 @@ examples =
     ∷ reads "LABEL=\"[$%\"" (1 ∷ []) "LABEL=<[$%>;" ∷ reads "OPTIONS+=\"string_escape=replace\"" (1 ∷ []) "OPTIONS+=<string_escape=replace>;" ∷ reads "OPTIONS=\"string_escape=none\"" (1 ∷ []) "OPTIONS=<string_escape=none>;"
     ∷ reads "RUN=\"a\", RUN{program}+=\"b\", RUN{builtin}:=\"c\"" (1 ∷ []) "RUN{program}=<a>RUN{program}+=<b>RUN{builtin}:=<c>;" ∷ reads "SYMLINK==\"a\", SYMLINK!=\"b\", SYMLINK=\"c\", SYMLINK+=\"d\", SYMLINK-=\"e\", SYMLINK:=\"f\"" (1 ∷ []) "SYMLINK==<a>SYMLINK!=<b>SYMLINK=<c>SYMLINK+=<d>SYMLINK-=<e>SYMLINK:=<f>;"
     ∷ reads "KERNEL==\"\"" (1 ∷ []) "KERNEL==<>;" ∷ sets "link_priority=-2147483648" (negsuc 2147483647) ∷ sets "link_priority=2147483647" (pos 2147483647)
+    -- document 02, Item 6: PROGRAM's value is a template with every operator, RESULT's a pattern
+    ∷ reads "PROGRAM=\"a%k\", PROGRAM==\"[\", PROGRAM!=\"$result\", PROGRAM+=\"\", PROGRAM:=\"|\"" (1 ∷ []) "PROGRAM=<a%k>PROGRAM==<[>PROGRAM!=<$result>PROGRAM+=<>PROGRAM:=<|>;"
+    ∷ reads "RESULT==\"a*\", RESULT!=\"$x\"" (1 ∷ []) "RESULT==<a*>RESULT!=<$x>;"
+    ∷ unread "PROGRAM-=\"a\"" 13 1 ∷ unread "PROGRAM==\"$x\"" 15 1 ∷ unread "PROGRAM!=\"%c{1}\"" 15 1 ∷ unread "PROGRAM{a}=\"a\"" 12 1 ∷ unread "RESULT=\"a\"" 13 1 ∷ unread "RESULT+=\"a\"" 13 1 ∷ unread "RESULT==\"[\"" 15 1 ∷ unread "RESULT{a}==\"a\"" 12 1 ∷ unread "PROGRAMS==\"a\"" 11 1 ∷ unread "SYMLINK+=\"$result{1}\"" 15 1
     -- document 02, Item 5
     ∷ reads "OPTIONS=\"watch\", OPTIONS+=\"nowatch\"" (1 ∷ []) "OPTIONS=<watch>OPTIONS+=<nowatch>;" ∷ unread "OPTIONS=\"watch \"" 15 1 ∷ unread "OPTIONS=\"Watch\"" 15 1 ∷ unread "OPTIONS=\"nowatch=1\"" 15 1 ∷ unread "OPTIONS:=\"watch\"" 13 1
     ∷ sets "link_priority=-0" (pos 0) ∷ sets "link_priority=-0000000001" (negsuc 0) ∷ sets "link_priority=0000000012" (pos 12) ∷ sets "link_priority=7" (pos 7)

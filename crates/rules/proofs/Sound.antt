@@ -2,7 +2,7 @@
 -- Assumes nothing.
 use Prim.Native.Nat.{ℕ, zero, suc, _+_, _-_, _*_, _≤_, _<_}
 use mathlib.Core.Path.{_≡_, refl, sym, ap, ap₂, _∙_, subst}
-use mathlib.Core.Bool.{Bool, true, false, not, _&&_, _||_}
+use mathlib.Core.Bool.{Bool, true, false, not, _&&_, _||_, true≢false}
 use mathlib.Core.List.{List, [], _∷_}
 use mathlib.Core.Option.{Option, none, some}
 use native.Mathlib.Omega.{arith}
@@ -23,7 +23,7 @@ use Rattle.lists.proofs.Lists.{pick-both}
 use Rattle.lists.proofs.Bytes.{CleanPart, span-clean, drop-clean, holds-clean}
 use Rattle.lists.proofs.Checked.{holds-bind}
 use Rattle.template.specs.Template.{wellFormed}
-use Rattle.rules.specs.Key.{Key, ACTION, DEVPATH, KERNEL, KERNELS, SUBSYSTEM, SUBSYSTEMS, DRIVER, DRIVERS, ATTR, ATTRS, ENV, SYMLINK, TAG, OWNER, GROUP, MODE, RUN, LABEL, GOTO, OPTIONS, sameKey, Op, equal, unequal, assign, add, remove, final, isMatch, Takes, takes-none, takes-one, takes-type, Row, rows, rowIn, rowOf, allows}
+use Rattle.rules.specs.Key.{Key, ACTION, DEVPATH, KERNEL, KERNELS, SUBSYSTEM, SUBSYSTEMS, DRIVER, DRIVERS, ATTR, ATTRS, ENV, SYMLINK, TAG, OWNER, GROUP, MODE, RUN, LABEL, GOTO, OPTIONS, PROGRAM, RESULT, sameKey, Op, equal, unequal, assign, add, remove, final, isMatch, Takes, takes-none, takes-one, takes-type, Row, rows, rowIn, rowOf, allows}
 use Rattle.rules.specs.Pair.{Pair, Rule}
 use Rattle.rules.specs.Setting.{Setting, escape-none, escape-replace, priority, minus, withSign, digitsFrom, integerOf, priorityOf, priorityName, settingOf, watched, unwatched}
 use Rattle.rules.specs.Coded.{Escape, escapes, escapeIn, hexDigit, hexByte, taking, escaped, codedByte, put, codedThen, codedStep, coded}
@@ -54,11 +54,15 @@ SoundFor RUN p = wellFormed (p .value) ≡ true
 SoundFor LABEL p = Unit {0}
 SoundFor GOTO p = Unit {0}
 SoundFor OPTIONS p = Unit {0}
+SoundFor PROGRAM p = Unit {0}
+SoundFor RESULT p = Unit {0}
 
 pub record SoundPair (p : Pair) : Type 0 where
   pub value : clean (p .value) ≡ true
   pub short : length (p .value) ≤ mostValue
   pub content : isMatch (p .op) ≡ false → SoundFor (p .key) p
+  -- document 02, Item 6: with every operator
+  pub program : sameKey (p .key) PROGRAM ≡ true → wellFormed (p .value) ≡ true
 
 abbrev pub SoundRule : Rule → Type 0
 SoundRule [] = Unit {0}
@@ -171,6 +175,8 @@ RowOk RUN t = Unit {0}
 RowOk LABEL t = Unit {0}
 RowOk GOTO t = Unit {0}
 RowOk OPTIONS t = Unit {0}
+RowOk PROGRAM t = Unit {0}
+RowOk RESULT t = Unit {0}
 
 abbrev RowsOk : List Row → Type 0
 RowsOk [] = Unit {0}
@@ -183,7 +189,7 @@ rowIn-ok (r ∷ rs) (h, k) n = pick-some (λ (r : Row). RowOk (r .key) (r .takes
 
 rows-ok : RowsOk rows
 unfolding rows
-rows-ok = (tt, (tt, (tt, (tt, (tt, (tt, (tt, (tt, (tt, (tt, (refl, (tt, (tt, (tt, (tt, (tt, (tt, (tt, (tt, (tt, tt))))))))))))))))))))
+rows-ok = (tt, (tt, (tt, (tt, (tt, (tt, (tt, (tt, (tt, (tt, (refl, (tt, (tt, (tt, (tt, (tt, (tt, (tt, (tt, (tt, (tt, (tt, tt))))))))))))))))))))))
 
 abbrev KeyOk : Part Row → Type 0
 KeyOk k = RowOk (k .value .key) (k .value .takes) × (clean (k .rest) ≡ true)
@@ -374,7 +380,7 @@ value-ok bs h = at (startsCoded bs)
 content-ok : (k : Key) (o : Op) (v a : List ℕ) (t : Takes) → RowOk k t → ArgFor t a → sound k o v ≡ true → isMatch o ≡ false
     → SoundFor k (record { key = k; argument = a; op = o; value = v })
 unfolding sound
-content-ok k o v a t r g h e = by k r (subst (λ (b : Bool). soundBy b k v ≡ true) e h)
+content-ok k o v a t r g h e = by k r (subst (λ (b : Bool). soundBy b k v ≡ true) (ap (λ (b : Bool). b && not (sameKey k PROGRAM)) e) h)
   where
     by : (k′ : Key) → RowOk k′ t → soundAssigned k′ v ≡ true → SoundFor k′ (record { key = k; argument = a; op = o; value = v })
     by ACTION r h = tt
@@ -397,6 +403,40 @@ content-ok k o v a t r g h e = by k r (subst (λ (b : Bool). soundBy b k v ≡ t
     by LABEL r h = tt
     by GOTO r h = tt
     by OPTIONS r h = tt
+    by PROGRAM r h = tt
+    by RESULT r h = tt
+
+program-ok : (k : Key) (o : Op) (v : List ℕ) → sound k o v ≡ true → sameKey k PROGRAM ≡ true → wellFormed v ≡ true
+unfolding sound
+program-ok k o v h q = by k q (subst (λ (b : Bool). soundBy b k v ≡ true) (ap (λ (b : Bool). isMatch o && not b) q ∙ no-match (isMatch o)) h)
+  where
+    no-match : (b : Bool) → (b && not true) ≡ false
+    no-match true = refl
+    no-match false = refl
+
+    by : (k : Key) → sameKey k PROGRAM ≡ true → soundAssigned k v ≡ true → wellFormed v ≡ true
+    by ACTION q h = absurd (true≢false (sym q))
+    by DEVPATH q h = absurd (true≢false (sym q))
+    by KERNEL q h = absurd (true≢false (sym q))
+    by KERNELS q h = absurd (true≢false (sym q))
+    by SUBSYSTEM q h = absurd (true≢false (sym q))
+    by SUBSYSTEMS q h = absurd (true≢false (sym q))
+    by DRIVER q h = absurd (true≢false (sym q))
+    by DRIVERS q h = absurd (true≢false (sym q))
+    by ATTR q h = absurd (true≢false (sym q))
+    by ATTRS q h = absurd (true≢false (sym q))
+    by ENV q h = absurd (true≢false (sym q))
+    by SYMLINK q h = absurd (true≢false (sym q))
+    by TAG q h = absurd (true≢false (sym q))
+    by OWNER q h = absurd (true≢false (sym q))
+    by GROUP q h = absurd (true≢false (sym q))
+    by MODE q h = absurd (true≢false (sym q))
+    by RUN q h = absurd (true≢false (sym q))
+    by LABEL q h = absurd (true≢false (sym q))
+    by GOTO q h = absurd (true≢false (sym q))
+    by OPTIONS q h = absurd (true≢false (sym q))
+    by RESULT q h = absurd (true≢false (sym q))
+    by PROGRAM q h = h
 
 abbrev pub PairOk : Part Pair → Type 0
 PairOk p = SoundPair (p .value) × (clean (p .rest) ≡ true)
@@ -414,6 +454,7 @@ pair-ok bs h =
         value = hv .0;
         short = hv .1 .0;
         content = λ m. content-ok (k .value .key) (o .value) (v .value) (a .value) (k .value .takes) (hk .0) (ha .0) e m;
+        program = λ q. program-ok (k .value .key) (o .value) (v .value) e q;
       },
       unblank-clean (v .rest) (hv .1 .1),
     ))))))

@@ -12,6 +12,8 @@ use Rattle.lists.specs.Quoted.{bytes}
 pub data Key : Type 0 where
   ACTION DEVPATH KERNEL KERNELS SUBSYSTEM SUBSYSTEMS DRIVER DRIVERS ATTR ATTRS ENV : Key
   SYMLINK TAG OWNER GROUP MODE RUN LABEL GOTO OPTIONS : Key
+  -- document 02, Item 6
+  PROGRAM RESULT : Key
 
 -- `==` `!=` `=` `+=` `-=` `:=`
 pub data Op : Type 0 where
@@ -49,6 +51,8 @@ keyNumber RUN = 16
 keyNumber LABEL = 17
 keyNumber GOTO = 18
 keyNumber OPTIONS = 19
+keyNumber PROGRAM = 20
+keyNumber RESULT = 21
 
 abbrev pub sameKey : Key → Key → Bool
 sameKey a b = eqb (keyNumber a) (keyNumber b)
@@ -107,6 +111,8 @@ rows =
     ∷ row (bytes "LABEL") LABEL takes-none (assign ∷ [])
     ∷ row (bytes "GOTO") GOTO takes-none (assign ∷ [])
     ∷ row (bytes "OPTIONS") OPTIONS takes-none (assign ∷ add ∷ [])
+    ∷ row (bytes "PROGRAM") PROGRAM takes-none (equal ∷ unequal ∷ assign ∷ add ∷ final ∷ [])
+    ∷ row (bytes "RESULT") RESULT takes-none judged
     ∷ []
 
 -- the first row with that name

@@ -16,7 +16,7 @@ use Rattle.lists.specs.Refusal.{Refusal, line-bad, key-bad, argument-bad, opera
 use Rattle.lists.specs.Quoted.{bytes}
 use Rattle.pattern.specs.Pattern as pattern
 use Rattle.template.specs.Template as template
-use Rattle.rules.specs.Key.{Key, ACTION, DEVPATH, KERNEL, KERNELS, SUBSYSTEM, SUBSYSTEMS, DRIVER, DRIVERS, ATTR, ATTRS, ENV, SYMLINK, TAG, OWNER, GROUP, MODE, RUN, LABEL, GOTO, OPTIONS, sameKey, Op, equal, unequal, assign, add, remove, final, isMatch, Takes, takes-none, takes-one, takes-type, Row, allows, rowOf}
+use Rattle.rules.specs.Key.{Key, ACTION, DEVPATH, KERNEL, KERNELS, SUBSYSTEM, SUBSYSTEMS, DRIVER, DRIVERS, ATTR, ATTRS, ENV, SYMLINK, TAG, OWNER, GROUP, MODE, RUN, LABEL, GOTO, OPTIONS, PROGRAM, RESULT, sameKey, Op, equal, unequal, assign, add, remove, final, isMatch, Takes, takes-none, takes-one, takes-type, Row, allows, rowOf}
 use Rattle.rules.specs.Pair.{Pair, Rule, labelOf, gotoOf}
 use Rattle.rules.specs.Setting.{settingOf}
 use Rattle.rules.specs.Coded.{coded}
@@ -159,14 +159,16 @@ soundAssigned RUN v = template.wellFormed v
 soundAssigned LABEL v = not (isEmpty v)
 soundAssigned GOTO v = not (isEmpty v)
 soundAssigned OPTIONS v = isSome (settingOf v)
+soundAssigned PROGRAM v = template.wellFormed v
+soundAssigned RESULT v = true
 
 abbrev pub soundBy : Bool → Key → List ℕ → Bool
 soundBy true k v = pattern.wellFormed v
 soundBy false k v = soundAssigned k v
 
--- what is judged is a pattern; what is assigned has the form that its key asks for
+-- what is judged is a pattern; what is assigned has the form that its key asks for, and so has a PROGRAM with any operator (document 02, Item 6)
 unfoldable pub sound : Key → Op → List ℕ → Bool
-sound k o v = soundBy (isMatch o) k v
+sound k o v = soundBy (isMatch o && not (sameKey k PROGRAM)) k v
 
 -- ---- a pair, 11 to 15 in turn
 

@@ -70,6 +70,7 @@ faulty =
     ∷ strikesSo "x" "" ((1, 11) ∷ [])
     ∷ strikesSo "#\0\n\nTAG=\"a\"\\\n\nx" "\n\nTAG=\"a\"\\\n\n" ((1, 10) ∷ (5, 11) ∷ [])
     ∷ strikesSo "GOTO=\\\n\"a\"\nTAG=\\\n\\\nx\nLABEL=\\\n\"a\"" "GOTO=\\\n\"a\"\n\n\n\nLABEL=\\\n\"a\"" ((3, 14) ∷ [])
+    ∷ strikesSo "PROGRAM==\"%c{1}\"\nRESULT=\"a\"\nPROGRAM+=\"x\",RESULT==\"a\"\n" "\n\nPROGRAM+=\"x\",RESULT==\"a\"\n" ((1, 15) ∷ (2, 13) ∷ [])
     ∷ strikesOnly (t "#" ∷ rep 1024 "x" ∷ []) ((1, 10) ∷ [])
     ∷ strikesOnly (rep 1025 "x" ∷ []) ((1, 10) ∷ [])
     ∷ []

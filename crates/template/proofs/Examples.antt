@@ -12,7 +12,7 @@ use Rattle.lists.specs.Bytes.{sameBytes, starts}
 use Rattle.lists.specs.Runs.{span, endDigits}
 use Rattle.lists.specs.Items.{items, inBraces}
 use Rattle.lists.specs.Quoted.{bytes}
-use Rattle.template.specs.Template.{Piece, written, kernel, number, devpath, id, driver, major, minor, attr, env, dollar, percent, names, letters, nameIn, pieces, wellFormed}
+use Rattle.template.specs.Template.{Piece, written, kernel, number, devpath, id, driver, major, minor, result, attr, env, dollar, percent, names, letters, nameIn, pieces, wellFormed}
 use Rattle.template.specs.Decimal.{decimalOn, decimal}
 
 -- a piece as text, for comparing: a written byte is itself, any other a word in angles
@@ -26,6 +26,7 @@ word id = bytes "<id>"
 word driver = bytes "<driver>"
 word major = bytes "<major>"
 word minor = bytes "<minor>"
+word result = bytes "<result>"
 word (attr f) = bytes "<attr " ++ (f ++ bytes ">")
 word (env k) = bytes "<env " ++ (k ++ bytes ">")
 word dollar = bytes "<dollar>"
@@ -76,6 +77,9 @@ examples =
     ∷ has "$idx" "<id>x" ∷ has "$id{x}" "<id>{x}" ∷ has "$kernels" "<kernel>s" ∷ has "$driverx" "<driver>x" ∷ has "$$kernel" "<dollar>kernel" ∷ has "%%k" "<percent>k" ∷ has "%k{x}" "<kernel>{x}" ∷ has "$majorminor" "<major>minor"
     -- braces
     ∷ has "$attr{{}" "<attr {>" ∷ has "$attr{a}}" "<attr a>}" ∷ has "$env{$kernel}" "<env $kernel>" ∷ has "%s{ }" "<attr  >" ∷ has "$attr{%}x%k" "<attr %>x<kernel>"
+    -- document 02, Item 6: no brace directly behind a program's output
+    ∷ has "$result%c" "<result><result>" ∷ has "$resultx" "<result>x" ∷ has "%c%%c{" "<result><percent>c{" ∷ has "$result {" "<result> {" ∷ has "$$result{1}" "<dollar>result{1}" ∷ has "a%c" "a<result>" ∷ has "%c}" "<result>}" ∷ has "$result$result" "<result><result>"
+    ∷ faulty "$result{" ∷ faulty "%c{" ∷ faulty "$result{1}" ∷ faulty "a%c{2+}b" ∷ faulty "$resul" ∷ faulty "%C"
     -- anything else behind a sign
     ∷ faulty "$" ∷ faulty "%" ∷ faulty "a$" ∷ faulty "a%" ∷ faulty "%%%" ∷ faulty "$$$" ∷ faulty "%x" ∷ faulty "%d" ∷ faulty "$kerne" ∷ faulty "$Kernel" ∷ faulty "$%" ∷ faulty "%$" ∷ faulty "$ kernel" ∷ faulty "%S{a}" ∷ faulty "%e{a}"
     -- braces missing, empty, open or too long

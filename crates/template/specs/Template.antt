@@ -16,12 +16,15 @@ use Rattle.lists.specs.Quoted.{bytes}
 pub data Piece : Type 0 where
   written : ℕ → Piece
   kernel number devpath id driver major minor : Piece
+  -- document 02, Item 6: a program's last output
+  result : Piece
   attr env : List ℕ → Piece
   dollar percent : Piece
 
--- what a name stands for: a piece, or one that takes a text in braces
+-- what a name stands for: a piece; one that no brace may follow (document 02, Item 6); or one that takes a text in braces
 pub data Form : Type 0 where
   plain : Piece → Form
+  whole : Piece → Form
   braced : (List ℕ → Piece) → Form
 
 pub record Named : Type 0 where
@@ -44,6 +47,7 @@ names =
     ∷ named (bytes "env") (braced env)
     ∷ named (bytes "major") (plain major)
     ∷ named (bytes "minor") (plain minor)
+    ∷ named (bytes "result") (whole result)
     ∷ named (bytes "$") (plain dollar)
     ∷ []
 
@@ -59,6 +63,7 @@ letters =
     ∷ named (bytes "E") (braced env)
     ∷ named (bytes "M") (plain major)
     ∷ named (bytes "m") (plain minor)
+    ∷ named (bytes "c") (whole result)
     ∷ named (bytes "%") (plain percent)
     ∷ []
 
@@ -89,9 +94,14 @@ abbrev pub withText : (List ℕ → Piece) → ℕ → Option (List ℕ) → Opt
 withText f n none = none
 withText f n (some text) = some (record { value = f text; more = n + length text + 2 })
 
+abbrev pub startsBrace : List ℕ → Bool
+startsBrace [] = false
+startsBrace (b ∷ bs) = eqb b 123
+
 -- a form behind n bytes of its name
 abbrev pub formed : Form → ℕ → List ℕ → Option (Item Piece)
 formed (plain p) n rest = some (record { value = p; more = n })
+formed (whole p) n rest = pick (startsBrace rest) none (some (record { value = p; more = n }))
 formed (braced f) n rest = withText f n (textIn rest)
 
 abbrev pub namedPiece : Option Named → List ℕ → Option (Item Piece)

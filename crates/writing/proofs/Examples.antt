@@ -70,6 +70,7 @@ examples =
     ∷ writes "ENV{a}=e\"\\n\"" "ENV{a}=e\"\\n\"\n"
     ∷ writes "SYMLINK==\"a\", SYMLINK!=\"b\", SYMLINK=\"c\", SYMLINK+=\"d\", SYMLINK-=\"e\", SYMLINK:=\"f\"" "SYMLINK==\"a\",SYMLINK!=\"b\",SYMLINK=\"c\",SYMLINK+=\"d\",SYMLINK-=\"e\",SYMLINK:=\"f\"\n"
     ∷ writes "\n\\\n # c\n\\\n GOTO=\"a\"\n\n LABEL=\"a\" , ATTRS{a{b}!=\"x\"" "GOTO=\"a\"\nLABEL=\"a\",ATTRS{a{b}!=\"x\"\n"
+    ∷ writes "PROGRAM:=\"/bin/x %c $result\" , RESULT!=\"a*|b\", OPTIONS += \"nowatch\"" "PROGRAM:=\"/bin/x %c $result\",RESULT!=\"a*|b\",OPTIONS+=\"nowatch\"\n"
     ∷ refuses "nokey" 32768 11 1
     ∷ refuses "KERNEL==\"a\"\nTAG=b" 32768 14 2
     ∷ refuses "GOTO=\"x\"" 32768 19 1

@@ -81,67 +81,7 @@ pub record Named (r : Row) : Type 0 where
 
 rows-named : All Named rows
 unfolding rows rowOf rowIn nameIn sameBytes
-rows-named = (
-  record { by-key = refl; by-name = refl; upper = refl; clean = refl; some-byte = refl },
-  (
-    record { by-key = refl; by-name = refl; upper = refl; clean = refl; some-byte = refl },
-    (
-      record { by-key = refl; by-name = refl; upper = refl; clean = refl; some-byte = refl },
-      (
-        record { by-key = refl; by-name = refl; upper = refl; clean = refl; some-byte = refl },
-        (
-          record { by-key = refl; by-name = refl; upper = refl; clean = refl; some-byte = refl },
-          (
-            record { by-key = refl; by-name = refl; upper = refl; clean = refl; some-byte = refl },
-            (
-              record { by-key = refl; by-name = refl; upper = refl; clean = refl; some-byte = refl },
-              (
-                record { by-key = refl; by-name = refl; upper = refl; clean = refl; some-byte = refl },
-                (
-                  record { by-key = refl; by-name = refl; upper = refl; clean = refl; some-byte = refl },
-                  (
-                    record { by-key = refl; by-name = refl; upper = refl; clean = refl; some-byte = refl },
-                    (
-                      record { by-key = refl; by-name = refl; upper = refl; clean = refl; some-byte = refl },
-                      (
-                        record { by-key = refl; by-name = refl; upper = refl; clean = refl; some-byte = refl },
-                        (
-                          record { by-key = refl; by-name = refl; upper = refl; clean = refl; some-byte = refl },
-                          (
-                            record { by-key = refl; by-name = refl; upper = refl; clean = refl; some-byte = refl },
-                            (
-                              record { by-key = refl; by-name = refl; upper = refl; clean = refl; some-byte = refl },
-                              (
-                                record { by-key = refl; by-name = refl; upper = refl; clean = refl; some-byte = refl },
-                                (
-                                  record { by-key = refl; by-name = refl; upper = refl; clean = refl; some-byte = refl },
-                                  (
-                                    record { by-key = refl; by-name = refl; upper = refl; clean = refl; some-byte = refl },
-                                    (
-                                      record { by-key = refl; by-name = refl; upper = refl; clean = refl; some-byte = refl },
-                                      (
-                                        record { by-key = refl; by-name = refl; upper = refl; clean = refl; some-byte = refl },
-                                        tt,
-                                      ),
-                                    ),
-                                  ),
-                                ),
-                              ),
-                            ),
-                          ),
-                        ),
-                      ),
-                    ),
-                  ),
-                ),
-              ),
-            ),
-          ),
-        ),
-      ),
-    ),
-  ),
-)
+rows-named = (record { by-key = refl; by-name = refl; upper = refl; clean = refl; some-byte = refl }, (record { by-key = refl; by-name = refl; upper = refl; clean = refl; some-byte = refl }, (record { by-key = refl; by-name = refl; upper = refl; clean = refl; some-byte = refl }, (record { by-key = refl; by-name = refl; upper = refl; clean = refl; some-byte = refl }, (record { by-key = refl; by-name = refl; upper = refl; clean = refl; some-byte = refl }, (record { by-key = refl; by-name = refl; upper = refl; clean = refl; some-byte = refl }, (record { by-key = refl; by-name = refl; upper = refl; clean = refl; some-byte = refl }, (record { by-key = refl; by-name = refl; upper = refl; clean = refl; some-byte = refl }, (record { by-key = refl; by-name = refl; upper = refl; clean = refl; some-byte = refl }, (record { by-key = refl; by-name = refl; upper = refl; clean = refl; some-byte = refl }, (record { by-key = refl; by-name = refl; upper = refl; clean = refl; some-byte = refl }, (record { by-key = refl; by-name = refl; upper = refl; clean = refl; some-byte = refl }, (record { by-key = refl; by-name = refl; upper = refl; clean = refl; some-byte = refl }, (record { by-key = refl; by-name = refl; upper = refl; clean = refl; some-byte = refl }, (record { by-key = refl; by-name = refl; upper = refl; clean = refl; some-byte = refl }, (record { by-key = refl; by-name = refl; upper = refl; clean = refl; some-byte = refl }, (record { by-key = refl; by-name = refl; upper = refl; clean = refl; some-byte = refl }, (record { by-key = refl; by-name = refl; upper = refl; clean = refl; some-byte = refl }, (record { by-key = refl; by-name = refl; upper = refl; clean = refl; some-byte = refl }, (record { by-key = refl; by-name = refl; upper = refl; clean = refl; some-byte = refl }, (record { by-key = refl; by-name = refl; upper = refl; clean = refl; some-byte = refl }, (record { by-key = refl; by-name = refl; upper = refl; clean = refl; some-byte = refl }, tt))))))))))))))))))))))
 
 pub record Found (n : List ℕ) (r : Row) : Type 0 where
   pub named : Named r
