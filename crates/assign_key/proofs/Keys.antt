@@ -14,7 +14,7 @@ use Rattle.lists.specs.Checked.{Checked, ok}
 use Rattle.lists.specs.Refusal as refusal
 use Rattle.lists.specs.Quoted.{bytes}
 use Rattle.bits.specs.Signed.{fromSigned}
-use Rattle.rules.specs.Key.{Key, ACTION, DEVPATH, KERNEL, KERNELS, SUBSYSTEM, SUBSYSTEMS, DRIVER, DRIVERS, ATTR, ATTRS, ENV, SYMLINK, TAG, OWNER, GROUP, MODE, RUN, LABEL, GOTO, OPTIONS}
+use Rattle.rules.specs.Key.{Key, ACTION, DEVPATH, KERNEL, KERNELS, SUBSYSTEM, SUBSYSTEMS, DRIVER, DRIVERS, ATTR, ATTRS, ENV, SYMLINK, TAG, OWNER, GROUP, MODE, RUN, LABEL, GOTO, OPTIONS, PROGRAM, RESULT}
 use Rattle.rules.specs.Pair.{Pair, isBuiltin}
 use Rattle.rules.specs.Setting.{Setting, settingOf}
 use Rattle.rules.proofs.Sound.{In32, Range, setting-range}
@@ -114,6 +114,8 @@ module _ (d : Device) (place : ℕ) (p : Pair) (w : assign.Work) where
   assigned-by MODE = if-closed (w .state .closed .mode) closable.Mode
   assigned-by ENV = refl
   assigned-by OPTIONS = refl
+  assigned-by PROGRAM = refl
+  assigned-by RESULT = refl
   assigned-by ACTION = refl
   assigned-by DEVPATH = refl
   assigned-by KERNEL = refl

@@ -11,7 +11,7 @@ use Rattle.lists.specs.Refusal as refusal
 use Rattle.lists.specs.Quoted.{bytes}
 use Rattle.lists.specs.Sizes.{mostTag, mostKey}
 use Rattle.template.specs.Template.{wellFormed}
-use Rattle.rules.specs.Key.{Key, ACTION, DEVPATH, KERNEL, KERNELS, SUBSYSTEM, SUBSYSTEMS, DRIVER, DRIVERS, ATTR, ATTRS, ENV, SYMLINK, TAG, OWNER, GROUP, MODE, RUN, LABEL, GOTO, OPTIONS, Op}
+use Rattle.rules.specs.Key.{Key, ACTION, DEVPATH, KERNEL, KERNELS, SUBSYSTEM, SUBSYSTEMS, DRIVER, DRIVERS, ATTR, ATTRS, ENV, SYMLINK, TAG, OWNER, GROUP, MODE, RUN, LABEL, GOTO, OPTIONS, PROGRAM, RESULT, Op}
 use Rattle.rules.specs.Pair.{Pair}
 use Rattle.rules.specs.Setting.{settingOf}
 use Rattle.refusals.specs.Refusals.{refusalOf}
@@ -44,6 +44,8 @@ assigneeOf GROUP = Closes closable.Group
 assigneeOf MODE = Closes closable.Mode
 assigneeOf ENV = Property
 assigneeOf OPTIONS = Option
+assigneeOf PROGRAM = Nothing
+assigneeOf RESULT = Nothing
 assigneeOf ACTION = Nothing
 assigneeOf DEVPATH = Nothing
 assigneeOf KERNEL = Nothing

@@ -52,6 +52,8 @@ fn assignee_of(key: Key) -> Assignee
         Key::Mode => Assignee::Closable(Closable::Mode),
         Key::Env => Assignee::Property,
         Key::Options => Assignee::Option,
+        Key::Program => Assignee::Nothing,
+        Key::Result => Assignee::Nothing,
         Key::Action => Assignee::Nothing,
         Key::Devpath => Assignee::Nothing,
         Key::Kernel => Assignee::Nothing,

@@ -12,7 +12,7 @@ use Rattle.lists.specs.Lists.{pick, all}
 use Rattle.lists.specs.Bytes.{clean}
 use Rattle.lists.specs.Checked.{Checked, refused, ok, _>>=_, _>>_, require}
 use Rattle.lists.specs.Refusal as refusal
-use Rattle.lists.specs.Sizes.{mostLinks, mostSubstituted}
+use Rattle.lists.specs.Sizes.{mostLinks, mostSubstituted, mostOutput}
 use Rattle.lists.proofs.Tests.{and-both, both-and}
 use Rattle.lists.proofs.Bytes.{drop-clean}
 use Rattle.entries.specs.Entry.{okProp}
@@ -24,7 +24,7 @@ use Rattle.refusals.specs.declared.Refusal.the-variants.{ListFull}
 use Rattle.pairs.specs.Answers.{part}
 use Rattle.device.specs.Device.{Device}
 use Rattle.device.proofs.Sound.{Sound}
-use Rattle.outcome.specs.Content.{okName, okLink}
+use Rattle.outcome.specs.Content.{okName, okLink, okOutput}
 use Rattle.outcome.specs.State.{State}
 use Rattle.outcome.specs.Change.{withLinks, shutLinks}
 use Rattle.outcome_target.specs.Held.{Held, Left}
@@ -210,16 +210,16 @@ module _ (x x′ : List ℕ) (e : x′ ≡ map (byteBut true) x) where
 
 -- ---- the whole
 
-pub filled-clean : (c : Source) → Sound (c .device) → all okProp (c .properties) ≡ true → (spaceless : Bool) (v x : List ℕ) → clean v ≡ true
+pub filled-clean : (c : Source) → Sound (c .device) → all okProp (c .properties) ≡ true → okOutput (c .output) ≡ true → (spaceless : Bool) (v x : List ℕ) → clean v ≡ true
     → filled spaceless c v ≡ ok x → clean x ≡ true
 unfolding filled
-filled-clean c g k spaceless v x h e = go (leb (length (substituted spaceless c v)) mostSubstituted) refl
+filled-clean c g k o spaceless v x h e = go (leb (length (substituted spaceless c v)) mostSubstituted) refl
   where
     go : (b : Bool) → leb (length (substituted spaceless c v)) mostSubstituted ≡ b → clean x ≡ true
     go true q =
         let w : ok (substituted spaceless c v) ≡ ok x = rw (q, within) at e in
         let z : substituted spaceless c v ≡ x = cc in
-        subst (λ (y : List ℕ). clean y ≡ true) z (substituted-clean c g k spaceless v h)
+        subst (λ (y : List ℕ). clean y ≡ true) z (substituted-clean c g k (and-both (leb (length (c .output)) mostOutput) (clean (c .output)) o .1) spaceless v h)
     go false q =
         let w : refused refusal.substitution-long ≡ ok x = rw (q, within) at e in
         let z : _≡_ {A = ℕ} 0 1 = cc in absurd (omega arith)

@@ -1,14 +1,14 @@
 -- What reading ensures of the pairs of a rule.
 -- Assumes nothing.
 use Prim.Native.Nat.{ℕ}
-use mathlib.Core.Path.{_≡_, subst}
-use mathlib.Core.Bool.{Bool, true}
+use mathlib.Core.Path.{_≡_, ap, subst}
+use mathlib.Core.Bool.{Bool, true, not, _&&_}
 use mathlib.Core.List.{List, [], _∷_}
 use Rattle.lists.specs.Runs.{Part}
 use Rattle.lists.specs.Checked.{Checked, refused, ok, Holds}
 use Rattle.lists.specs.Refusal.{Refusal, content-bad}
 use Rattle.lists.proofs.Checked.{holds-bind, holds-at}
-use Rattle.rules.specs.Key.{Key, ACTION, DEVPATH, KERNEL, KERNELS, SUBSYSTEM, SUBSYSTEMS, DRIVER, DRIVERS, ATTR, ATTRS, ENV, SYMLINK, TAG, OWNER, GROUP, MODE, RUN, LABEL, GOTO, OPTIONS}
+use Rattle.rules.specs.Key.{Key, ACTION, DEVPATH, KERNEL, KERNELS, SUBSYSTEM, SUBSYSTEMS, DRIVER, DRIVERS, ATTR, ATTRS, ENV, SYMLINK, TAG, OWNER, GROUP, MODE, RUN, LABEL, GOTO, OPTIONS, PROGRAM, RESULT, sameKey}
 use Rattle.rules.specs.Pair.{Pair}
 use Rattle.rules.specs.Pairs.{Pairs}
 use Rattle.rules.specs.Reading.{soundAssigned, soundBy, sound, readPair}
@@ -51,13 +51,16 @@ fits-key ATTR p s h = tt
 fits-key ATTRS p s h = tt
 fits-key LABEL p s h = tt
 fits-key GOTO p s h = tt
+fits-key PROGRAM p s h = tt
+fits-key RESULT p s h = tt
 
 assignable : (p : Pair) → SoundPair p → sound (p .key) (p .op) (p .value) ≡ true → Assignable p
 unfolding sound
 assignable p s h = record {
   unbroken = s .value;
   short = s .short;
-  fits = λ m. fits-key (p .key) p (s .content m) (subst (λ (b : Bool). soundBy b (p .key) (p .value) ≡ true) m h);
+  fits = λ m. fits-key (p .key) p (s .content m) (subst (λ (b : Bool). soundBy b (p .key) (p .value) ≡ true) (ap (λ (b : Bool). b && not (sameKey (p .key) PROGRAM)) m) h);
+  program = s .program;
 }
 
 pub assignables : (bs : List ℕ) (ps : List Pair) → Pairs bs ps → SoundRule ps → Assignables ps

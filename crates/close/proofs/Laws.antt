@@ -55,7 +55,7 @@ module _ (dev out : List ℕ) (room : ℕ) where
           let (s, f, g) = sound-state (O.decode (r .len) out) lay k in
           (s, record { device = e; chained = c; outcome = ap (λ (n : ℕ). O.decode n out) (sym (c .len)) ∙ f; layout = g })
 
-    pub close-listed : (r : Chain) (lay : Layout) (d : Device) (s : State) → Both dev out r lay d s → close dev out room ≡ given room (listed (commands d (s .properties) (s .runs)))
+    pub close-listed : (r : Chain) (lay : Layout) (d : Device) (s : State) → Both dev out r lay d s → close dev out room ≡ given room (listed (commands d (s .properties) (s .output) (s .runs)))
     unfolding close closeChecked
     close-listed r lay d s w = rw (le-leb fullestRunList room h, w .device, w .outcome)
 

@@ -18,7 +18,7 @@ ghost use Rattle.close.specs.Closing.{listed};
 // The run list of sound records in a target of zeros, or its refusal.
 fn list(t: &mut [u8], dev: &[u8], rec: &[u8], chain: Chain, layout: Layout) -> Given
     requires { ⌜ (fullestRunList ≤ length (now t)) × (now t ≡ replicate (length (now t)) 0) × RecordStands (now dev) (now rec) chain layout ⌝ }
-    ensures { λ r. ⌜ OfRecord (now (dev .entry)) (now (rec .entry)) chain layout (λ d s. answered r (now (t .exit)) ≡ given (length (now (t .entry))) (listed (commands d (s .properties) (s .runs)))) ⌝ }
+    ensures { λ r. ⌜ OfRecord (now (dev .entry)) (now (rec .entry)) chain layout (λ d s. answered r (now (t .exit)) ≡ given (length (now (t .entry))) (listed (commands d (s .properties) (s .output) (s .runs)))) ⌝ }
 {
     match run_list::write(t, dev, rec, chain, layout) {
         Put::Done(used) => answers::accepted(0, 0, used),

@@ -1,4 +1,4 @@
-// Closes outcome records that hold three properties and one run: each line of the input is the place of the matched device, a blank and the
+// Closes outcome records that hold an output, three properties and one run: each line of the input is the place of the matched device, a blank and the
 // run's template, and behind the line stands the text of its command or the number of the refusal.
 
 use bits::BitCursor;
@@ -12,9 +12,9 @@ ghost use lib.ListN.{length};
 const DEVICE: [u8; 116] =
     *b"\x11\x10\xbc\x00\x00P@\x02\x06Ddevice\x08\x86\x00\x80/usb/tty/ttyUSB12tty\x0a\x05modelE 1 \x09\x0a\x00empty\x02\x06@\xc0/usbusbftdi sio\x0a\x06modelparent\x0c\x06serialRC 7 \x0a\x0a\x04emptyfull";
 
-// The header, and properties A=`x y`, B of 64 bytes, E of none.
-const FRONT: [u8; 89] =
-    *b" \x00\x00\x00\x00\x00\x00\x00\x00\x0c\x01\x00\x00\x02\x03Ax y\x02@Bbbbbbbbbbbbbbbbbbbbbbbbbbbbbbbbbbbbbbbbbbbbbbbbbbbbbbbbbbbbbbbbb\x02\x00E";
+// The header, the output `out 1`, and properties A=`x y`, B of 64 bytes, E of none.
+const FRONT: [u8; 94] =
+    *b" \x00\x00\x00\x00\x00\x00\x00\x00\x0c\x01\x01@out 1\x02\x03Ax y\x02@Bbbbbbbbbbbbbbbbbbbbbbbbbbbbbbbbbbbbbbbbbbbbbbbbbbbbbbbbbbbbbbbbb\x02\x00E";
 
 fn say(word: &[u8]) {
     io::write_all(STDOUT_FILENO, word);
@@ -48,13 +48,13 @@ fn digit_of(b: u8) -> usize
 fn show_close(place: usize, template: &[u8])
     requires { ⌜ length (now template) ≤ 256 ⌝ }
 {
-    let mut rec = [0u8; 347];
+    let mut rec = [0u8; 352];
     splice::store(&mut rec, 0, &FRONT);
-    let len_at = BitCursor { at: 713 }.put(&mut rec, 5, place);
+    let len_at = BitCursor { at: 753 }.put(&mut rec, 5, place);
     len_at.put(&mut rec, 9, template.len());
-    splice::store(&mut rec, 91, template);
+    splice::store(&mut rec, 96, template);
     let mut target = [0u8; 8225];
-    let end = 91 + template.len();
+    let end = 96 + template.len();
     let given = close::close(&DEVICE, &rec[0..end], &mut target);
     if given.number == 0 {
         say_text(&target, given.used as usize);

@@ -21,7 +21,7 @@ use Rattle.entries.proofs.Rows.{many-back}
 use Rattle.entries.proofs.Entries.{kept, prop-laws}
 use Rattle.rows.specs.Row.{endOf}
 use Rattle.rows.specs.declared.RowEnd.the-variants.{At, Bad}
-use Rattle.rows.proofs.Readers.{head-cut, head-whole}
+use Rattle.rows.proofs.Readers.{head-cut, head-whole, end-at, end-bad}
 use Rattle.device.specs.Head.{Head, headOf}
 use Rattle.device.specs.Device.{Member, Device, okHead, cutOf, rising, encMember, oneMember, deviceOf, parentsOn, eventOn, propsOn, parts, whole, ended, decode}
 use Rattle.device.specs.Places.{Lies}
@@ -29,7 +29,6 @@ use Rattle.device.proofs.Members.{member-laws}
 use Rattle.device_head.specs.Read.{pathLen, pathIn}
 use Rattle.device_head.proofs.Lying.{member-length, lies-within, lies-path, lies-length}
 use Rattle.device_check.specs.Stages.{apart, aboveThen, parentsIn}
-use Rattle.device_check.proofs.Ends.{end-at, end-bad}
 
 -- ---- a device that was read
 

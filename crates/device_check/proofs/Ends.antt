@@ -1,10 +1,9 @@
--- What was read, by where a check says that it ends; a row in which no key stands twice.
+-- A row in which no key stands twice, by where a check says that it ends.
 -- Assumes nothing.
 use Prim.Native.Nat.{ℕ, _-_}
 use mathlib.Core.Path.{_≡_, refl, sym, ap, _∙_}
 use mathlib.Core.Bool.{Bool, true, false}
 use mathlib.Core.List.{List}
-use native.Mathlib.Omega.{arith}
 use lib.ListN.{length, drop}
 use Rattle.lists.specs.Lists.{pick}
 use Rattle.lists.specs.Bytes.{distinct}
@@ -13,20 +12,8 @@ use Rattle.entries.specs.Entry.{Property, oneProp}
 use Rattle.rows.specs.Row.{Row, names, endOf}
 use Rattle.rows.specs.declared.Kind.the-variants as kind
 use Rattle.rows.specs.declared.RowEnd.the-variants.{At, Bad}
-use Rattle.rows.proofs.Readers.{property-reads, many-row, many-names}
+use Rattle.rows.proofs.Readers.{property-reads, many-row, many-names, end-at, end-bad}
 use Rattle.device_check.specs.Stages.{apart}
-
--- something was read, and ends there
-pub end-at : {A X : Type 0} (n p : ℕ) (q : Parse A) → endOf n q ≡ At p → ((a : A) (r : List ℕ) → q ≡ got a r → p ≡ n - length r → X) → X
-end-at n p (got a r) e k = k a r refl (cc)
-end-at n p bad e k = let z : _≡_ {A = ℕ} 0 1 = cc in absurd (omega arith)
-
--- nothing was read
-pub end-bad : {A : Type 0} (n : ℕ) (q : Parse A) → endOf n q ≡ Bad → q ≡ bad
-end-bad n (got a r) e = let z : _≡_ {A = ℕ} 0 1 = cc in absurd (omega arith)
-end-bad n bad e = refl
-
--- ---- a row of properties
 
 module _ (l : List ℕ) (at n : ℕ) where
   abbrev row : Parse (List Property)

@@ -1,4 +1,4 @@
-// The text of a template from the device record and the properties in the target.
+// The text of a template from the device record, and the properties and the output in the target.
 ghost use mathlib.Core.Path.{_≡_};
 ghost use mathlib.Core.Bool.{true};
 ghost use Prim.Native.Nat.{_≤_};

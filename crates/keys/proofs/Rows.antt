@@ -41,7 +41,7 @@ found-all P (x ∷ rs) n r e (h, hs) = go (sameBytes (x .name) n) e (λ q. found
 -- each row is found by its name
 own-names : All (λ (r : Row). rowOf (r .name) ≡ some r) rows
 unfolding bytes sameBytes rows rowIn rowOf
-own-names = (refl, (refl, (refl, (refl, (refl, (refl, (refl, (refl, (refl, (refl, (refl, (refl, (refl, (refl, (refl, (refl, (refl, (refl, (refl, (refl, tt))))))))))))))))))))
+own-names = (refl, (refl, (refl, (refl, (refl, (refl, (refl, (refl, (refl, (refl, (refl, (refl, (refl, (refl, (refl, (refl, (refl, (refl, (refl, (refl, (refl, (refl, tt))))))))))))))))))))))
 
 module _ (n : List ℕ) (k : ℕ) (r : Row) (e : nth k rows ≡ some r) where
   -- a row with the name is the one that is found
@@ -68,11 +68,11 @@ module _ (n : List ℕ) (k : ℕ) (r : Row) (e : nth k rows ≡ some r) where
 -- ---- places
 
 unfoldable pub places : List ℕ
-places = 0 ∷ 0 ∷ 0 ∷ 10 ∷ 4 ∷ 8 ∷ 0 ∷ 0 ∷ 11 ∷ 14 ∷ 13 ∷ 0 ∷ 5 ∷ 9 ∷ 6 ∷ 0 ∷ 0 ∷ 12 ∷ 18 ∷ 16 ∷ 2 ∷ 1 ∷ 7 ∷ 19 ∷ 15 ∷ 17 ∷ 0 ∷ 0 ∷ 3 ∷ 0 ∷ 0 ∷ 0 ∷ []
+places = 0 ∷ 0 ∷ 20 ∷ 10 ∷ 4 ∷ 8 ∷ 0 ∷ 0 ∷ 11 ∷ 14 ∷ 13 ∷ 0 ∷ 5 ∷ 9 ∷ 6 ∷ 0 ∷ 0 ∷ 12 ∷ 18 ∷ 16 ∷ 2 ∷ 1 ∷ 7 ∷ 19 ∷ 15 ∷ 17 ∷ 0 ∷ 21 ∷ 3 ∷ 0 ∷ 0 ∷ 0 ∷ []
 
 all-placed : All (λ (r : Row). nth (getD places (slotOf (r .name)) 0) rows ≡ some r) rows
 unfolding bytes rows places slotOf
-all-placed = (refl, (refl, (refl, (refl, (refl, (refl, (refl, (refl, (refl, (refl, (refl, (refl, (refl, (refl, (refl, (refl, (refl, (refl, (refl, (refl, tt))))))))))))))))))))
+all-placed = (refl, (refl, (refl, (refl, (refl, (refl, (refl, (refl, (refl, (refl, (refl, (refl, (refl, (refl, (refl, (refl, (refl, (refl, (refl, (refl, (refl, (refl, tt))))))))))))))))))))))
 
 pub place-is : (n : List ℕ) → IsPlace n (getD places (slotOf n) 0)
 unfolding rowOf
@@ -81,9 +81,9 @@ place-is n r e =
     let h = found-all (λ (x : Row). nth (getD places (slotOf (x .name)) 0) rows ≡ some x) rows n r e all-placed in
     subst (λ (m : List ℕ). nth (getD places (slotOf m) 0) rows ≡ some r) q h
 
-pub place-below : (k : ℕ) → k < 32 → getD places k 0 < 20
+pub place-below : (k : ℕ) → k < 32 → getD places k 0 < 22
 unfolding places
-place-below k h = ltb-true (getD places k 0) 20 (getD-all (λ (p : ℕ). ltb p 20) places k 0 refl h)
+place-below k h = ltb-true (getD places k 0) 22 (getD-all (λ (p : ℕ). ltb p 22) places k 0 refl h)
 
 pub slot-below : (n : List ℕ) → slotOf n < 32
 unfolding slotOf

@@ -11,7 +11,7 @@ use Rattle.lists.specs.Lists.{nth}
 use Rattle.lists.specs.Quoted.{bytes}
 use Rattle.lists.proofs.Places.{nth-map, getD-all}
 use Rattle.keys.specs.declared.Key.{Key}
-use Rattle.keys.specs.declared.Key.the-variants.{Action, Devpath, Kernel, Kernels, Subsystem, Subsystems, Driver, Drivers, Attr, Attrs, Env, Symlink, Tag, Owner, Group, Mode, Run, Label, Goto, Options}
+use Rattle.keys.specs.declared.Key.the-variants.{Action, Devpath, Kernel, Kernels, Subsystem, Subsystems, Driver, Drivers, Attr, Attrs, Env, Symlink, Tag, Owner, Group, Mode, Run, Label, Goto, Options, Program, Result}
 use Rattle.keys.specs.declared.Takes.{Takes}
 use Rattle.keys.specs.declared.Takes.the-variants.{Nothing, One, RunType}
 use Rattle.keys.specs.declared.Row.{Row}
@@ -44,13 +44,15 @@ table =
     ∷ row (bytes "LABELLABELLA") 5 Label Nothing 4
     ∷ row (bytes "GOTOGOTOGOTO") 4 Goto Nothing 4
     ∷ row (bytes "OPTIONSOPTIO") 7 Options Nothing 12
+    ∷ row (bytes "PROGRAMPROGR") 7 Program Nothing 47
+    ∷ row (bytes "RESULTRESULT") 6 Result Nothing 3
     ∷ []
 
 same-table : map rowOf table ≡ rules.rows
 unfolding bytes rules.rows allowedOf rowOf table
 same-table = refl
 
-module _ (k : ℕ) (d : Row) (h : k < 20) where
+module _ (k : ℕ) (d : Row) (h : k < 22) where
   pub row-is : nth k rules.rows ≡ some (rowOf (getD table k d))
   unfolding table
   row-is = rw (← same-table) (nth-map rowOf table k d h)

@@ -9,7 +9,7 @@ use lib.ListN.{take}
 use Rattle.lists.specs.Lists.{pick}
 use Rattle.rules.specs.Key as rules
 use Rattle.keys.specs.declared.Key.{Key}
-use Rattle.keys.specs.declared.Key.the-variants.{Action, Devpath, Kernel, Kernels, Subsystem, Subsystems, Driver, Drivers, Attr, Attrs, Env, Symlink, Tag, Owner, Group, Mode, Run, Label, Goto, Options}
+use Rattle.keys.specs.declared.Key.the-variants.{Action, Devpath, Kernel, Kernels, Subsystem, Subsystems, Driver, Drivers, Attr, Attrs, Env, Symlink, Tag, Owner, Group, Mode, Run, Label, Goto, Options, Program, Result}
 use Rattle.keys.specs.declared.Operator.{Operator}
 use Rattle.keys.specs.declared.Operator.the-variants.{Equal, Unequal, Assign, Add, Remove, Final}
 use Rattle.keys.specs.declared.Takes.{Takes}
@@ -39,6 +39,8 @@ keyOf Run = rules.RUN
 keyOf Label = rules.LABEL
 keyOf Goto = rules.GOTO
 keyOf Options = rules.OPTIONS
+keyOf Program = rules.PROGRAM
+keyOf Result = rules.RESULT
 
 abbrev pub operatorOf : Operator → rules.Op
 operatorOf Equal = rules.equal

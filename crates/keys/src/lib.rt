@@ -30,6 +30,8 @@ pub enum Key {
     Label,
     Goto,
     Options,
+    Program,
+    Result,
 }
 
 // `==` `!=` `=` `+=` `-=` `:=`
@@ -77,7 +79,7 @@ pub struct Row {
     pub operators: u8,
 }
 
-const ROWS: [Row; 20] = [
+const ROWS: [Row; 22] = [
     Row {
         name: *b"ACTIONACTION",
         len: 6,
@@ -218,10 +220,24 @@ const ROWS: [Row; 20] = [
         takes: Takes::Nothing,
         operators: ASSIGN + ADD,
     },
+    Row {
+        name: *b"PROGRAMPROGR",
+        len: 7,
+        key: Key::Program,
+        takes: Takes::Nothing,
+        operators: JUDGED + ASSIGN + ADD + FINAL,
+    },
+    Row {
+        name: *b"RESULTRESULT",
+        len: 6,
+        key: Key::Result,
+        takes: Takes::Nothing,
+        operators: JUDGED,
+    },
 ];
 
 pub fn row_at(k: usize) -> Row
-    requires { ⌜ k < 20 ⌝ }
+    requires { ⌜ k < 22 ⌝ }
     ensures { λ r. ⌜ (nth k rules.rows ≡ some (rowOf r)) × (r .len ≤ 10) ⌝ }
 {
     ROWS[k]
@@ -246,7 +262,7 @@ pub fn allowed(operators: u8, operator: Operator) -> bool
 const PLACES: [u8; 32] = [
     0,
     0,
-    0,
+    20,
     10,
     4,
     8,
@@ -271,7 +287,7 @@ const PLACES: [u8; 32] = [
     15,
     17,
     0,
-    0,
+    21,
     3,
     0,
     0,
@@ -288,7 +304,7 @@ fn slot(name: &[u8]) -> usize
 
 // The place of the one row that a name can have.
 fn place(name: &[u8]) -> usize
-    ensures { λ r. ⌜ (r < 20) × IsPlace (now (name .entry)) r ⌝ }
+    ensures { λ r. ⌜ (r < 22) × IsPlace (now (name .entry)) r ⌝ }
 {
     let s = slot(name);
     scan::wide(PLACES[s])

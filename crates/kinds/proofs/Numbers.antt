@@ -5,7 +5,7 @@ use mathlib.Core.Path.{_≡_, refl, ap, _∙_}
 use mathlib.Core.Bool.{Bool, true, false}
 use native.Mathlib.Omega.{arith}
 use lib.ListN.{List·getD-eq-default}
-use Rattle.rules.specs.Key.{Key, ACTION, DEVPATH, KERNEL, KERNELS, SUBSYSTEM, SUBSYSTEMS, DRIVER, DRIVERS, ATTR, ATTRS, ENV, SYMLINK, TAG, OWNER, GROUP, MODE, RUN, LABEL, GOTO, OPTIONS, Op, equal, unequal, assign, add, remove, final, keyNumber, opNumber}
+use Rattle.rules.specs.Key.{Key, ACTION, DEVPATH, KERNEL, KERNELS, SUBSYSTEM, SUBSYSTEMS, DRIVER, DRIVERS, ATTR, ATTRS, ENV, SYMLINK, TAG, OWNER, GROUP, MODE, RUN, LABEL, GOTO, OPTIONS, PROGRAM, RESULT, Op, equal, unequal, assign, add, remove, final, keyNumber, opNumber}
 use Rattle.kinds.specs.Numbers.{keys, ops, plainNumber, keyWith, opWith, plainWith, kindWith}
 
 -- a number that is not this one, with those below it
@@ -34,10 +34,12 @@ key-back RUN = refl
 key-back LABEL = refl
 key-back GOTO = refl
 key-back OPTIONS = refl
+key-back PROGRAM = refl
+key-back RESULT = refl
 
-pub key-last : (n : ℕ) → 19 ≤ n → keyWith n ≡ OPTIONS
+pub key-last : (n : ℕ) → 21 ≤ n → keyWith n ≡ RESULT
 unfolding keyWith
-key-last n h = List·getD-eq-default keys OPTIONS h
+key-last n h = List·getD-eq-default keys RESULT h
 
 pub op-back : (o : Op) → opWith (opNumber o) ≡ o
 unfolding opWith
@@ -52,7 +54,7 @@ pub op-last : (n : ℕ) → 5 ≤ n → opWith n ≡ final
 unfolding opWith
 op-last n h = List·getD-eq-default ops final h
 
-pub key-few : (k : Key) → keyNumber k < 20
+pub key-few : (k : Key) → keyNumber k < 22
 key-few ACTION = omega arith
 key-few DEVPATH = omega arith
 key-few KERNEL = omega arith
@@ -73,6 +75,8 @@ key-few RUN = omega arith
 key-few LABEL = omega arith
 key-few GOTO = omega arith
 key-few OPTIONS = omega arith
+key-few PROGRAM = omega arith
+key-few RESULT = omega arith
 
 pub op-few : (o : Op) → opNumber o < 8
 op-few equal = omega arith

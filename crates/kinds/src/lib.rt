@@ -1,6 +1,6 @@
 // The kind of a pair: its key, its operator and whether its value is marked as plain, as one number, and back.
 ghost use mathlib.Core.Path.{_≡_};
-ghost use Rattle.rules.specs.Key.{keyNumber, opNumber};
+ghost use Rattle.rules.specs.Key.{PROGRAM, RESULT, keyNumber, sameKey, opNumber};
 ghost use Rattle.keys.specs.Table.{keyOf, operatorOf};
 ghost use Rattle.kinds.specs.Numbers.{plainNumber, keyWith, opWith, plainWith, kindWith};
 use keys::Key;
@@ -32,6 +32,8 @@ pub fn key_number(key: Key) -> u8
         Key::Label => 17,
         Key::Goto => 18,
         Key::Options => 19,
+        Key::Program => 20,
+        Key::Result => 21,
     }
 }
 
@@ -85,7 +87,9 @@ pub fn key_with(n: usize) -> Key
         16 => Key::Run,
         17 => Key::Label,
         18 => Key::Goto,
-        _ => Key::Options,
+        19 => Key::Options,
+        20 => Key::Program,
+        _ => Key::Result,
     }
 }
 
@@ -106,4 +110,18 @@ pub fn plain_with(n: usize) -> bool
     ensures { λ r. ⌜ r ≡ plainWith n ⌝ }
 {
     n == 1
+}
+
+// ---- the keys that an answer sheet answers (document 02, Item 6)
+
+pub fn is_program(key: Key) -> bool
+    ensures { λ r. ⌜ r ≡ sameKey (keyOf key) PROGRAM ⌝ }
+{
+    key_number(key) == 20
+}
+
+pub fn is_result(key: Key) -> bool
+    ensures { λ r. ⌜ r ≡ sameKey (keyOf key) RESULT ⌝ }
+{
+    key_number(key) == 21
 }

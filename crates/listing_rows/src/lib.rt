@@ -16,6 +16,7 @@ fn put_entry(out: &mut [u8], front: Put, word: &[u8], kind: Kind, name: &[u8], r
         Kind::Text => listing_lines::put_line(out, front, word, name),
         Kind::Property => listing_lines::put_property_line(out, front, word, name, rest),
         Kind::Run => listing_lines::put_line(out, front, word, name),
+        Kind::Reply => listing_lines::put_line(out, front, word, name),
     }
 }
 

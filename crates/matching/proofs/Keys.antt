@@ -5,7 +5,7 @@ use mathlib.Core.Path.{_≡_, refl, sym, ap, _∙_}
 use mathlib.Core.Bool.{Bool, true, false, true≢false}
 use mathlib.Core.List.{List, [], _∷_}
 use mathlib.Core.Option.{Option, none, some}
-use Rattle.rules.specs.Key.{Key, ACTION, DEVPATH, KERNEL, KERNELS, SUBSYSTEM, SUBSYSTEMS, DRIVER, DRIVERS, ATTR, ATTRS, ENV, SYMLINK, TAG, OWNER, GROUP, MODE, RUN, LABEL, GOTO, OPTIONS, Op, equal, unequal, assign, add, remove, final, isMatch}
+use Rattle.rules.specs.Key.{Key, ACTION, DEVPATH, KERNEL, KERNELS, SUBSYSTEM, SUBSYSTEMS, DRIVER, DRIVERS, ATTR, ATTRS, ENV, SYMLINK, TAG, OWNER, GROUP, MODE, RUN, LABEL, GOTO, OPTIONS, PROGRAM, RESULT, Op, equal, unequal, assign, add, remove, final, isMatch}
 use Rattle.rules.specs.Pair.{Pair}
 use Rattle.keys.specs.Table.{keyOf, operatorOf}
 use Rattle.table.specs.Table.{entryOf}
@@ -50,6 +50,8 @@ key-subject RUN d s p = refl
 key-subject LABEL d s p = refl
 key-subject GOTO d s p = refl
 key-subject OPTIONS d s p = refl
+key-subject PROGRAM d s p = refl
+key-subject RESULT d s p = refl
 
 by-operator : (o : Op) (k : Key) (d : Device) (s : State) (p : Pair)
     → elim (isMatch o) [ true ↦ keyHolds k d s p | false ↦ true ] ≡ pairOn (atEvent (subjectOf k) o) p d (d .event) s
@@ -88,6 +90,8 @@ parent-subject RUN d m s p = refl
 parent-subject LABEL d m s p = refl
 parent-subject GOTO d m s p = refl
 parent-subject OPTIONS d m s p = refl
+parent-subject PROGRAM d m s p = refl
+parent-subject RESULT d m s p = refl
 
 pub parent-key : (k : Key) → isParent k ≡ isParentSubject (subjectOf k)
 parent-key ACTION = refl
@@ -110,6 +114,8 @@ parent-key RUN = refl
 parent-key LABEL = refl
 parent-key GOTO = refl
 parent-key OPTIONS = refl
+parent-key PROGRAM = refl
+parent-key RESULT = refl
 
 -- another key asks nothing of the chain
 pub other-key : (k : Key) (m : Member) (p : Pair) → isParent k ≡ false → parentHolds k m p ≡ true
@@ -134,6 +140,8 @@ other-key RUN m p e = refl
 other-key LABEL m p e = refl
 other-key GOTO m p e = refl
 other-key OPTIONS m p e = refl
+other-key PROGRAM m p e = refl
+other-key RESULT m p e = refl
 
 -- ---- as code asks
 

@@ -18,7 +18,8 @@ use Rattle.outcome_target.specs.Held.{Held}
 use Rattle.outcome_target.specs.declared.Layout.{Layout}
 use Rattle.outcome_target.specs.declared.Texts.{Texts}
 use Rattle.outcome_target.specs.Texts.{textsIn}
-use Rattle.matching.specs.Answers.{placeIn, triedIn}
+use Rattle.matching.specs.Answers.{placeIn, triedIn, nearOf, Asks}
+use Rattle.matching.specs.declared.Near.{Near}
 use Rattle.matching.specs.declared.Matched.{Matched}
 
 -- a device record of which a device begins at a place, and a target that holds a state
@@ -45,15 +46,19 @@ abbrev pub ListHolds : Texts → Op → List ℕ → List ℕ → Layout → Boo
 ListHolds list op value t lay r = (n : ℕ) (s : State) → Held n t lay s → r ≡ judged op (someMatches value (textsIn list s))
 
 -- the pairs from the i-th row up to the n-th
-abbrev pub NearestOf : List ℕ → List ℕ → ℕ → ℕ → List ℕ → Chain → List ℕ → Layout → Matched → Type 0
+abbrev pub NearestOf : List ℕ → List ℕ → ℕ → ℕ → List ℕ → Chain → List ℕ → Layout → Near → Type 0
 NearestOf v r i n dev places t lay o =
     ((x : Begun dev places t lay) → placeIn o ≡ nearest 1 (chain (x .device)) (pairsFrom v r i (n - i)))
     × (triedIn o ≡ placeOr (places .len) (placeIn o))
     × (triedIn o ≤ places .len)
 
 -- a rule: the matched device, and the devices tried
-abbrev pub MatchedOf : List ℕ → List ℕ → ℕ → ℕ → List ℕ → Chain → List ℕ → Layout → Matched → Type 0
-MatchedOf v r i n dev places t lay o =
+abbrev pub PlacedOf : List ℕ → List ℕ → ℕ → ℕ → List ℕ → Chain → List ℕ → Layout → Near → Type 0
+PlacedOf v r i n dev places t lay o =
     ((x : Begun dev places t lay)
     → (placeIn o ≡ matched (x .device) (x .state) (pairsFrom v r i (n - i))) × (triedIn o ≡ tried (x .device) (pairsFrom v r i (n - i)) (x .state)))
     × (triedIn o ≤ places .len)
+
+-- and whether programs are still to be asked
+abbrev pub MatchedOf : List ℕ → List ℕ → ℕ → ℕ → List ℕ → Chain → List ℕ → Layout → Matched → Type 0
+MatchedOf v r i n dev places t lay o = PlacedOf v r i n dev places t lay (nearOf o) × Asks (pairsFrom v r i (n - i)) o

@@ -5,7 +5,7 @@ use mathlib.Core.Bool.{Bool, true, false}
 use mathlib.Core.List.{List}
 use Rattle.entries.specs.Entry.{lookup, orEmpty}
 use Rattle.pattern.specs.Pattern.{matches}
-use Rattle.rules.specs.Key.{Key, ACTION, DEVPATH, KERNEL, KERNELS, SUBSYSTEM, SUBSYSTEMS, DRIVER, DRIVERS, ATTR, ATTRS, ENV, SYMLINK, TAG, OWNER, GROUP, MODE, RUN, LABEL, GOTO, OPTIONS, Op, equal, unequal, assign, add, remove, final}
+use Rattle.rules.specs.Key.{Key, ACTION, DEVPATH, KERNEL, KERNELS, SUBSYSTEM, SUBSYSTEMS, DRIVER, DRIVERS, ATTR, ATTRS, ENV, SYMLINK, TAG, OWNER, GROUP, MODE, RUN, LABEL, GOTO, OPTIONS, PROGRAM, RESULT, Op, equal, unequal, assign, add, remove, final}
 use Rattle.rules.specs.Pair.{Pair}
 use Rattle.device.specs.Device.{Member, Device, actionOf}
 use Rattle.outcome.specs.State.{State}
@@ -38,6 +38,8 @@ subjectOf RUN = subject.Nothing
 subjectOf LABEL = subject.Nothing
 subjectOf GOTO = subject.Nothing
 subjectOf OPTIONS = subject.Nothing
+subjectOf PROGRAM = subject.Nothing
+subjectOf RESULT = subject.Nothing
 
 abbrev pub isParentSubject : Subject → Bool
 isParentSubject subject.Action = false

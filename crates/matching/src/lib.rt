@@ -2,13 +2,14 @@
 // keys hold.
 
 ghost use mathlib.Core.Path.{_≡_};
+ghost use mathlib.Core.Bool.{_||_};
 ghost use Prim.Native.Nat.{_≤_};
 ghost use Rattle.glob.specs.Plain.{PlainIf};
 ghost use Rattle.keys.specs.Table.{keyOf, operatorOf};
 ghost use Rattle.table.specs.Table.{entryOf, Segment, EntryIn};
 ghost use Rattle.matching.specs.Subjects.{subjectOf, isParentSubject, atEvent, atParent, subjectHolds, pairOn};
 ghost use Rattle.outcome_target.specs.Held.{Holds};
-ghost use Rattle.matching.specs.Answers.{firstOf};
+ghost use Rattle.matching.specs.Answers.{firstOf, isAsked};
 ghost use Rattle.matching.specs.Judging.{Judging, Begun, ListHolds, NearestOf, MatchedOf};
 use device_lookup::Chain;
 use keys::Key;
@@ -21,7 +22,7 @@ use table::Entry;
 // ---- what a pair is judged on
 
 // The action, a part of the event device, a part of a device of the chain (parent keys), a property, links or tags;
-// nothing for keys that only assign.
+// nothing for keys that only assign, and for PROGRAM and RESULT, which are judged behind all others.
 pub enum Subject {
     Action,
     Device(Part),
@@ -55,6 +56,8 @@ fn subject_of(key: Key) -> Subject
         Key::Label => Subject::Nothing,
         Key::Goto => Subject::Nothing,
         Key::Options => Subject::Nothing,
+        Key::Program => Subject::Nothing,
+        Key::Result => Subject::Nothing,
     }
 }
 
@@ -187,8 +190,8 @@ fn pair_holds(
 
 // ---- the parent keys
 
-// The place of the matched device: 0 without parent keys, else from 1, the event device; or how many devices were tried in vain.
-pub enum Matched {
+// The place of the nearest device, from 1, the event device; or how many devices were tried in vain.
+pub enum Near {
     At(usize),
     Missed(usize),
 }
@@ -203,7 +206,7 @@ fn nearest(
     chain: Chain,
     t: &[u8],
     layout: Layout,
-) -> Matched
+) -> Near
     requires { ⌜ (from ≤ to) × Segment (now values) (now rows) to × Begun (now dev) chain (now t) layout ⌝ }
     ensures { λ r. ⌜ NearestOf (now (values .entry)) (now (rows .entry)) from to (now (dev .entry)) chain (now (t .entry)) layout r ⌝ }
 {
@@ -212,13 +215,13 @@ fn nearest(
     let mut k: usize = 0;
     let place = 'search: loop {
         if devices <= k {
-            break 'search Matched::Missed(devices);
+            break 'search Near::Missed(devices);
         }
         let device = places[k];
         let mut i = from;
         loop {
             if to <= i {
-                break 'search Matched::At(k + 1);
+                break 'search Near::At(k + 1);
             }
             let entry = table::pair_at(rows, i);
             let key = entry.key;
@@ -254,7 +257,28 @@ fn first_of(first: usize, to: usize, parent: bool, i: usize) -> usize
     first
 }
 
-// Whether the rule whose rows stand from a place to another matches, and at which device: all other keys first, then the parent keys.
+// Whether a row up to the next has a key that an answer sheet answers.
+fn asks_by(asks: bool, key: Key) -> bool
+    ensures { λ r. ⌜ r ≡ (asks || isAsked (keyOf key)) ⌝ }
+{
+    if asks {
+        return true;
+    }
+    if kinds::is_program(key) {
+        return true;
+    }
+    kinds::is_result(key)
+}
+
+// The place of the matched device, 0 without parent keys, and whether the rule has a PROGRAM or RESULT, which are still to be judged; or
+// how many devices were tried in vain.
+pub enum Matched {
+    At(usize, bool),
+    Missed(usize),
+}
+
+// Whether all keys but PROGRAM and RESULT hold of the rule whose rows stand from a place to another, and at which device: the parent keys
+// behind all others.
 pub fn match_rule(
     values: &[u8],
     rows: &[u16],
@@ -271,6 +295,7 @@ pub fn match_rule(
     let places = chain.at;
     let event = places[0];
     let mut first = to;
+    let mut asks = false;
     let mut i = from;
     while i < to {
         let entry = table::pair_at(rows, i);
@@ -289,10 +314,14 @@ pub fn match_rule(
             return Matched::Missed(0);
         }
         first = first_of(first, to, is_parent(subject), i);
+        asks = asks_by(asks, key);
         i += 1;
     }
     if first == to {
-        return Matched::At(0);
+        return Matched::At(0, asks);
     }
-    nearest(values, rows, first, to, dev, chain, t, layout)
+    match nearest(values, rows, first, to, dev, chain, t, layout) {
+        Near::At(place) => Matched::At(place, asks),
+        Near::Missed(tried) => Matched::Missed(tried),
+    }
 }

@@ -22,7 +22,7 @@ use Rattle.entries.proofs.Entries.{kept, text-laws, prop-laws}
 use Rattle.rows.specs.Row.{Row, names, endOf}
 use Rattle.rows.specs.declared.Kind.the-variants as kind
 use Rattle.rows.specs.declared.RowEnd.the-variants.{At, Bad}
-use Rattle.rows.proofs.Readers.{text-reads, property-reads, many-row, many-names}
+use Rattle.rows.proofs.Readers.{text-reads, property-reads, many-row, many-names, end-bad}
 use Rattle.outcome.specs.Head.{Head, headerSize}
 use Rattle.outcome.specs.Content.{okLink, okOwner, okOutput}
 use Rattle.outcome.specs.State.{State, Run, okTag, okRun, encRun, oneRun, oneSized, stateOf, outputOn, ownerOn, groupOn, linksOn, apart, ended}
@@ -33,10 +33,6 @@ use Rattle.outcome_check.specs.Check.{Standing, apartIn}
 use Rattle.outcome_check.specs.declared.Counts.{Counts}
 
 -- ---- one part
-
-pub end-bad : {A : Type 0} (n : ℕ) (p : Parse A) → endOf n p ≡ Bad → p ≡ bad
-end-bad n (got a r) e = let z : _≡_ {A = ℕ} 0 1 = cc in absurd (omega arith)
-end-bad n bad e = refl
 
 end-got : {A : Type 0} (n q : ℕ) (p : Parse A) → endOf n p ≡ At q → (a : A) × (r : List ℕ) × (p ≡ got a r) × (n - length r ≡ q)
 end-got n q (got a r) e = (a, r, refl, cc)

@@ -17,18 +17,13 @@ use Rattle.rows.specs.Entry.{headLen, nameLen, restLen, size, name, Placed}
 use Rattle.rows.specs.declared.Kind.the-variants as kind
 use Rattle.rows.specs.declared.Entry.{Entry}
 use Rattle.rows.proofs.Turns.{place-name}
-use Rattle.rows.proofs.Readers.{Reads, leb-more, short, head-cut, head-whole}
+use Rattle.rows.proofs.Readers.{Reads, leb-more, short, swap, head-cut, head-whole}
 use Rattle.bits.specs.Fields.{flagAt}
 use Rattle.outcome.specs.State.{Run, okRun, runAt, runOn, oneRun}
 use Rattle.outcome_check.specs.Check.{okRunOf}
 
 abbrev pub runHere : List ℕ → Run
 runHere bs = record { builtin = flagAt (take 2 bs) 0; place = numberAt (take 2 bs) 1 5; template = name kind.Run bs }
-
-swap : (a b c : Bool) → (a && (b && c)) ≡ (b && (a && c))
-swap true b c = refl
-swap false true c = refl
-swap false false c = refl
 
 -- a run by the length in its head
 run-by : (n : ℕ) (bs head : List ℕ) (k : ℕ) → 2 ≤ length bs → k ≡ numberAt head 6 9

@@ -1,4 +1,4 @@
--- Owner and group of a held record set anew.
+-- Output, owner and group of a held record set anew.
 -- Assumes nothing.
 use Prim.Native.Nat.{ℕ, _+_, _-_, _≤_, _<_}
 use mathlib.Core.Path.{_≡_, refl, sym, ap, ap₂, _∙_, subst}
@@ -10,15 +10,15 @@ use Rattle.lists.specs.Bytes.{Bytes}
 use Rattle.splice.specs.Moves.{replaced}
 use Rattle.bits.specs.Bits.{numberAt, putAt}
 use Rattle.outcome.specs.Head.{Head, headerSize}
-use Rattle.outcome.specs.Content.{okOwner}
+use Rattle.outcome.specs.Content.{okOwner, okOutput}
 use Rattle.outcome.specs.State.{State, encode}
-use Rattle.outcome.specs.Change.{withOwner, withGroup}
-use Rattle.outcome.proofs.Change.{owner-good, group-good}
+use Rattle.outcome.specs.Change.{withOutput, withOwner, withGroup}
+use Rattle.outcome.proofs.Change.{output-good, owner-good, group-good}
 use Rattle.outcome.proofs.Fits.{encode-size, fits}
 use Rattle.outcome_target.specs.Layout.{layoutOf, Rising, allMoved}
 use Rattle.outcome_target.specs.Held.{Held}
 use Rattle.outcome_target.specs.declared.Layout.{Layout}
-use Rattle.outcome_target.proofs.Frames.{owner-frame, group-frame}
+use Rattle.outcome_target.proofs.Frames.{output-frame, owner-frame, group-frame}
 use Rattle.outcome_target.proofs.Edits.{layout-end}
 use Rattle.outcome_target.proofs.Facts.{held-number, held-head, held-rising, held-size}
 use Rattle.outcome_target.proofs.Changes.{part-replaced}
@@ -49,9 +49,37 @@ module _ (n : ℕ) (l : List ℕ) (lay : Layout) (s : State) (w : Held n l lay s
   group-length : numberAt l 16 6 ≡ length (s .group)
   group-length = held-number n l lay s w 16 6 (omega arith) ∙ ap (λ (h : Head). h .group) (held-head n l lay s w)
 
+  output-length : numberAt l 88 10 ≡ length (s .output)
+  output-length = held-number n l lay s w 88 10 (omega arith) ∙ ap (λ (h : Head). h .output) (held-head n l lay s w)
+
   -- both stand before the links
   pub names-before : numberAt l 16 6 + numberAt l 10 6 ≤ lay .links
   names-before = omega (arith, owner-length, group-length, links-is)
+
+  module _ (x : List ℕ) (k : okOutput x ≡ true) where
+    pub output-fit : (old : ℕ) → old ≡ numberAt l 88 10 → Fit lay (length l) headerSize old (length x)
+    output-fit old e =
+        let r = held-rising n l lay s w in
+        let z = held-size n l lay s w in
+        let f = fits n (withOutput s x) (output-good n s (w .good) x k) in
+        record {
+          within = omega (arith, output-length, links-is, r .links, r .properties, r .tags, r .runs);
+          end = z .1;
+          fits = omega (arith, output-length, end-is, encode-size s, encode-size (withOutput s x), w .room);
+          rising = r;
+          before = omega (arith, output-length, links-is);
+          small = omega (arith, z .0, encode-size (withOutput s x));
+        }
+
+    pub output-set : (old : ℕ) (u v : List ℕ) (r : Layout) → old ≡ numberAt l 88 10 → u ≡ replaced l headerSize old (lay .end) x → Bytes u
+        → v ≡ putAt u 88 10 (length x) → length v ≡ length l → r ≡ allMoved lay old (length x) → Held n v r (withOutput s x)
+    unfolding output-frame
+    output-set old u v r e f b c m q =
+        let d : old ≡ length (s .output) = e ∙ output-length in
+        subst (λ (j : Layout). Held n v j (withOutput s x)) (sym (q ∙ ap (λ (i : ℕ). allMoved lay i (length x)) d))
+        (part-replaced n l lay s w output-frame [] (s .output) x [] x (sym (append-nil (s .output))) (sym (append-nil x)) (output-good n s (w .good) x k)
+        headerSize (omega arith) u b v c m
+        (f ∙ ap (λ (i : ℕ). replaced l headerSize i (lay .end) x) d))
 
   module _ (x : List ℕ) (k : okOwner x ≡ true) where
     pub owner-fit : (group old : ℕ) → group ≡ numberAt l 16 6 → old ≡ numberAt l 10 6 → Fit lay (length l) (lay .links - group - old) old (length x)

@@ -1,4 +1,4 @@
-// Closed keys, mode, link priority, watch, owner and group of the outcome record in the target.
+// Closed keys, mode, link priority, watch, output, owner and group of the outcome record in the target.
 
 use outcome_target::HeadField;
 use outcome_target::Layout;
@@ -7,9 +7,9 @@ ghost use mathlib.Core.Bool.{true};
 ghost use Prim.Native.Nat.{_≤_, _<_};
 ghost use lib.ListN.{length};
 ghost use Rattle.outcome.specs.Head.{headerSize};
-ghost use Rattle.outcome.specs.Content.{okOwner};
+ghost use Rattle.outcome.specs.Content.{okOwner, okOutput};
 ghost use Rattle.outcome.specs.State.{ModeBits};
-ghost use Rattle.outcome.specs.Change.{withMode, withPriority, withWatch, withOwner, withGroup};
+ghost use Rattle.outcome.specs.Change.{withMode, withPriority, withWatch, withOutput, withOwner, withGroup};
 ghost use Rattle.outcome_target.specs.Held.{Holds, Changed};
 ghost use Rattle.outcome_fields.specs.Fields.{flagPlace, Rewritten, closedBy, Says};
 
@@ -83,6 +83,19 @@ pub fn set_watch(t: &mut [u8], watch: usize)
     ensures { λ _. ⌜ Rewritten (λ s. withWatch s watch) (now (t .entry)) (now (t .exit)) ⌝ }
 {
     outcome_target::put_field(t, outcome_target::WATCH, watch);
+}
+
+// ---- the output, right behind the header (document 02, Item 6)
+
+pub fn set_output(t: &mut [u8], layout: Layout, x: &[u8]) -> Layout
+    requires { ⌜ Holds (now t) layout × (okOutput (now x) ≡ true) ⌝ }
+    ensures { λ r. ⌜ Changed (λ s. withOutput s (now (x .entry))) (now (t .entry)) layout (now (t .exit)) r ⌝ }
+{
+    let old = outcome_target::field(t, outcome_target::OUTPUT);
+    let new = x.len();
+    splice::replace(t, outcome_target::HEADER, old, layout.end, x);
+    outcome_target::put_field(t, outcome_target::OUTPUT, new);
+    outcome_target::all_moved(layout, old, new)
 }
 
 // ---- owner and group, right before the links

@@ -1,14 +1,16 @@
--- What the readers of a target require and answer.
+-- What the readers of a record require and answer.
 -- Assumes nothing.
-use Prim.Native.Nat.{ℕ, _-_, _≤_, _<_}
+use Prim.Native.Nat.{ℕ, _+_, _-_, _≤_, _<_}
 use mathlib.Core.Path.{_≡_}
 use mathlib.Core.List.{List, _∷_, map}
 use lib.ListN.{length, take, drop}
+use Rattle.bits.specs.Bits.{numberAt}
 use Rattle.entries.specs.Parse.{got, many}
 use Rattle.entries.specs.Entry.{oneText, oneProp, keys, lookup, orEmpty}
 use Rattle.rows.specs.Row.{Row, names}
 use Rattle.rows.specs.declared.Kind.{Kind}
 use Rattle.rows.specs.declared.Kind.the-variants as kind
+use Rattle.outcome.specs.Head.{headerSize}
 use Rattle.outcome.specs.Content.{okLink}
 use Rattle.outcome.specs.State.{State, Run, okTag, oneRun}
 use Rattle.outcome_target.specs.Held.{Held}
@@ -65,6 +67,17 @@ Standing section l lay r = (n : ℕ) (s : State) → Held n l lay s → Stands s
 -- the value under a key, in a target
 abbrev pub Valued : List ℕ → Layout → List ℕ → List ℕ → Type 0
 Valued l lay key v = (n : ℕ) (s : State) → Held n l lay s → v ≡ orEmpty (lookup key (s .properties))
+
+-- ---- the output
+
+-- what stands right behind the header, as long as its field says
+abbrev pub outputIn : List ℕ → List ℕ
+outputIn l = take (numberAt l 88 10) (drop headerSize l)
+
+-- it stands there whole, and is x
+pub record OutputIs (l x : List ℕ) : Type 0 where
+  pub within : headerSize + numberAt l 88 10 ≤ length l
+  pub is : outputIn l ≡ x
 
 -- ---- runs, one after the other
 

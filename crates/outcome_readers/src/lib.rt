@@ -1,10 +1,15 @@
-// What the outcome record in the target holds, read where it lies: a property's value, and the rows for a walk over their entries.
+// What an outcome record holds, read where it lies: a property's value, the output, and the rows for a walk over their entries.
 
 use outcome_target::Layout;
 use outcome_target::Section;
 use rows::Kind;
+ghost use mathlib.Core.Path.{_≡_};
+ghost use Prim.Native.Nat.{_+_, _≤_};
+ghost use lib.ListN.{length};
+ghost use Rattle.bits.specs.Bits.{numberAt};
+ghost use Rattle.outcome.specs.Head.{headerSize};
 ghost use Rattle.outcome_target.specs.Held.{Holds};
-ghost use Rattle.outcome_readers.specs.Readers.{Standing, Valued, RunsFrom, FirstOf};
+ghost use Rattle.outcome_readers.specs.Readers.{Standing, Valued, outputIn, RunsFrom, FirstOf};
 
 // Where a row begins, and how many entries it has.
 pub struct RowPlace {
@@ -29,6 +34,16 @@ pub fn property<'a, 'b>(t: &'a [u8], layout: Layout, key: &'b [u8]) -> &'a [u8]
 {
     let row = row_of(t, layout, Section::Properties);
     rows::value_of(t, row.at, row.count, key)
+}
+
+// The output that a program left last, right behind the header (document 02, Items 5 and 6).
+pub fn output_of(rec: &[u8]) -> &[u8]
+    requires { ⌜ headerSize + numberAt (now rec) 88 10 ≤ length (now rec) ⌝ }
+    ensures { λ r. ⌜ now r ≡ outputIn (now (rec .entry)) ⌝ }
+{
+    let start = outcome_target::HEADER;
+    let end = start + outcome_target::field(rec, outcome_target::OUTPUT);
+    &rec[start..end]
 }
 
 // A run's type and place, and where its template begins and ends.

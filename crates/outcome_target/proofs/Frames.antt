@@ -9,8 +9,8 @@ use Rattle.lists.specs.Lists.{cat}
 use Rattle.entries.specs.Entry.{encText, Property, encProp}
 use Rattle.entries.proofs.Heads.{withNumber}
 use Rattle.outcome.specs.Head.{fields, headerSize, header}
-use Rattle.outcome.specs.State.{State, Run, encRun, headFor, encode}
-use Rattle.outcome.specs.Change.{withOwner, withGroup, withLinks, withProperties, withTags, withRuns}
+use Rattle.outcome.specs.State.{State, Run, encRun, headFor, body, encode}
+use Rattle.outcome.specs.Change.{withOutput, withOwner, withGroup, withLinks, withProperties, withTags, withRuns}
 use Rattle.outcome_target.specs.Layout.{layoutOf, movedBy, allMoved}
 use Rattle.outcome_target.specs.declared.Layout.{Layout}
 use Rattle.outcome_target.specs.declared.Section.the-variants as section
@@ -31,24 +31,15 @@ pub record Frame (X : Type 0) (i : ℕ) (move : Layout → ℕ → ℕ → Layou
 
 -- ---- the places, in numbers; h bytes stand before the owner
 
-pub move-owner : (h o g l p t r x old new : ℕ) → x + old ≡ o + new
-    → _≡_ {A = Layout} (record { links = h + o + g + new - old; properties = h + o + g + l + new - old; tags = h + o + g + l + p + new - old; runs = h + o + g + l + p + t + new - old; end = h + o + g + l + p + t + r + new - old }) (record { links = h + x + g; properties = h + x + g + l; tags = h + x + g + l + p; runs = h + x + g + l + p + t; end = h + x + g + l + p + t + r })
-move-owner h o g l p t r x old new e =
-    let links : h + o + g + new - old ≡ h + x + g = omega arith in
-    let properties : h + o + g + l + new - old ≡ h + x + g + l = omega arith in
-    let tags : h + o + g + l + p + new - old ≡ h + x + g + l + p = omega arith in
-    let runs : h + o + g + l + p + t + new - old ≡ h + x + g + l + p + t = omega arith in
-    let end : h + o + g + l + p + t + r + new - old ≡ h + x + g + l + p + t + r = omega arith in
-    λ i. record { links = links i; properties = properties i; tags = tags i; runs = runs i; end = end i }
-
-pub move-group : (h o g l p t r x old new : ℕ) → x + old ≡ g + new
-    → _≡_ {A = Layout} (record { links = h + o + g + new - old; properties = h + o + g + l + new - old; tags = h + o + g + l + p + new - old; runs = h + o + g + l + p + t + new - old; end = h + o + g + l + p + t + r + new - old }) (record { links = h + o + x; properties = h + o + x + l; tags = h + o + x + l + p; runs = h + o + x + l + p + t; end = h + o + x + l + p + t + r })
-move-group h o g l p t r x old new e =
-    let links : h + o + g + new - old ≡ h + o + x = omega arith in
-    let properties : h + o + g + l + new - old ≡ h + o + x + l = omega arith in
-    let tags : h + o + g + l + p + new - old ≡ h + o + x + l + p = omega arith in
-    let runs : h + o + g + l + p + t + new - old ≡ h + o + x + l + p + t = omega arith in
-    let end : h + o + g + l + p + t + r + new - old ≡ h + o + x + l + p + t + r = omega arith in
+-- a part before the links: they begin at a, and then at b
+pub move-all : (a b l p t r old new : ℕ) → b + old ≡ a + new
+    → _≡_ {A = Layout} (record { links = a + new - old; properties = a + l + new - old; tags = a + l + p + new - old; runs = a + l + p + t + new - old; end = a + l + p + t + r + new - old }) (record { links = b; properties = b + l; tags = b + l + p; runs = b + l + p + t; end = b + l + p + t + r })
+move-all a b l p t r old new e =
+    let links : a + new - old ≡ b = omega arith in
+    let properties : a + l + new - old ≡ b + l = omega arith in
+    let tags : a + l + p + new - old ≡ b + l + p = omega arith in
+    let runs : a + l + p + t + new - old ≡ b + l + p + t = omega arith in
+    let end : a + l + p + t + r + new - old ≡ b + l + p + t + r = omega arith in
     λ i. record { links = links i; properties = properties i; tags = tags i; runs = runs i; end = end i }
 
 pub move-links : (h o g l p t r x old new : ℕ) → x + old ≡ l + new
@@ -83,6 +74,23 @@ move-runs h o g l p t r x old new e =
 
 -- ---- the parts
 
+unfoldable pub output-frame : Frame (List ℕ) 16 allMoved
+unfolding encode layoutOf
+output-frame =
+    record {
+      get = λ s. s .output;
+      put = withOutput;
+      bytes = λ x. x;
+      count = length;
+      front = λ s. [];
+      back = λ s. body s;
+      field = omega arith;
+      same = λ s. refl;
+      laid = λ s x. refl;
+      counted = λ s x. refl;
+      moves = λ s x old new e. move-all (headerSize + length (s .output) + length (s .owner) + length (s .group)) (headerSize + length x + length (s .owner) + length (s .group)) (length (cat encText (s .links))) (length (cat encProp (s .properties))) (length (cat encText (s .tags))) (length (cat encRun (s .runs))) old new (omega arith);
+    }
+
 unfoldable pub owner-frame : Frame (List ℕ) 7 allMoved
 unfolding encode layoutOf
 owner-frame =
@@ -97,7 +105,7 @@ owner-frame =
       same = λ s. refl;
       laid = λ s x. refl;
       counted = λ s x. refl;
-      moves = λ s x old new e. move-owner (headerSize + length (s .output)) (length (s .owner)) (length (s .group)) (length (cat encText (s .links))) (length (cat encProp (s .properties))) (length (cat encText (s .tags))) (length (cat encRun (s .runs))) (length (x)) old new e;
+      moves = λ s x old new e. move-all (headerSize + length (s .output) + length (s .owner) + length (s .group)) (headerSize + length (s .output) + length x + length (s .group)) (length (cat encText (s .links))) (length (cat encProp (s .properties))) (length (cat encText (s .tags))) (length (cat encRun (s .runs))) old new (omega arith);
     }
 
 unfoldable pub group-frame : Frame (List ℕ) 8 allMoved
@@ -114,7 +122,7 @@ group-frame =
       same = λ s. refl;
       laid = λ s x. simp append-assoc;
       counted = λ s x. refl;
-      moves = λ s x old new e. move-group (headerSize + length (s .output)) (length (s .owner)) (length (s .group)) (length (cat encText (s .links))) (length (cat encProp (s .properties))) (length (cat encText (s .tags))) (length (cat encRun (s .runs))) (length (x)) old new e;
+      moves = λ s x old new e. move-all (headerSize + length (s .output) + length (s .owner) + length (s .group)) (headerSize + length (s .output) + length (s .owner) + length x) (length (cat encText (s .links))) (length (cat encProp (s .properties))) (length (cat encText (s .tags))) (length (cat encRun (s .runs))) old new (omega arith);
     }
 
 unfoldable pub links-frame : Frame (List (List ℕ)) 12 (λ l old new. movedBy l section.Links old new)

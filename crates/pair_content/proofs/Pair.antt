@@ -2,7 +2,7 @@
 -- Assumes nothing.
 use Prim.Native.Nat.{ℕ}
 use mathlib.Core.Path.{_≡_, refl, sym}
-use mathlib.Core.Bool.{true, false}
+use mathlib.Core.Bool.{true, false, not, _&&_}
 use mathlib.Core.List.{List, [], _∷_}
 use native.Mathlib.Omega.{arith}
 use lib.Dec.{eqb, eqb·suc-zero}
@@ -14,7 +14,7 @@ use Rattle.pattern.proofs.Plain.{plain-well-formed}
 use Rattle.glob.specs.Plain.{PlainIf, FormIs}
 use Rattle.glob.specs.declared.Form.{Form}
 use Rattle.glob.specs.declared.Form.the-variants.{Plain, Sound, Faulty}
-use Rattle.rules.specs.Key.{Key, Op, isMatch}
+use Rattle.rules.specs.Key.{Key, PROGRAM, sameKey, Op, isMatch}
 use Rattle.rules.specs.Reading.{sound, readPair}
 use Rattle.keys.specs.Table.{keyOf, operatorOf}
 use Rattle.refusals.specs.Refusals.{refusalOf}
@@ -27,12 +27,12 @@ use Rattle.pairs.specs.Answers.{part, unescaped, readBy}
 use Rattle.pairs.proofs.Whole.{read-written}
 use Rattle.pair_content.specs.Content.{ContentIs}
 
--- what a match value is as a pattern is its content
-pub match-content : (f : Form) (k : Key) (o : Op) (v : List ℕ) → isMatch o ≡ true → FormIs f v → ContentIs f k o v
+-- what a value that is a pattern is as one is its content
+pub pattern-content : (f : Form) (k : Key) (o : Op) (v : List ℕ) → (isMatch o && not (sameKey k PROGRAM)) ≡ true → FormIs f v → ContentIs f k o v
 unfolding sound
-match-content Plain k o v t e = (rw t (plain-well-formed v e), e)
-match-content Sound k o v t e = rw t e
-match-content Faulty k o v t e = rw t e
+pattern-content Plain k o v t e = (rw t (plain-well-formed v e), e)
+pattern-content Sound k o v t e = rw t e
+pattern-content Faulty k o v t e = rw t e
 
 -- without a mark nothing is said
 pub unmarked : (v : List ℕ) → PlainIf false v

@@ -1,10 +1,10 @@
 // The content of a pair, refusal 15, and with it the whole pair.
 ghost use mathlib.Core.Path.{_≡_};
-ghost use mathlib.Core.Bool.{not};
+ghost use mathlib.Core.Bool.{not, _&&_};
 ghost use Prim.Native.Nat.{_≤_};
 ghost use lib.ListN.{length, drop};
 ghost use Rattle.lists.specs.Lists.{isSome};
-ghost use Rattle.rules.specs.Key.{isMatch};
+ghost use Rattle.rules.specs.Key.{PROGRAM, sameKey, isMatch};
 ghost use Rattle.rules.specs.Setting.{settingOf};
 ghost use Rattle.rules.specs.Reading as reading;
 ghost use Rattle.keys.specs.Table.{keyOf, operatorOf};
@@ -59,6 +59,8 @@ fn assigned_sound(key: Key, value: &[u8]) -> bool
         Key::Label => value.len() != 0,
         Key::Goto => value.len() != 0,
         Key::Options => is_setting(value),
+        Key::Program => pieces::well_formed(value),
+        Key::Result => true,
     }
 }
 
@@ -77,11 +79,18 @@ fn is_match(operator: Operator) -> bool
     }
 }
 
-// What a value, unescaped, is by its key and operator: one that they do not ask for is faulty; only a match value can be plain.
+// Whether the value of a pair is a pattern: that of a PROGRAM never is.
+fn is_pattern(key: Key, operator: Operator) -> bool
+    ensures { λ r. ⌜ r ≡ (isMatch (operatorOf operator) && not (sameKey (keyOf key) PROGRAM)) ⌝ }
+{
+    is_match(operator) && !kinds::is_program(key)
+}
+
+// What a value, unescaped, is by its key and operator: one that they do not ask for is faulty; only a pattern can be plain.
 pub fn value_form(key: Key, operator: Operator, value: &[u8]) -> Form
     ensures { λ r. ⌜ ContentIs r (keyOf key) (operatorOf operator) (now (value .entry)) ⌝ }
 {
-    if is_match(operator) {
+    if is_pattern(key, operator) {
         return glob::form_of(value);
     }
     if assigned_sound(key, value) {

@@ -2,6 +2,7 @@
 -- Assumes nothing.
 use Prim.Native.Nat.{ℕ, _+_, _-_, _≤_, _<_}
 use mathlib.Core.Path.{_≡_, refl, ap, _∙_}
+use mathlib.Core.Bool.{true, false}
 use mathlib.Core.List.{List, _∷_}
 use mathlib.Core.Option.{Option, none, some}
 use native.Mathlib.Omega.{arith}
@@ -15,13 +16,24 @@ use Rattle.lists.specs.Items.{isInBraces, closeBrace, inBraces}
 use Rattle.lists.proofs.Rest.{rest-at, byte-in}
 use Rattle.lists.proofs.Runs.{run-at, rest-of}
 use Rattle.scan.specs.Ends.{RunEnd, isNot}
-use Rattle.template.specs.Template.{Piece, inside, textIn, withText}
+use Rattle.template.specs.Template.{Piece, inside, startsBrace, textIn, withText}
 use Rattle.pieces.specs.Read.{piece, itemRead}
 
 module _ (t : List ℕ) (i : ℕ) where
   -- the byte at a place, if it is not NUL, and what is behind it
   pub open-at : (b : ℕ) → getD t i 0 ≡ b → 0 < b → drop i t ≡ b ∷ drop (i + 1) t
   open-at b e h = rw (rest-at t i (byte-in t i b e h), e)
+
+  -- whether a brace opens
+  pub brace-here : getD t i 0 ≡ 123 → startsBrace (drop i t) ≡ true
+  brace-here e = rw (open-at 123 e (omega arith))
+
+  pub brace-none : (getD t i 0 ≡ 123 → ⊥) → startsBrace (drop i t) ≡ false
+  brace-none n = go (decLt i (length t))
+    where
+      go : Dec (i < length t) → startsBrace (drop i t) ≡ false
+      go (yes h) = rw (rest-at t i h, ne-eqb (getD t i 0) 123 n)
+      go (no h) = rw (drop-of-length-le t {i = i} (omega arith))
 
   pub text-none : (getD t i 0 ≡ 123 → ⊥) → textIn (drop i t) ≡ none
   text-none n = go (decLt i (length t))

@@ -16,7 +16,7 @@ use Rattle.lists.specs.Bytes.{starts}
 use Rattle.lists.specs.Quoted.{bytes}
 use Rattle.lists.proofs.Rest.{rest-at, byte-in}
 use Rattle.lists.proofs.Tests.{and-both}
-use Rattle.template.specs.Template.{Piece, Named, plain, braced, kernel, number, devpath, id, driver, major, minor, attr, env, names, letters, nameIn, textIn, withText, namedPiece}
+use Rattle.template.specs.Template.{Piece, Named, plain, whole, braced, kernel, number, devpath, id, driver, major, minor, result, attr, env, names, letters, nameIn, textIn, withText, formed, namedPiece}
 use Rattle.pieces.specs.Read.{piece, fault, itemRead, afterPercent, afterDollar, ifNamed, meaning, PieceWithin, Ahead, Within}
 use Rattle.pieces.specs.declared.Piece as P
 use Rattle.pieces.specs.declared.PieceRead.{PieceRead}
@@ -39,6 +39,11 @@ choose-braced : (u : Bool) (name : List ℕ) (f : List ℕ → Piece) (bs : List
     → itemRead (namedPiece (pick u (some (record { name = name; form = braced f })) none) bs) i ≡ pick u (itemRead (withText f (length name) (textIn (drop (length name) bs))) i) fault
 choose-braced true name f bs i = refl
 choose-braced false name f bs i = refl
+
+choose-whole : (u : Bool) (name : List ℕ) (p : Piece) (bs : List ℕ) (i : ℕ)
+    → itemRead (namedPiece (pick u (some (record { name = name; form = whole p })) none) bs) i ≡ pick u (itemRead (formed (whole p) (length name) (drop (length name) bs)) i) fault
+choose-whole true name p bs i = refl
+choose-whole false name p bs i = refl
 
 module _ (t : List ℕ) (i : ℕ) where
   -- a name whose first byte does not stand at a place
@@ -67,19 +72,23 @@ module _ (t : List ℕ) (i : ℕ) where
   unfolding letters nameIn starts
   letter-E e = rw (open-at t i 69 e (omega arith)) (sym (braced-behind env 1 i (textIn (drop (i + 1) t))))
 
+  pub letter-c : getD t i 0 ≡ 99 → afterPercent t i ≡ itemRead (formed (whole result) 1 (drop (i + 1) t)) i
+  unfolding letters nameIn starts
+  letter-c e = rw (open-at t i 99 e (omega arith))
+
   -- a byte that is no letter of the table
   module _ {b : ℕ} (e : b ≡ getD t i 0) (sign : b ≡ 37 → ⊥) where
     other : (x : ℕ) → (b ≡ x → ⊥) → starts (x ∷ []) (drop i t) ≡ false
     other x n = not-begun x [] (λ f. n (e ∙ f))
 
-    pub letter-none : (b ≡ 107 → ⊥) → (b ≡ 110 → ⊥) → (b ≡ 112 → ⊥) → (b ≡ 98 → ⊥) → (b ≡ 115 → ⊥) → (b ≡ 69 → ⊥) → (b ≡ 77 → ⊥) → (b ≡ 109 → ⊥) → fault ≡ afterPercent t i
+    pub letter-none : (b ≡ 107 → ⊥) → (b ≡ 110 → ⊥) → (b ≡ 112 → ⊥) → (b ≡ 98 → ⊥) → (b ≡ 115 → ⊥) → (b ≡ 69 → ⊥) → (b ≡ 77 → ⊥) → (b ≡ 109 → ⊥) → (b ≡ 99 → ⊥) → fault ≡ afterPercent t i
     unfolding letters nameIn
-    letter-none k n p d s E M m = rw (other 107 k, other 110 n, other 112 p, other 98 d, other 115 s, other 69 E, other 77 M, other 109 m, other 37 sign)
+    letter-none k n p d s E M m c = rw (other 107 k, other 110 n, other 112 p, other 98 d, other 115 s, other 69 E, other 77 M, other 109 m, other 99 c, other 37 sign)
 
     pub no-letter : (65 ≤ b → b ≤ 90 → ⊥) → (97 ≤ b → b ≤ 122 → ⊥) → fault ≡ afterPercent t i
     no-letter C S =
         letter-none (λ q. S (omega arith) (omega arith)) (λ q. S (omega arith) (omega arith)) (λ q. S (omega arith) (omega arith)) (λ q. S (omega arith) (omega arith))
-        (λ q. S (omega arith) (omega arith)) (λ q. C (omega arith) (omega arith)) (λ q. C (omega arith) (omega arith)) (λ q. S (omega arith) (omega arith))
+        (λ q. S (omega arith) (omega arith)) (λ q. C (omega arith) (omega arith)) (λ q. C (omega arith) (omega arith)) (λ q. S (omega arith) (omega arith)) (λ q. S (omega arith) (omega arith))
 
   -- ---- names
 
@@ -136,14 +145,22 @@ module _ (t : List ℕ) (i : ℕ) where
       rw (braced-behind env 3 i (textIn (drop (i + 3) t)), ← drop-drop 3 i t, open-at t i 101 e (omega arith))
       (choose-braced (starts (bytes "nv") (drop (i + 1) t)) (bytes "env") env (101 ∷ drop (i + 1) t) i)
 
+  -- ---- the name that no brace may follow
+
+  pub name-r : getD t i 0 ≡ 114 → afterDollar t i ≡ pick (starts (bytes "result") (drop i t)) (itemRead (formed (whole result) 6 (drop (i + 6) t)) i) fault
+  unfolding names nameIn starts bytes
+  name-r e =
+      rw (← drop-drop 6 i t, open-at t i 114 e (omega arith))
+      (choose-whole (starts (bytes "esult") (drop (i + 1) t)) (bytes "result") result (114 ∷ drop (i + 1) t) i)
+
   -- a byte that no name begins with
   module _ {b : ℕ} (e : b ≡ getD t i 0) (sign : b ≡ 36 → ⊥) where
     other-name : (x : ℕ) (name : List ℕ) → (b ≡ x → ⊥) → starts (x ∷ name) (drop i t) ≡ false
     other-name x name n = not-begun t i x name (λ f. n (e ∙ f))
 
-    pub name-none : (b ≡ 107 → ⊥) → (b ≡ 110 → ⊥) → (b ≡ 100 → ⊥) → (b ≡ 105 → ⊥) → (b ≡ 97 → ⊥) → (b ≡ 101 → ⊥) → (b ≡ 109 → ⊥) → fault ≡ afterDollar t i
+    pub name-none : (b ≡ 107 → ⊥) → (b ≡ 110 → ⊥) → (b ≡ 100 → ⊥) → (b ≡ 105 → ⊥) → (b ≡ 97 → ⊥) → (b ≡ 101 → ⊥) → (b ≡ 109 → ⊥) → (b ≡ 114 → ⊥) → fault ≡ afterDollar t i
     unfolding names nameIn bytes
-    name-none k n d i′ a e′ m =
+    name-none k n d i′ a e′ m r =
         rw (
           other-name 107 (bytes "ernel") k,
           other-name 110 (bytes "umber") n,
@@ -154,13 +171,14 @@ module _ (t : List ℕ) (i : ℕ) where
           other-name 101 (bytes "nv") e′,
           other-name 109 (bytes "ajor") m,
           other-name 109 (bytes "inor") m,
+          other-name 114 (bytes "esult") r,
           other-name 36 [] sign,
         )
 
     pub no-name : (97 ≤ b → b ≤ 122 → ⊥) → fault ≡ afterDollar t i
     no-name S =
         name-none (λ q. S (omega arith) (omega arith)) (λ q. S (omega arith) (omega arith)) (λ q. S (omega arith) (omega arith)) (λ q. S (omega arith) (omega arith))
-        (λ q. S (omega arith) (omega arith)) (λ q. S (omega arith) (omega arith)) (λ q. S (omega arith) (omega arith))
+        (λ q. S (omega arith) (omega arith)) (λ q. S (omega arith) (omega arith)) (λ q. S (omega arith) (omega arith)) (λ q. S (omega arith) (omega arith))
 
 -- bounds behind n bytes are bounds before them
 pub behind : (t : List ℕ) (i n : ℕ) (r : PieceRead) → Within r t (i + n) → Within r t i

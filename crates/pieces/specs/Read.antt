@@ -11,7 +11,7 @@ use Rattle.lists.specs.Items.{Item}
 use Rattle.template.specs.Template as T
 use Rattle.template.specs.Template.{names, letters, nameIn, namedPiece, pieceAt, pieces}
 use Rattle.pieces.specs.declared.Piece.{Piece}
-use Rattle.pieces.specs.declared.Piece.the-variants.{Written, Kernel, Number, Devpath, Id, Driver, Major, Minor, Attr, Env, Dollar, Percent}
+use Rattle.pieces.specs.declared.Piece.the-variants.{Written, Kernel, Number, Devpath, Id, Driver, Major, Minor, Result, Attr, Env, Dollar, Percent}
 use Rattle.pieces.specs.declared.PieceRead.{PieceRead}
 use Rattle.pieces.specs.declared.PieceRead.the-variants as P
 use Rattle.pieces.specs.declared.Text.{Text}
@@ -57,6 +57,7 @@ meaning Id template = T.id
 meaning Driver template = T.driver
 meaning Major template = T.major
 meaning Minor template = T.minor
+meaning Result template = T.result
 meaning (Attr start len) template = T.attr (take len (drop start template))
 meaning (Env start len) template = T.env (take len (drop start template))
 meaning Dollar template = T.dollar
@@ -83,6 +84,7 @@ PieceWithin Id template = Unit {0}
 PieceWithin Driver template = Unit {0}
 PieceWithin Major template = Unit {0}
 PieceWithin Minor template = Unit {0}
+PieceWithin Result template = Unit {0}
 PieceWithin (Attr start len) template = start + len ≤ length template
 PieceWithin (Env start len) template = start + len ≤ length template
 PieceWithin Dollar template = Unit {0}

@@ -2,7 +2,7 @@
 ghost use mathlib.Core.Path.{_≡_};
 ghost use Prim.Native.Nat.{_+_, _≤_, _<_};
 ghost use lib.ListN.{length, getD, drop};
-ghost use Rattle.template.specs.Template.{attr, env, textIn, withText, wellFormed};
+ghost use Rattle.template.specs.Template.{result, attr, env, whole, formed, textIn, withText, wellFormed};
 ghost use Rattle.pieces.specs.Number.{DigitsOf};
 ghost use Rattle.pieces.specs.Read.{meaning, told, itemRead, readAt, afterPercent, afterDollar, ifNamed, PieceWithin, Within, textTold, TextWithin, PassesWritten};
 
@@ -16,6 +16,7 @@ pub enum Piece {
     Driver,
     Major,
     Minor,
+    Result,
     Attr(usize, usize),
     Env(usize, usize),
     Dollar,
@@ -72,6 +73,20 @@ fn env_at(template: &[u8], at: usize) -> PieceRead
     }
 }
 
+// ---- a program's output (document 02, Item 6)
+
+// The output behind a name of n bytes, which no brace may follow.
+fn result_at(template: &[u8], at: usize, n: usize) -> PieceRead
+    requires { ⌜ (at + n ≤ length (now template)) × (0 < n) ⌝ }
+    ensures { λ r. ⌜ (told r (now (template .entry)) ≡ itemRead (formed (whole result) n (drop (at + n) (now (template .entry)))) at) × Within r (now (template .entry)) at ⌝ }
+{
+    if scan::byte_at(template, at + n) == b'{' {
+        PieceRead::Fault
+    } else {
+        PieceRead::Read(Piece::Result, at + n)
+    }
+}
+
 // ---- behind a per cent sign
 
 // The piece of a letter.
@@ -88,6 +103,7 @@ fn letter_at(template: &[u8], at: usize) -> PieceRead
         b'E' => env_at(template, at + 1),
         b'M' => PieceRead::Read(Piece::Major, at + 1),
         b'm' => PieceRead::Read(Piece::Minor, at + 1),
+        b'c' => result_at(template, at, 1),
         _ => PieceRead::Fault,
     }
 }
@@ -145,6 +161,11 @@ fn name_at(template: &[u8], at: usize) -> PieceRead
             if_named(template, at, b"major", Piece::Major)
         } else {
             if_named(template, at, b"minor", Piece::Minor)
+        },
+        b'r' => if scan::starts_at(template, at, b"result") {
+            result_at(template, at, 6)
+        } else {
+            PieceRead::Fault
         },
         _ => PieceRead::Fault,
     }

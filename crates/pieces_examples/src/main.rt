@@ -34,6 +34,7 @@ fn show_piece(template: &[u8], p: Piece) {
         Piece::Driver => say(b"<driver>"),
         Piece::Major => say(b"<major>"),
         Piece::Minor => say(b"<minor>"),
+        Piece::Result => say(b"<result>"),
         Piece::Attr(start, len) => say_part(template, b"<attr ", start, len),
         Piece::Env(start, len) => say_part(template, b"<env ", start, len),
         Piece::Dollar => say(b"<dollar>"),

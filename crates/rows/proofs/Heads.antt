@@ -11,7 +11,7 @@ use Rattle.bits.specs.Bits.{numberAt}
 use Rattle.rows.specs.Entry.{headLen, nameLen, restLen, size, Shaped, Placed}
 use Rattle.rows.specs.declared.Kind.{Kind}
 use Rattle.rows.specs.declared.Shape.{Shape}
-use Rattle.rows.specs.declared.Kind.the-variants.{Text, Property, Run}
+use Rattle.rows.specs.declared.Kind.the-variants.{Text, Property, Run, Reply}
 
 module _ (l : List ℕ) (p : ℕ) where
   -- two bytes as code takes them
@@ -36,12 +36,27 @@ module _ (l : List ℕ) (p : ℕ) where
   unfolding nameLen restLen
   run-shaped s e f k = record { name = e ∙ ap (λ (x : List ℕ). numberAt x 6 9) two; rest = f; few = omega arith }
 
+  -- three bytes as code takes them
+  three : take (p + 3 - p) (drop p l) ≡ take 3 (drop p l)
+  three = ap-at (λ i. take i (drop p l)) (p + 3 - p) 3 (omega arith)
+
+  pub reply-shaped : (s : Shape) → let head = take (p + 3 - p) (drop p l) in s .name ≡ numberAt head 1 10 → s .rest ≡ numberAt head 11 10 → s .name < 1024 → s .rest < 1024
+      → Shaped Reply (drop p l) s
+  unfolding nameLen restLen
+  reply-shaped s e f k j =
+      record {
+        name = e ∙ ap (λ (x : List ℕ). numberAt x 1 10) three;
+        rest = f ∙ ap (λ (x : List ℕ). numberAt x 11 10) three;
+        few = omega arith;
+      }
+
 -- ---- the places of the parts, from the lengths
 
 head-more : (kind : Kind) → 0 < headLen kind
 head-more Text = omega arith
 head-more Property = omega arith
 head-more Run = omega arith
+head-more Reply = omega arith
 
 module _ (kind : Kind) (l : List ℕ) (p : ℕ) where
   pub head-in : size kind (drop p l) ≤ length (drop p l) → p + headLen kind ≤ length l

@@ -44,6 +44,12 @@ leb-more n a b c d e f = go (leb a b) refl
 pub short : {A : Type 0} (n m : ℕ) (b : Bool) (a : A) (r : List ℕ) → m < n → bad ≡ keep (leb n m && b) a r
 short n m b a r h = rw (lt-leb n m h)
 
+-- a test that may come first as well
+pub swap : (a b c : Bool) → (a && (b && c)) ≡ (b && (a && c))
+swap true b c = refl
+swap false true c = refl
+swap false false c = refl
+
 abbrev pub textHere : List ℕ → List ℕ
 textHere bs = name kind.Text bs
 
@@ -137,6 +143,18 @@ module _ {A : Type 0} {kind : Kind} {one : List ℕ → Parse A} {ok : List ℕ 
       let (h, x, y) = one-got bs a q p₁ in
       let j : xs ≡ a ∷ ys = cc in
       rw (j, y, many-names nm f n q ys q′ p₂, sym (f bs) ∙ ap nm x)
+
+-- ---- where a check says that it ends
+
+-- something was read, and ends there
+pub end-at : {A X : Type 0} (n p : ℕ) (q : Parse A) → endOf n q ≡ At p → ((a : A) (r : List ℕ) → q ≡ got a r → p ≡ n - length r → X) → X
+end-at n p (got a r) e k = k a r refl (cc)
+end-at n p bad e k = let z : _≡_ {A = ℕ} 0 1 = cc in absurd (omega arith)
+
+-- nothing was read
+pub end-bad : {A : Type 0} (n : ℕ) (q : Parse A) → endOf n q ≡ Bad → q ≡ bad
+end-bad n (got a r) e = let z : _≡_ {A = ℕ} 0 1 = cc in absurd (omega arith)
+end-bad n bad e = refl
 
 -- ---- a turn of a check
 

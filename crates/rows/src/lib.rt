@@ -9,17 +9,18 @@ ghost use Rattle.lists.specs.Bytes.{clean as clean-list, okText, among, distinc
 ghost use Rattle.bits.specs.Bits.{numberAt};
 ghost use Rattle.entries.specs.Parse.{many};
 ghost use Rattle.entries.specs.Entry.{Property, okProp, oneProp};
-ghost use Rattle.rows.specs.Entry.{headLen, size, RunRead, Shaped, Placed, Read};
+ghost use Rattle.rows.specs.Entry.{headLen, size, RunRead, ReplyRead, Shaped, Placed, Read};
 ghost use Rattle.rows.specs.Row.{Row, names, findIn, partOf, Within, endIn, endOf};
 
-// What an entry is: a text behind its length (a link, a tag), a property or an attribute, a run.
+// What an entry is: a text behind its length (a link, a tag), a property or an attribute, a run, a reply of an answer sheet.
 pub enum Kind {
     Text,
     Property,
     Run,
+    Reply,
 }
 
-// The lengths of an entry's name and of what follows it. A run's name is its template.
+// The lengths of an entry's name and of what follows it. A run's name is its template, a reply's its command.
 struct Shape {
     name: usize,
     rest: usize,
@@ -30,6 +31,14 @@ pub struct RunHead {
     pub builtin: usize,
     pub place: usize,
     pub len: usize,
+    pub unused: usize,
+}
+
+// The fields of a reply's head.
+pub struct ReplyHead {
+    pub success: usize,
+    pub command: usize,
+    pub output: usize,
     pub unused: usize,
 }
 
@@ -67,6 +76,7 @@ fn head_len(kind: Kind) -> usize
         Kind::Text => 1,
         Kind::Property => 2,
         Kind::Run => 2,
+        Kind::Reply => 3,
     }
 }
 
@@ -120,6 +130,34 @@ fn run_shape(head: &[u8]) -> Shape
     }
 }
 
+// The head of a reply: success 1, command length 10, output length 10, unused 3.
+pub fn reply_head(head: &[u8]) -> ReplyHead
+    requires { ⌜ 3 ≤ length (now head) ⌝ }
+    ensures { λ r. ⌜ ReplyRead (now (head .entry)) r ⌝ }
+{
+    let success = BitCursor { at: 0 }.take(head, 1);
+    let command = success.next.take(head, 10);
+    let output = command.next.take(head, 10);
+    let unused = output.next.take(head, 3);
+    ReplyHead {
+        success: success.value,
+        command: command.value,
+        output: output.value,
+        unused: unused.value,
+    }
+}
+
+fn reply_shape(head: &[u8]) -> Shape
+    requires { ⌜ 3 ≤ length (now head) ⌝ }
+    ensures { λ r. ⌜ (r .name ≡ numberAt (now (head .entry)) 1 10) × (r .rest ≡ numberAt (now (head .entry)) 11 10) × (r .name < 1024) × (r .rest < 1024) ⌝ }
+{
+    let h = reply_head(head);
+    Shape {
+        name: h.command,
+        rest: h.output,
+    }
+}
+
 fn shape_at(rec: &[u8], p: usize, kind: Kind) -> Shape
     requires { ⌜ p + headLen kind ≤ length (now rec) ⌝ }
     ensures { λ r. ⌜ Shaped kind (drop p (now (rec .entry))) r ⌝ }
@@ -128,6 +166,7 @@ fn shape_at(rec: &[u8], p: usize, kind: Kind) -> Shape
         Kind::Text => text_shape(rec[p]),
         Kind::Property => property_shape(&rec[p..p + 2]),
         Kind::Run => run_shape(&rec[p..p + 2]),
+        Kind::Reply => reply_shape(&rec[p..p + 3]),
     }
 }
 

@@ -16,7 +16,7 @@ use Rattle.lists.proofs.Moves.{ap-at}
 use Rattle.lists.specs.Quoted.{bytes}
 use Rattle.scan.specs.Ends.{isNot}
 use Rattle.rules.specs.Key as rules
-use Rattle.rules.specs.Key.{Key, ACTION, DEVPATH, KERNEL, KERNELS, SUBSYSTEM, SUBSYSTEMS, DRIVER, DRIVERS, ATTR, ATTRS, ENV, SYMLINK, TAG, OWNER, GROUP, MODE, RUN, LABEL, GOTO, OPTIONS, keyNumber, rows}
+use Rattle.rules.specs.Key.{Key, ACTION, DEVPATH, KERNEL, KERNELS, SUBSYSTEM, SUBSYSTEMS, DRIVER, DRIVERS, ATTR, ATTRS, ENV, SYMLINK, TAG, OWNER, GROUP, MODE, RUN, LABEL, GOTO, OPTIONS, PROGRAM, RESULT, keyNumber, rows}
 use Rattle.rules.specs.Pair.{Pair}
 use Rattle.keys.specs.Table.{keyOf, operatorOf, rowOf}
 use Rattle.keys.specs.declared.Operator.{Operator}
@@ -130,6 +130,8 @@ row-name RUN = refl
 row-name LABEL = refl
 row-name GOTO = refl
 row-name OPTIONS = refl
+row-name PROGRAM = refl
+row-name RESULT = refl
 
 pub first-of : (x : List ℕ) (len : ℕ) → take (len - 0) (drop 0 x) ≡ take len x
 first-of x len = ap-at (λ n. take n x) (len - 0) len (omega arith)

@@ -11,13 +11,12 @@ use Rattle.lists.proofs.Lists.{is-none}
 use Rattle.lists.specs.Lists.{isSome}
 use Rattle.lists.specs.Bytes.{Bytes}
 use Rattle.lists.specs.Checked.{refused, ok, Placed, line}
-use Rattle.lists.specs.Refusal.{Refusal, target-short, device-bad, outcome-bad}
+use Rattle.lists.specs.Refusal.{Refusal, target-short, device-bad, outcome-bad, sheet-bad}
 use Rattle.lists.specs.Sizes.{fullestOutcome}
 use Rattle.rules.specs.Pair.{Rule}
 use Rattle.rules.specs.Reading.{reader}
 use Rattle.text.specs.Reading.{readText}
 use Rattle.text.specs.Running.{Halt, Ran, next, runFrom}
-use Rattle.text.specs.Run as text
 use Rattle.text.specs.Run.{refusal, acceptance}
 use Rattle.device.specs.Device as D
 use Rattle.device.specs.Device.{Device, chain}
@@ -33,38 +32,45 @@ use Rattle.outcome_target.proofs.Edits.{layout-end}
 use Rattle.outcome_check.proofs.Answers.{sound-state, faulty-state}
 use Rattle.outcome_check.specs.Check.{checkedOf}
 use Rattle.outcome_check.specs.declared.Checked.the-variants.{Sound, Faulty}
-use Rattle.engine.specs.Operations.{engine, decodeFor, run}
+use Rattle.sheet.specs.Sheet as Sheets
+use Rattle.sheet.specs.Sheet.{Sheet}
+use Rattle.engine.specs.Operations.{engine, decodeFor, runChecked, ran, run}
 use Rattle.answers.specs.Answers.{answered, Refuses, Accepts}
 use Rattle.answers.specs.declared.Given.{Given}
 use Rattle.run.specs.Running.{Held}
 
 -- ---- in turn
 
-module _ (t dev out : List ℕ) (room : ℕ) where
-  pub run-short : room < fullestOutcome → run t dev out room ≡ refusal room (line 0 target-short)
-  unfolding text.run text.answer text.runChecked
+module _ (t dev out sheet : List ℕ) (room : ℕ) where
+  pub run-short : room < fullestOutcome → run t dev out sheet room ≡ refusal room (line 0 target-short)
+  unfolding run ran runChecked
   run-short h = rw (lt-leb fullestOutcome room h)
 
   module _ (h : fullestOutcome ≤ room) where
-    pub run-text : (f : Placed Refusal) → readText reader t ≡ refused f → run t dev out room ≡ refusal room f
-    unfolding text.run text.answer text.runChecked
+    pub run-text : (f : Placed Refusal) → readText reader t ≡ refused f → run t dev out sheet room ≡ refusal room f
+    unfolding run ran runChecked
     run-text f e = rw (le-leb fullestOutcome room h, e)
 
     module _ (rs : List (Placed Rule)) (e : readText reader t ≡ ok rs) where
-      pub run-device : isSome (D.decode dev) ≡ false → run t dev out room ≡ refusal room (line 0 device-bad)
-      unfolding text.run text.answer text.runChecked
+      pub run-device : isSome (D.decode dev) ≡ false → run t dev out sheet room ≡ refusal room (line 0 device-bad)
+      unfolding run ran runChecked
       run-device k = rw (le-leb fullestOutcome room h, e, is-none (D.decode dev) k)
 
       module _ (d : Device) (f : D.decode dev ≡ some d) (r : Chain) (c : Chained d r) where
-        pub run-outcome : Faulty ≡ checkedOf (O.decode (r .len) out) → run t dev out room ≡ refusal room (line 0 outcome-bad)
-        unfolding text.run text.answer text.runChecked decodeFor
+        pub run-outcome : Faulty ≡ checkedOf (O.decode (r .len) out) → run t dev out sheet room ≡ refusal room (line 0 outcome-bad)
+        unfolding run ran runChecked decodeFor
         run-outcome k =
             let g : O.decode (length (chain d)) out ≡ none = ap (λ (n : ℕ). O.decode n out) (sym (c .len)) ∙ faulty-state (O.decode (r .len) out) k in
             rw (le-leb fullestOutcome room h, e, f, g)
 
-      pub run-whole : (r : Chain) (lay : Layout) (d : Device) (s : State) → Held dev out r lay d s → run t dev out room ≡ text.answer engine room (runFrom engine d next s rs)
-      unfolding text.run text.runChecked decodeFor
-      run-whole r lay d s w = rw (le-leb fullestOutcome room h, e, w .device, w .outcome)
+      module _ (r : Chain) (lay : Layout) (d : Device) (s : State) (w : Held dev out r lay d s) where
+        pub run-sheet : isSome (Sheets.decode sheet) ≡ false → run t dev out sheet room ≡ refusal room (line 0 sheet-bad)
+        unfolding run ran runChecked decodeFor
+        run-sheet k = rw (le-leb fullestOutcome room h, e, w .device, w .outcome, is-none (Sheets.decode sheet) k)
+
+        pub run-whole : (a : Sheet) → Sheets.decode sheet ≡ some a → run t dev out sheet room ≡ ran room (runFrom (engine a) d next s rs)
+        unfolding run runChecked decodeFor
+        run-whole a k = rw (le-leb fullestOutcome room h, e, w .device, w .outcome, k)
 
 -- both records are sound
 pub both-held : (dev out : List ℕ) (d : Device) → D.decode dev ≡ some d → (r : Chain) → Chained d r → (lay : Layout) → Sound lay ≡ checkedOf (O.decode (r .len) out)
@@ -88,16 +94,16 @@ module _ (n : ℕ) (l : List ℕ) (lay : Layout) (s : State) (w : target.Held n 
   pub used-few : lay .end ≤ fullestOutcome
   used-few = subst (λ (k : ℕ). k ≤ fullestOutcome) (sym used-is) (fits n s (w .good))
 
-pub ended-answer : (room : ℕ) (c : Ran State) (h : Halt State) → c ≡ ok h → acceptance room (h .visited) (h .tried) (encode (h .state)) ≡ text.answer engine room c
-unfolding text.answer
+pub ended-answer : (room : ℕ) (c : Ran State) (h : Halt State) → c ≡ ok h → acceptance room (h .visited) (h .tried) (encode (h .state)) ≡ ran room c
+unfolding ran
 ended-answer room c h e = rw e
 
-pub refused-answer : (room : ℕ) (c : Ran State) (f : Placed Refusal) → c ≡ refused f → refusal room f ≡ text.answer engine room c
-unfolding text.answer
+pub refused-answer : (room : ℕ) (c : Ran State) (f : Placed Refusal) → c ≡ refused f → refusal room f ≡ ran room c
+unfolding ran
 refused-answer room c f e = rw e
 
 pub sound-ended : (room n : ℕ) (l : List ℕ) (lay : Layout) (v u : ℕ) (c : Ran State) (h : Halt State) → c ≡ ok h → target.Held n l lay (h .state) → v ≡ h .visited → u ≡ h .tried → length l ≡ room
-    → (g : Given) → Accepts g v u (lay .end) → answered g l ≡ text.answer engine room c
+    → (g : Given) → Accepts g v u (lay .end) → answered g l ≡ ran room c
 sound-ended room n l lay v u c h e w i j m g k =
     ap (answered g) (w .bytes)
     ∙ k (length l) (encode (h .state)) (used-is n l lay (h .state) w)
@@ -106,7 +112,7 @@ sound-ended room n l lay v u c h e w i j m g k =
     ∙ ended-answer room c h e
 
 pub sound-refused : (room m : ℕ) (l : List ℕ) → l ≡ replicate m 0 → m ≡ room → (c : Ran State) (n : ℕ) (f : Refusal) → c ≡ refused (line n f)
-    → (g : Given) → Refuses g n f → answered g l ≡ text.answer engine room c
+    → (g : Given) → Refuses g n f → answered g l ≡ ran room c
 sound-refused room m l b e c n f q g k =
     ap (answered g) b
     ∙ k m

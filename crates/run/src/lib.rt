@@ -1,9 +1,12 @@
-// The run, a public operation: the rules of a text over a device record and an outcome record.
+// The run, a public operation: the rules of a text over a device record, an outcome record and an answer sheet.
 ghost use mathlib.Core.List.{List};
 ghost use mathlib.Core.Path.{_≡_};
+ghost use mathlib.Core.Bool.{true};
 ghost use Prim.Native.Nat.{ℕ, _*_, _≤_};
 ghost use lib.ListN.{length};
+ghost use Rattle.lists.specs.Lists.{isSome};
 ghost use Rattle.lists.specs.Sizes.{fullestOutcome, mostRules, mostText};
+ghost use Rattle.sheet.specs.Sheet.{decode};
 ghost use Rattle.engine.specs.Operations.{run as run-answer};
 ghost use Rattle.answers.specs.Answers.{answered};
 ghost use Rattle.reader.specs.Read.{Lends};
@@ -26,15 +29,27 @@ fn run_sound(
     count: usize,
     dev: &[u8],
     chain: Chain,
+    sheet: &[u8],
     rec: &[u8],
     layout: Layout,
     t: &mut [u8],
 ) -> Given
-    requires { ⌜ (fullestOutcome ≤ length (now t)) × Runnable (now values) (now rows) (now rules) (now jumps) count × Both (now dev) (now rec) chain layout ⌝ }
-    ensures { λ r. ⌜ RunOf (now (values .entry)) (now (rows .entry)) (now (rules .entry)) count (now (dev .entry)) (now (rec .entry)) chain layout (length (now (t .entry))) (answered r (now (t .exit))) ⌝ }
+    requires { ⌜ (fullestOutcome ≤ length (now t)) × Runnable (now values) (now rows) (now rules) (now jumps) count × Both (now dev) (now rec) chain layout × (isSome (decode (now sheet)) ≡ true) ⌝ }
+    ensures { λ r. ⌜ RunOf (now (values .entry)) (now (rows .entry)) (now (rules .entry)) count (now (dev .entry)) (now (sheet .entry)) (now (rec .entry)) chain layout (length (now (t .entry))) (answered r (now (t .exit))) ⌝ }
 {
     outcome_target::load(t, rec);
-    match runner::run_rules(values, rows, rules, jumps, count, dev, chain, t, layout) {
+    match runner::run_rules(
+        values,
+        rows,
+        rules,
+        jumps,
+        count,
+        dev,
+        chain,
+        sheet,
+        t,
+        layout,
+    ) {
         TextRan::Ended(left, visited, tried) => {
             let used = left.end;
             answers::accepted(visited, tried, used)
@@ -46,7 +61,8 @@ fn run_sound(
     }
 }
 
-// The rules of a table over a device record and an outcome record: what a run of the text gives that the table holds.
+// The rules of a table over a device record, an outcome record and a sheet that was judged: what a run of the text gives that the table
+// holds.
 pub fn run_table(
     values: &[u8],
     rows: &[u16],
@@ -55,10 +71,12 @@ pub fn run_table(
     count: usize,
     device: &[u8],
     outcome: &[u8],
+    sheet: &[u8],
+    sound: bool,
     target: &mut [u8],
 ) -> Given
-    requires { ⌜ (fullestOutcome ≤ length (now target)) × Runnable (now values) (now rows) (now rules) (now jumps) count ⌝ }
-    ensures { λ r. ⌜ ((text : List ℕ) → Holds text (now (values .entry)) (now (rows .entry)) (now (rules .entry)) count → answered r (now (target .exit)) ≡ run-answer text (now (device .entry)) (now (outcome .entry)) (length (now (target .entry)))) ⌝ }
+    requires { ⌜ (fullestOutcome ≤ length (now target)) × Runnable (now values) (now rows) (now rules) (now jumps) count × (sound ≡ isSome (decode (now sheet))) ⌝ }
+    ensures { λ r. ⌜ ((text : List ℕ) → Holds text (now (values .entry)) (now (rows .entry)) (now (rules .entry)) count → answered r (now (target .exit)) ≡ run-answer text (now (device .entry)) (now (outcome .entry)) (now (sheet .entry)) (length (now (target .entry)))) ⌝ }
 {
     if !device_check::check(device) {
         splice::clear(target);
@@ -66,18 +84,25 @@ pub fn run_table(
     }
     let chain = device_lookup::chain_of(device);
     match outcome_check::check(outcome, chain.len) {
-        Checked::Sound(layout) => run_sound(
-            values,
-            rows,
-            rules,
-            jumps,
-            count,
-            device,
-            chain,
-            outcome,
-            layout,
-            target,
-        ),
+        Checked::Sound(layout) => {
+            if !sound {
+                splice::clear(target);
+                return answers::refused(Refusal::SheetBad, 0);
+            }
+            run_sound(
+                values,
+                rows,
+                rules,
+                jumps,
+                count,
+                device,
+                chain,
+                sheet,
+                outcome,
+                layout,
+                target,
+            )
+        }
         Checked::Faulty => {
             splice::clear(target);
             answers::refused(Refusal::OutcomeBad, 0)
@@ -95,10 +120,11 @@ fn run_lent(
     jumps: &mut [u16],
     device: &[u8],
     outcome: &[u8],
+    sheet: &[u8],
     target: &mut [u8],
 ) -> Given
     requires { ⌜ (fullestOutcome ≤ length (now target)) × (length (now text) ≤ mostText → Lends (length (now text)) (now values) (now rows)) × (length (now rules) ≡ mostRules * 4) × (length (now labels) ≡ mostRules) × (length (now jumps) ≡ mostRules) ⌝ }
-    ensures { λ r. ⌜ answered r (now (target .exit)) ≡ run-answer (now (text .entry)) (now (device .entry)) (now (outcome .entry)) (length (now (target .entry))) ⌝ }
+    ensures { λ r. ⌜ answered r (now (target .exit)) ≡ run-answer (now (text .entry)) (now (device .entry)) (now (outcome .entry)) (now (sheet .entry)) (length (now (target .entry))) ⌝ }
 {
     match reader::read_text(text, values, rows, rules, labels, jumps) {
         TextRead::Accepted(counts) => run_table(
@@ -109,6 +135,8 @@ fn run_lent(
             counts.rules,
             device,
             outcome,
+            sheet,
+            sheet_check::check(sheet),
             target,
         ),
         TextRead::Refused(refusal, line) => {
@@ -125,10 +153,11 @@ fn run_in(
     rows: &mut [u16],
     device: &[u8],
     outcome: &[u8],
+    sheet: &[u8],
     target: &mut [u8],
 ) -> Given
     requires { ⌜ (fullestOutcome ≤ length (now target)) × (length (now text) ≤ mostText → Lends (length (now text)) (now values) (now rows)) ⌝ }
-    ensures { λ r. ⌜ answered r (now (target .exit)) ≡ run-answer (now (text .entry)) (now (device .entry)) (now (outcome .entry)) (length (now (target .entry))) ⌝ }
+    ensures { λ r. ⌜ answered r (now (target .exit)) ≡ run-answer (now (text .entry)) (now (device .entry)) (now (outcome .entry)) (now (sheet .entry)) (length (now (target .entry))) ⌝ }
 {
     let mut rules = [0u16; 2048];
     let mut labels = [0u16; 512];
@@ -142,74 +171,75 @@ fn run_in(
         &mut jumps,
         device,
         outcome,
+        sheet,
         target,
     )
 }
 
 // Room by the size of the text: to clear more than it needs takes longer than to run a short one.
-fn run_least(text: &[u8], device: &[u8], outcome: &[u8], target: &mut [u8]) -> Given
+fn run_least(text: &[u8], device: &[u8], outcome: &[u8], sheet: &[u8], target: &mut [u8]) -> Given
     requires { ⌜ (fullestOutcome ≤ length (now target)) × (length (now text) ≤ 2048) ⌝ }
-    ensures { λ r. ⌜ answered r (now (target .exit)) ≡ run-answer (now (text .entry)) (now (device .entry)) (now (outcome .entry)) (length (now (target .entry))) ⌝ }
+    ensures { λ r. ⌜ answered r (now (target .exit)) ≡ run-answer (now (text .entry)) (now (device .entry)) (now (outcome .entry)) (now (sheet .entry)) (length (now (target .entry))) ⌝ }
 {
     let mut values = [0u8; 2048];
     let mut rows = [0u16; 1172];
-    run_in(text, &mut values, &mut rows, device, outcome, target)
+    run_in(text, &mut values, &mut rows, device, outcome, sheet, target)
 }
 
-fn run_quarter(text: &[u8], device: &[u8], outcome: &[u8], target: &mut [u8]) -> Given
+fn run_quarter(text: &[u8], device: &[u8], outcome: &[u8], sheet: &[u8], target: &mut [u8]) -> Given
     requires { ⌜ (fullestOutcome ≤ length (now target)) × (length (now text) ≤ 8192) ⌝ }
-    ensures { λ r. ⌜ answered r (now (target .exit)) ≡ run-answer (now (text .entry)) (now (device .entry)) (now (outcome .entry)) (length (now (target .entry))) ⌝ }
+    ensures { λ r. ⌜ answered r (now (target .exit)) ≡ run-answer (now (text .entry)) (now (device .entry)) (now (outcome .entry)) (now (sheet .entry)) (length (now (target .entry))) ⌝ }
 {
     let mut values = [0u8; 8192];
     let mut rows = [0u16; 4684];
-    run_in(text, &mut values, &mut rows, device, outcome, target)
+    run_in(text, &mut values, &mut rows, device, outcome, sheet, target)
 }
 
-fn run_half(text: &[u8], device: &[u8], outcome: &[u8], target: &mut [u8]) -> Given
+fn run_half(text: &[u8], device: &[u8], outcome: &[u8], sheet: &[u8], target: &mut [u8]) -> Given
     requires { ⌜ (fullestOutcome ≤ length (now target)) × (length (now text) ≤ 16384) ⌝ }
-    ensures { λ r. ⌜ answered r (now (target .exit)) ≡ run-answer (now (text .entry)) (now (device .entry)) (now (outcome .entry)) (length (now (target .entry))) ⌝ }
+    ensures { λ r. ⌜ answered r (now (target .exit)) ≡ run-answer (now (text .entry)) (now (device .entry)) (now (outcome .entry)) (now (sheet .entry)) (length (now (target .entry))) ⌝ }
 {
     let mut values = [0u8; 16384];
     let mut rows = [0u16; 9364];
-    run_in(text, &mut values, &mut rows, device, outcome, target)
+    run_in(text, &mut values, &mut rows, device, outcome, sheet, target)
 }
 
-fn run_most(text: &[u8], device: &[u8], outcome: &[u8], target: &mut [u8]) -> Given
+fn run_most(text: &[u8], device: &[u8], outcome: &[u8], sheet: &[u8], target: &mut [u8]) -> Given
     requires { ⌜ (fullestOutcome ≤ length (now target)) × (length (now text) ≤ 24576) ⌝ }
-    ensures { λ r. ⌜ answered r (now (target .exit)) ≡ run-answer (now (text .entry)) (now (device .entry)) (now (outcome .entry)) (length (now (target .entry))) ⌝ }
+    ensures { λ r. ⌜ answered r (now (target .exit)) ≡ run-answer (now (text .entry)) (now (device .entry)) (now (outcome .entry)) (now (sheet .entry)) (length (now (target .entry))) ⌝ }
 {
     let mut values = [0u8; 24576];
     let mut rows = [0u16; 14044];
-    run_in(text, &mut values, &mut rows, device, outcome, target)
+    run_in(text, &mut values, &mut rows, device, outcome, sheet, target)
 }
 
-fn run_any(text: &[u8], device: &[u8], outcome: &[u8], target: &mut [u8]) -> Given
+fn run_any(text: &[u8], device: &[u8], outcome: &[u8], sheet: &[u8], target: &mut [u8]) -> Given
     requires { ⌜ fullestOutcome ≤ length (now target) ⌝ }
-    ensures { λ r. ⌜ answered r (now (target .exit)) ≡ run-answer (now (text .entry)) (now (device .entry)) (now (outcome .entry)) (length (now (target .entry))) ⌝ }
+    ensures { λ r. ⌜ answered r (now (target .exit)) ≡ run-answer (now (text .entry)) (now (device .entry)) (now (outcome .entry)) (now (sheet .entry)) (length (now (target .entry))) ⌝ }
 {
     let mut values = [0u8; 32768];
     let mut rows = [0u16; 18728];
-    run_in(text, &mut values, &mut rows, device, outcome, target)
+    run_in(text, &mut values, &mut rows, device, outcome, sheet, target)
 }
 
-pub fn run(text: &[u8], device: &[u8], outcome: &[u8], target: &mut [u8]) -> Given
-    ensures { λ r. ⌜ answered r (now (target .exit)) ≡ run-answer (now (text .entry)) (now (device .entry)) (now (outcome .entry)) (length (now (target .entry))) ⌝ }
+pub fn run(text: &[u8], device: &[u8], outcome: &[u8], sheet: &[u8], target: &mut [u8]) -> Given
+    ensures { λ r. ⌜ answered r (now (target .exit)) ≡ run-answer (now (text .entry)) (now (device .entry)) (now (outcome .entry)) (now (sheet .entry)) (length (now (target .entry))) ⌝ }
 {
     if target.len() < outcome_target::FULLEST {
         splice::clear(target);
         return answers::refused(Refusal::TargetShort, 0);
     }
     if text.len() <= 2048 {
-        return run_least(text, device, outcome, target);
+        return run_least(text, device, outcome, sheet, target);
     }
     if text.len() <= 8192 {
-        return run_quarter(text, device, outcome, target);
+        return run_quarter(text, device, outcome, sheet, target);
     }
     if text.len() <= 16384 {
-        return run_half(text, device, outcome, target);
+        return run_half(text, device, outcome, sheet, target);
     }
     if text.len() <= 24576 {
-        return run_most(text, device, outcome, target);
+        return run_most(text, device, outcome, sheet, target);
     }
-    run_any(text, device, outcome, target)
+    run_any(text, device, outcome, sheet, target)
 }

@@ -2,7 +2,7 @@
 // table is a line with three letters and a name, the lines of its rules, and a line that begins with `=> ` and says what must come out:
 // number, line, visited, used; of an accepted run then every part of its record, and the commands of the close.
 // Letters: the device (t or b, else one that is faulty), the record (f, the device's fresh one, else one that is faulty), the room of the
-// target (=, or < for one byte less than a run needs).
+// target and the sheet (=, or < for one byte less than a run needs, or ! for a sheet that is faulty).
 use answers::Given;
 use libc::STDIN_FILENO;
 use libc::STDOUT_FILENO;
@@ -20,6 +20,14 @@ const FAULTY: [u8; 13] = *b" \x00\x00\x00\x00\x00\x00\x01\x00\x00\x00/a";
 
 // No outcome record: its edition is 1.
 const OLD: [u8; 11] = *b"\x10\x00\x00\x00\x00\x00\x00\x00\x00\x00\x00";
+
+// What programs said: q `yes` and two newlines; f failed with `no`; `r ttyUSB0` `a b` and a newline; n nothing; `got yes` `2`; m `0666`; w a
+// blank and a tab; i `a`, a newline, `b`, a carriage return and a newline.
+const SHEET: [u8; 70] =
+    *b"\x08\x80 (qyes\n\n\x00 \x10fno\x81  r ttyUSB0a b\n\x80 \x00n\x80\xe0\x08got yes2\x80  m0666\x80 \x10w \t\x80 (ia\nb\r\n";
+
+// No answer sheet: a byte stands behind its end.
+const LONGER: [u8; 2] = *b"\x00\x00";
 
 fn say(word: &[u8]) {
     io::write_all(STDOUT_FILENO, word);
@@ -299,15 +307,16 @@ fn show_run(
     text: &[u8],
     device: &[u8],
     outcome: &[u8],
+    sheet: &[u8],
     target: &mut [u8],
     want: &[u8],
 ) {
-    let given = run::run(text, device, outcome, target);
+    let given = run::run(text, device, outcome, sheet, target);
     let n = agree_outcome(want, given, device, target);
     say_verdict(name, want, n);
 }
 
-// In the room that the case names.
+// In the room and with the sheet that the case names.
 fn show_from(case: &[u8], device: &[u8], outcome: &[u8], want: &[u8]) {
     let mut target = [0xaau8; 18125];
     let first = scan::byte_end(case, 0, b'\n');
@@ -319,10 +328,18 @@ fn show_from(case: &[u8], device: &[u8], outcome: &[u8], want: &[u8]) {
     }
     let name = &case[4..first];
     let text = &case[first + 1..];
-    if scan::byte_at(case, 2) == b'<' {
-        show_run(name, text, device, outcome, &mut target[..18124], want);
-    } else {
-        show_run(name, text, device, outcome, &mut target, want);
+    match scan::byte_at(case, 2) {
+        b'<' => show_run(
+            name,
+            text,
+            device,
+            outcome,
+            &SHEET,
+            &mut target[..18124],
+            want,
+        ),
+        b'!' => show_run(name, text, device, outcome, &LONGER, &mut target, want),
+        _ => show_run(name, text, device, outcome, &SHEET, &mut target, want),
     }
 }
 

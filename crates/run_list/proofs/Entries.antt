@@ -73,31 +73,31 @@ module _ (t y t₁ h t₂ : List ℕ) (at k : ℕ) (builtin : Bool) (o : Checked
 
 -- ---- one command, and the others
 
-module _ (d : Device) (ps : List Property) (run : Run) (others : List Run) where
+module _ (d : Device) (ps : List Property) (y : List ℕ) (run : Run) (others : List Run) where
   abbrev pub sourceOf : Source
-  sourceOf = record { device = d; place = run .place; properties = ps }
+  sourceOf = record { device = d; place = run .place; properties = ps; output = y }
 
   pub commands-more : (l l₁ : List ℕ) (at k : ℕ) → Made (run .builtin) (filled false sourceOf (run .template)) l at (Done k) l₁
-      → Leads (commands d ps (run ∷ others)) l at (commands d ps others) l₁ k
+      → Leads (commands d ps y (run ∷ others)) l at (commands d ps y others) l₁ k
   unfolding commands
   commands-more l l₁ at k (x, e, p) (Done n) m (cs, f, q) =
       let c : Command = record { builtin = run .builtin; text = x } in
       (c ∷ cs, rw (e, f), appended-both (encCommand c) (cat encCommand cs) l at k l₁ p (Done n) m q)
   commands-more l l₁ at k (x, e, p) Full m f = rw (e, f)
 
-  pub commands-full : filled false sourceOf (run .template) ≡ refused substitution-long → commands d ps (run ∷ others) ≡ refused substitution-long
+  pub commands-full : filled false sourceOf (run .template) ≡ refused substitution-long → commands d ps y (run ∷ others) ≡ refused substitution-long
   unfolding commands
   commands-full e = rw e
 
-pub commands-none : (d : Device) (ps : List Property) (l : List ℕ) (at : ℕ) → at ≤ length l → Listed (commands d ps []) l at (Done at) l
+pub commands-none : (d : Device) (ps : List Property) (y l : List ℕ) (at : ℕ) → at ≤ length l → Listed (commands d ps y []) l at (Done at) l
 unfolding commands
-commands-none d ps l at h = ([], refl, appended-none l at h)
+commands-none d ps y l at h = ([], refl, appended-none l at h)
 
 -- as many commands as runs
-pub commands-count : (d : Device) (ps : List Property) (rs : List Run) (cs : List Command) → commands d ps rs ≡ ok cs → length cs ≡ length rs
+pub commands-count : (d : Device) (ps : List Property) (y : List ℕ) (rs : List Run) (cs : List Command) → commands d ps y rs ≡ ok cs → length cs ≡ length rs
 unfolding commands
-commands-count d ps [] cs e = let z : cs ≡ [] = cc in ap length z
-commands-count d ps (r ∷ rs) cs e = go (filled false (sourceOf d ps r rs) (r .template)) (commands d ps rs) e (commands-count d ps rs)
+commands-count d ps y [] cs e = let z : cs ≡ [] = cc in ap length z
+commands-count d ps y (r ∷ rs) cs e = go (filled false (sourceOf d ps y r rs) (r .template)) (commands d ps y rs) e (commands-count d ps y rs)
   where
     go : (o : Checked Refusal (List ℕ)) (p : Checked Refusal (List Command))
         → (o >>= λ x. p >>= λ others. ok (record { builtin = r .builtin; text = x } ∷ others)) ≡ ok cs

@@ -35,6 +35,7 @@ use Rattle.outcome_target.specs.declared.Section.{Section}
 use Rattle.outcome_target.proofs.Edits.{by-part}
 use Rattle.outcome_target.proofs.Rows.{RowOf, properties-row, runs-row}
 use Rattle.outcome_readers.specs.Readers.{RunsFrom, RunIs, FirstOf}
+use Rattle.outcome_readers.proofs.Outputs.{decoded-output}
 use Rattle.outcome_readers.specs.declared.RunPlace.{RunPlace}
 use Rattle.lists.specs.Checked.{refused}
 use Rattle.lists.specs.Refusal.{substitution-long}
@@ -108,8 +109,8 @@ module _ (dev rec : List ℕ) (r : Chain) (lay : Layout) (d : Device) (s : State
   pub runs-few : length (s .runs) ≤ 16
   runs-few = back (length (chain d)) rec s b decoded .1 .runs .few
 
-  pub both-beside : (n : ℕ) → n ≡ numberAt rec 72 6 → Beside dev rec r (lay .properties) n d (s .properties)
-  both-beside n e = let h = properties-row-of n e in record { device = w .device; chained = w .chained; inside = h .inside; rest = h .rest; properties = h .read }
+  pub both-beside : (n : ℕ) → n ≡ numberAt rec 72 6 → Beside dev rec r (lay .properties) n d (s .properties) (s .output)
+  both-beside n e = let h = properties-row-of n e in record { device = w .device; chained = w .chained; inside = h .inside; rest = h .rest; properties = h .read; output = decoded-output (length (chain d)) rec s b decoded }
 
   pub both-runs : (n : ℕ) → n ≡ numberAt rec 83 5 → Runs rec (lay .runs) n d (s .runs)
   both-runs n e = let h = runs-row-of n e in record { inside = h .inside; behind = h .rest; read = h .read }
@@ -149,31 +150,31 @@ runs-here rec p left d rs r b w h f =
     record { run = run; others = others; whole = e; is = i; next = record { inside = i .inside; behind = w .behind; read = m }; few = o .0; sound = o .1 }
 
 -- where its text comes from
-pub here-source : (dev rec : List ℕ) (r : Chain) (at n left : ℕ) (d : Device) (ps : List Property) (rs : List Run) (q : RunPlace) → Bytes dev → Beside dev rec r at n d ps
-    → (h : Here rec left d rs q) → (p : Places) → p ≡ placesIn r (q .place) at n → From dev rec p (sourceOf d ps (h .run) (h .others))
-here-source dev rec r at n left d ps rs q b w h p e =
-    subst (λ (x : Places). From dev rec x (sourceOf d ps (h .run) (h .others))) (sym (e ∙ ap (λ (i : ℕ). placesIn r i at n) (h .is .device)))
-    (chain-source dev d b (w .device) r (w .chained) rec at n ps (w .rest) (w .inside) (w .properties) (h .run .place) (h .few))
+pub here-source : (dev rec : List ℕ) (r : Chain) (at n left : ℕ) (d : Device) (ps : List Property) (y : List ℕ) (rs : List Run) (q : RunPlace) → Bytes dev → Beside dev rec r at n d ps y
+    → (h : Here rec left d rs q) → (p : Places) → p ≡ placesIn r (q .place) at n → From dev rec p (sourceOf d ps y (h .run) (h .others))
+here-source dev rec r at n left d ps y rs q b w h p e =
+    subst (λ (x : Places). From dev rec x (sourceOf d ps y (h .run) (h .others))) (sym (e ∙ ap (λ (i : ℕ). placesIn r i at n) (h .is .device)))
+    (chain-source dev d b (w .device) r (w .chained) rec at n ps (w .rest) (w .inside) (w .properties) y (w .output) (h .run .place) (h .few))
 
 -- its command, and the others
-module _ (rec : List ℕ) (left : ℕ) (d : Device) (ps : List Property) (rs : List Run) (q : RunPlace) (h : Here rec left d rs q) where
+module _ (rec : List ℕ) (left : ℕ) (d : Device) (ps : List Property) (y : List ℕ) (rs : List Run) (q : RunPlace) (h : Here rec left d rs q) where
   abbrev pub templateAt : List ℕ
   templateAt = take (q .end - q .start) (drop (q .start) rec)
 
-  pub here-leads : (l l₁ : List ℕ) (at k : ℕ) → Made (q .builtin) (filled false (sourceOf d ps (h .run) (h .others)) templateAt) l at (Done k) l₁
-      → Leads (commands d ps rs) l at (commands d ps (h .others)) l₁ k
+  pub here-leads : (l l₁ : List ℕ) (at k : ℕ) → Made (q .builtin) (filled false (sourceOf d ps y (h .run) (h .others)) templateAt) l at (Done k) l₁
+      → Leads (commands d ps y rs) l at (commands d ps y (h .others)) l₁ k
   here-leads l l₁ at k m =
-      let n : Made (h .run .builtin) (filled false (sourceOf d ps (h .run) (h .others)) (h .run .template)) l at (Done k) l₁ =
-      subst (λ (b : Bool). Made b (filled false (sourceOf d ps (h .run) (h .others)) (h .run .template)) l at (Done k) l₁) (h .is .type)
-      (subst (λ (x : List ℕ). Made (q .builtin) (filled false (sourceOf d ps (h .run) (h .others)) x) l at (Done k) l₁) (h .is .template) m)
+      let n : Made (h .run .builtin) (filled false (sourceOf d ps y (h .run) (h .others)) (h .run .template)) l at (Done k) l₁ =
+      subst (λ (b : Bool). Made b (filled false (sourceOf d ps y (h .run) (h .others)) (h .run .template)) l at (Done k) l₁) (h .is .type)
+      (subst (λ (x : List ℕ). Made (q .builtin) (filled false (sourceOf d ps y (h .run) (h .others)) x) l at (Done k) l₁) (h .is .template) m)
       in
-      subst (λ (x : List Run). Leads (commands d ps x) l at (commands d ps (h .others)) l₁ k) (sym (h .whole)) (commands-more d ps (h .run) (h .others) l l₁ at k n)
+      subst (λ (x : List Run). Leads (commands d ps y x) l at (commands d ps y (h .others)) l₁ k) (sym (h .whole)) (commands-more d ps y (h .run) (h .others) l l₁ at k n)
 
-  pub here-full : filled false (sourceOf d ps (h .run) (h .others)) templateAt ≡ refused substitution-long → commands d ps rs ≡ refused substitution-long
-  here-full e = ap (commands d ps) (h .whole) ∙ commands-full d ps (h .run) (h .others) (ap (filled false (sourceOf d ps (h .run) (h .others))) (sym (h .is .template)) ∙ e)
+  pub here-full : filled false (sourceOf d ps y (h .run) (h .others)) templateAt ≡ refused substitution-long → commands d ps y rs ≡ refused substitution-long
+  here-full e = ap (commands d ps y) (h .whole) ∙ commands-full d ps y (h .run) (h .others) (ap (filled false (sourceOf d ps y (h .run) (h .others))) (sym (h .is .template)) ∙ e)
 
 -- what is left of the runs at place p, and their commands
-pub record Rest (rec : List ℕ) (p left : ℕ) (d : Device) (ps : List Property) (rs : List Run) (t₀ t : List ℕ) (at : ℕ) : Type 0 where
+pub record Rest (rec : List ℕ) (p left : ℕ) (d : Device) (ps : List Property) (y : List ℕ) (rs : List Run) (t₀ t : List ℕ) (at : ℕ) : Type 0 where
   pub others : List Run
   pub stand : Runs rec p left d others
-  pub leads : Leads (commands d ps rs) t₀ 1 (commands d ps others) t at
+  pub leads : Leads (commands d ps y rs) t₀ 1 (commands d ps y others) t at

@@ -1,4 +1,4 @@
-// The run list: each run's template substituted with the final properties, packed one behind the other.
+// The run list: each run's template substituted with the final properties and output, packed one behind the other.
 
 use bits::BitCursor;
 use device_lookup::Chain;
@@ -88,7 +88,7 @@ fn put_runs(
     n: usize,
 ) -> Put
     requires { ⌜ (1 + 514 * n ≤ length (now t)) × RunsStand (now dev) (now rec) chain properties count first n ⌝ }
-    ensures { λ r. ⌜ OfRuns (now (dev .entry)) (now (rec .entry)) chain properties count first n (λ d ps rs. Listed (commands d ps rs) (now (t .entry)) 1 r (now (t .exit))) ⌝ }
+    ensures { λ r. ⌜ OfRuns (now (dev .entry)) (now (rec .entry)) chain properties count first n (λ d ps x rs. Listed (commands d ps x rs) (now (t .entry)) 1 r (now (t .exit))) ⌝ }
 {
     let mut at: usize = 1;
     let mut p = first;
@@ -113,7 +113,7 @@ fn put_runs(
 // The run list of a sound record beside a sound device record; full is refusal 30.
 pub fn write(t: &mut [u8], dev: &[u8], rec: &[u8], chain: Chain, layout: Layout) -> Put
     requires { ⌜ (fullestRunList ≤ length (now t)) × RecordStands (now dev) (now rec) chain layout ⌝ }
-    ensures { λ r. ⌜ OfRecord (now (dev .entry)) (now (rec .entry)) chain layout (λ d s. Written (commands d (s .properties) (s .runs)) (now (t .entry)) r (now (t .exit))) ⌝ }
+    ensures { λ r. ⌜ OfRecord (now (dev .entry)) (now (rec .entry)) chain layout (λ d s. Written (commands d (s .properties) (s .output) (s .runs)) (now (t .entry)) r (now (t .exit))) ⌝ }
 {
     let runs = outcome_target::count_of(rec, Section::Runs);
     let count = outcome_target::count_of(rec, Section::Properties);

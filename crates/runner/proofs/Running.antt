@@ -9,9 +9,11 @@ use native.Mathlib.Omega.{arith}
 use native.Mathlib.Nat.{add-zero}
 use borrow.Author.Tests.{eq-eqb, ne-eqb}
 use lib.ListN.{length, getD}
+use Rattle.lists.specs.Lists.{isSome}
 use Rattle.lists.specs.Checked.{Checked, refused, ok, Placed, line}
 use Rattle.lists.specs.Refusal as refusal
 use Rattle.lists.specs.Sizes.{mostRules, mostChain}
+use Rattle.lists.proofs.Lists.{is-some}
 use Rattle.lists.proofs.Moves.{ap-at}
 use Rattle.refusals.specs.Refusals.{refusalOf}
 use Rattle.refusals.specs.declared.Refusal.{Refusal}
@@ -23,6 +25,7 @@ use Rattle.outcome_target.specs.declared.Layout.{Layout}
 use Rattle.text.specs.Engine as text
 use Rattle.text.specs.Running.{Mode, Ran, more, next, after, started, runFrom}
 use Rattle.text.proofs.Running.{more-zero, more-more}
+use Rattle.sheet.specs.Sheet.{Sheet, decode}
 use Rattle.engine.specs.Operations.{engine}
 use Rattle.engine.specs.Match.{tried}
 use Rattle.engine.specs.Step.{step}
@@ -78,71 +81,80 @@ module _ (v r t js : List ℕ) (n i : ℕ) (h : i < n) (w : Runnable v r t js n)
   abbrev number : ℕ
   number = getD t (i * 4) 0
 
-  abbrev later : Device → Mode → State → Ran State
-  later d m s = runFrom engine d m s (rulesFrom v r t (i + 1) (n - (i + 1)))
+  abbrev later : Sheet → Device → Mode → State → Ran State
+  later a d m s = runFrom (engine a) d m s (rulesFrom v r t (i + 1) (n - (i + 1)))
 
-  begun : (d : Device) (s : State) → runs v r t n d s i ≡ started engine (step d pairs s) number (tried d pairs s) (gotoOf pairs) (later d)
+  begun : (a : Sheet) (d : Device) (s : State) → runs v r t n a d s i ≡ started (engine a) (step a d pairs s) number (tried d pairs s) (gotoOf pairs) (later a d)
   unfolding runFrom
-  begun d s = ap (runFrom engine d next s) (rules-step v r t i n h)
+  begun a d s = ap (runFrom (engine a) d next s) (rules-step v r t i n h)
 
   pub rule-rows : (from to : ℕ) → from ≡ getD t (i * 4 + 1) 0 → to ≡ getD t (i * 4 + 2) 0 → RuleRows v r from to
   rule-rows from to is-from is-to = rw (is-from, is-to) (w .rules i h)
 
   -- where a jump leaves the run
-  jumped : (g : Option (List ℕ)) (k : ℕ) → Resolved v r t i n g k → (d : Device) (s : State) → later d (after true g) s ≡ runs v r t n d s (behindOf k i)
-  jumped none k e d s = rw (eq-eqb k 0 e)
-  jumped (some g) k (a, b) d s = rw (ne-eqb k 0 (λ e. omega arith)) (seek-jump v r t g n d s (i + 1) (k - 1) b)
+  jumped : (g : Option (List ℕ)) (k : ℕ) → Resolved v r t i n g k → (a : Sheet) (d : Device) (s : State) → later a d (after true g) s ≡ runs v r t n a d s (behindOf k i)
+  jumped none k e a d s = rw (eq-eqb k 0 e)
+  jumped (some g) k (p, b) a d s = rw (ne-eqb k 0 (λ e. omega arith)) (seek-jump v r t g n a d s (i + 1) (k - 1) b)
 
   jump-in : (g : Option (List ℕ)) (k : ℕ) → Resolved v r t i n g k → (i < behindOf k i) × (behindOf k i ≤ n)
   jump-in none k e = rw (eq-eqb k 0 e) (omega arith, omega arith)
   jump-in (some g) k (a, b) = rw (ne-eqb k 0 (λ e. omega arith)) (omega (arith, b .from), omega (arith, b .within))
 
-  module _ (from to : ℕ) (is-from : from ≡ getD t (i * 4 + 1) 0) (is-to : to ≡ getD t (i * 4 + 2) 0) (dev : List ℕ) (places : Chain) (x : List ℕ) (lay : Layout) (x′ : List ℕ) (o : Stepped)
-      (c : Steps v r from to dev places x lay x′ o) where
-    says : (y : Stepped) → o ≡ y → (d : Device) (s : State) → Denotes dev places x lay d s → step.Says dev places lay d s x′ y (step d pairs s) (tried d pairs s)
-    says y q d s z = rw (← q, ← is-from, ← is-to) (c .says d s z)
+  module _ (from to : ℕ) (is-from : from ≡ getD t (i * 4 + 1) 0) (is-to : to ≡ getD t (i * 4 + 2) 0) (dev : List ℕ) (places : Chain) (sheet x : List ℕ) (lay : Layout) (x′ : List ℕ) (o : Stepped)
+      (c : Steps v r from to dev places sheet x lay x′ o) where
+    says : (y : Stepped) → o ≡ y → (a : Sheet) → decode sheet ≡ some a → (d : Device) (s : State) → Denotes dev places x lay d s → step.Says dev places lay d s x′ y (step a d pairs s) (tried d pairs s)
+    says y q a e d s z = rw (← q, ← is-from, ← is-to) (c .says a e d s z)
 
     few : (y : Stepped) → o ≡ y → step.Few y
     few y q = subst step.Few q (c .few)
 
-    abbrev by : Device → ℕ → Checked refusal.Refusal (text.Stepped State) → Ran State
-    by d k a = started engine a number k (gotoOf pairs) (later d)
+    abbrev by : Sheet → Device → ℕ → Checked refusal.Refusal (text.Stepped State) → Ran State
+    by a d k b = started (engine a) b number k (gotoOf pairs) (later a d)
 
-    pub rule-missed : (k : ℕ) → o ≡ stepped.Missed k → RuleSays v r t n i dev places x lay x′ (rule.Next lay (i + 1) k)
+    pub rule-missed : (k : ℕ) → o ≡ stepped.Missed k → RuleSays v r t n i dev places sheet x lay x′ (rule.Next lay (i + 1) k)
     rule-missed k q = (
       omega arith,
       omega arith,
       few (stepped.Missed k) q,
-      λ d s z. let (e, z′, f) = says (stepped.Missed k) q d s z in (s, z′, begun d s ∙ ap₂ (by d) (sym f) e),
+      λ a e d s z. let (f, z′, m) = says (stepped.Missed k) q a e d s z in (s, z′, begun a d s ∙ ap₂ (by a d) (sym m) f),
     )
 
-    pub rule-left : (lay′ : Layout) (k : ℕ) → o ≡ stepped.Left lay′ k → (j : ℕ) → j ≡ behindOf (getD js i 0) i → RuleSays v r t n i dev places x lay x′ (rule.Next lay′ j k)
+    pub rule-failed : (lay′ : Layout) (k : ℕ) → o ≡ stepped.Failed lay′ k → RuleSays v r t n i dev places sheet x lay x′ (rule.Next lay′ (i + 1) k)
+    rule-failed lay′ k q = (
+      omega arith,
+      omega arith,
+      few (stepped.Failed lay′ k) q,
+      λ a e d s z. let (s′, f, z′, m) = says (stepped.Failed lay′ k) q a e d s z in (s′, z′, begun a d s ∙ ap₂ (by a d) (sym m) f),
+    )
+
+    pub rule-left : (lay′ : Layout) (k : ℕ) → o ≡ stepped.Left lay′ k → (j : ℕ) → j ≡ behindOf (getD js i 0) i → RuleSays v r t n i dev places sheet x lay x′ (rule.Next lay′ j k)
     rule-left lay′ k q j e =
-        let (a, b) = jump-in (gotoOf pairs) (getD js i 0) (w .jumps i h) in
+        let (low, high) = jump-in (gotoOf pairs) (getD js i 0) (w .jumps i h) in
         rw e (
-          a,
-          b,
+          low,
+          high,
           few (stepped.Left lay′ k) q,
-          λ d s z.
-              let (s′, f, z′, m) = says (stepped.Left lay′ k) q d s z in
-              (s′, z′, begun d s ∙ ap₂ (by d) (sym m) f ∙ ap (more 1 k) (jumped (gotoOf pairs) (getD js i 0) (w .jumps i h) d s′)),
+          λ a is d s z.
+              let (s′, f, z′, m) = says (stepped.Left lay′ k) q a is d s z in
+              (s′, z′, begun a d s ∙ ap₂ (by a d) (sym m) f ∙ ap (more 1 k) (jumped (gotoOf pairs) (getD js i 0) (w .jumps i h) a d s′)),
         )
 
-    pub rule-refused : (f : Refusal) → o ≡ stepped.Refused f → RuleSays v r t n i dev places x lay x′ (rule.Refused f)
-    rule-refused f q d s z =
-        let e : step d pairs s ≡ refused (refusalOf f) = says (stepped.Refused f) q d s z in
-        begun d s ∙ ap (by d (tried d pairs s)) e
+    pub rule-refused : (f : Refusal) → o ≡ stepped.Refused f → RuleSays v r t n i dev places sheet x lay x′ (rule.Refused f)
+    rule-refused f q a is d s z =
+        let e : step a d pairs s ≡ refused (refusalOf f) = says (stepped.Refused f) q a is d s z in
+        begun a d s ∙ ap (by a d (tried d pairs s)) e
 
 -- ---- one after the other
 
-module _ (v r t : List ℕ) (n : ℕ) (dev : List ℕ) (places : Chain) (x₀ : List ℕ) (lay₀ : Layout) where
+module _ (v r t : List ℕ) (n : ℕ) (dev : List ℕ) (places : Chain) (sheet x₀ : List ℕ) (lay₀ : Layout) where
   -- the rules from the i-th on give what all rules give, with k rules visited and u devices tried
   pub record Going (x : List ℕ) (lay : Layout) (k u i : ℕ) : Type 0 where
     pub room : length x ≡ length x₀
     pub within : i ≤ n
     pub few : k ≤ i
     pub tried : u ≤ k * mostChain
-    pub going : (d : Device) (s₀ : State) → Denotes dev places x₀ lay₀ d s₀ → (s : State) × Denotes dev places x lay d s × (more k u (runs v r t n d s i) ≡ runFrom engine d next s₀ (rulesFrom v r t 0 n))
+    pub going : (a : Sheet) → decode sheet ≡ some a → (d : Device) (s₀ : State) → Denotes dev places x₀ lay₀ d s₀
+        → (s : State) × Denotes dev places x lay d s × (more k u (runs v r t n a d s i) ≡ runFrom (engine a) d next s₀ (rulesFrom v r t 0 n))
 
   pub going-start : Going x₀ lay₀ 0 0 0
   going-start = record {
@@ -150,16 +162,16 @@ module _ (v r t : List ℕ) (n : ℕ) (dev : List ℕ) (places : Chain) (x₀ : 
     within = omega arith;
     few = omega arith;
     tried = omega arith;
-    going = λ d s z. (s, z, more-zero (runs v r t n d s 0) ∙ ap-at (λ k. runFrom engine d next s (rulesFrom v r t 0 k)) (n - 0) n (omega arith));
+    going = λ a e d s z. (s, z, more-zero (runs v r t n a d s 0) ∙ ap-at (λ k. runFrom (engine a) d next s (rulesFrom v r t 0 k)) (n - 0) n (omega arith));
   }
 
   module _ (x : List ℕ) (lay : Layout) (k u i : ℕ) (g : Going x lay k u i) where
-    pub still-ready : Ready dev places x₀ lay₀ → Ready dev places x lay
-    still-ready (d, s₀, z) = let (s, z′, _) = g .going d s₀ z in (d, s, z′)
+    pub still-ready : isSome (decode sheet) ≡ true → Ready dev places x₀ lay₀ → Ready dev places x lay
+    still-ready q (d, s₀, z) = let (a, e) = is-some (decode sheet) q in let (s, z′, _) = g .going a e d s₀ z in (d, s, z′)
 
-    module _ (x′ : List ℕ) (o : RuleRan) (y : RuleRuns v r t n i dev places x lay x′ o) where
-      says-so : (q : RuleRan) → o ≡ q → RuleSays v r t n i dev places x lay x′ q
-      says-so q e = subst (RuleSays v r t n i dev places x lay x′) e (y .says)
+    module _ (x′ : List ℕ) (o : RuleRan) (y : RuleRuns v r t n i dev places sheet x lay x′ o) where
+      says-so : (q : RuleRan) → o ≡ q → RuleSays v r t n i dev places sheet x lay x′ q
+      says-so q e = subst (RuleSays v r t n i dev places sheet x lay x′) e (y .says)
 
       pub further : (lay′ : Layout) (j m : ℕ) → o ≡ rule.Next lay′ j m → (i < j) × (j ≤ n) × (m ≤ mostChain)
       further lay′ j m e = let (a, b, f, c) = says-so (rule.Next lay′ j m) e in (a, b, f)
@@ -174,32 +186,32 @@ module _ (v r t : List ℕ) (n : ℕ) (dev : List ℕ) (places : Chain) (x₀ : 
             within = b;
             few = omega arith;
             tried = omega arith;
-            going = λ d s₀ z₀.
-                let (s, z, q) = g .going d s₀ z₀ in
-                let (s′, z′, q′) = c d s z in
-                (s′, z′, sym (more-more k u 1 m (runs v r t n d s′ j)) ∙ ap (more k u) (sym q′) ∙ q);
+            going = λ h is d s₀ z₀.
+                let (s, z, q) = g .going h is d s₀ z₀ in
+                let (s′, z′, q′) = c h is d s z in
+                (s′, z′, sym (more-more k u 1 m (runs v r t n h d s′ j)) ∙ ap (more k u) (sym q′) ∙ q);
           }
 
-      pub going-refused : (f : Refusal) → o ≡ rule.Refused f → (m : ℕ) → m ≡ getD t (i * 4) 0 → m < 65536 → Runs v r t n dev places x₀ lay₀ x′ (all.Refused f m)
+      pub going-refused : (f : Refusal) → o ≡ rule.Refused f → (m : ℕ) → m ≡ getD t (i * 4) 0 → m < 65536 → Runs v r t n dev places sheet x₀ lay₀ x′ (all.Refused f m)
       going-refused f e m q l = record {
-        says = λ d s₀ z₀.
-            let (s, z, w) = g .going d s₀ z₀ in
-            sym w ∙ ap (more k u) (says-so (rule.Refused f) e d s z) ∙ rw q;
+        says = λ a is d s₀ z₀.
+            let (s, z, w) = g .going a is d s₀ z₀ in
+            sym w ∙ ap (more k u) (says-so (rule.Refused f) e a is d s z) ∙ rw q;
         small = l;
         length = y .length ∙ g .room;
       }
 
     -- behind the last rule
-    pub going-end : n ≤ i → n ≤ mostRules → Runs v r t n dev places x₀ lay₀ x (all.Ended lay k u)
+    pub going-end : n ≤ i → n ≤ mostRules → Runs v r t n dev places sheet x₀ lay₀ x (all.Ended lay k u)
     unfolding runFrom
     going-end h few =
         let f = g .few in
         let l = g .within in
         let tried = g .tried in
         record {
-          says = λ d s₀ z₀.
-              let (s, z, w) = g .going d s₀ z₀ in
-              let e : runs v r t n d s i ≡ ok (record { mode = next; state = s; visited = 0; tried = 0 }) = ap (runFrom engine d next s) (rules-end v r t i n h) in
+          says = λ a is d s₀ z₀.
+              let (s, z, w) = g .going a is d s₀ z₀ in
+              let e : runs v r t n a d s i ≡ ok (record { mode = next; state = s; visited = 0; tried = 0 }) = ap (runFrom (engine a) d next s) (rules-end v r t i n h) in
               (record { mode = next; state = s; visited = k + 0; tried = u + 0 }, sym w ∙ ap (more k u) e, z, sym (add-zero k), sym (add-zero u));
           small = (omega arith, omega arith);
           length = g .room;

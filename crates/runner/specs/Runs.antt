@@ -3,6 +3,7 @@
 use Prim.Native.Nat.{ℕ, _+_, _-_, _*_, _≤_, _<_}
 use mathlib.Core.Path.{_≡_}
 use mathlib.Core.List.{List}
+use mathlib.Core.Option.{some}
 use lib.Dec.{eqb}
 use lib.ListN.{length, getD}
 use Rattle.lists.specs.Lists.{pick}
@@ -14,6 +15,7 @@ use Rattle.device_lookup.specs.declared.Chain.{Chain}
 use Rattle.outcome.specs.State.{State}
 use Rattle.outcome_target.specs.declared.Layout.{Layout}
 use Rattle.text.specs.Running.{Ran, Halt, more, next, runFrom}
+use Rattle.sheet.specs.Sheet.{Sheet, decode}
 use Rattle.engine.specs.Operations.{engine}
 use Rattle.records.specs.Records.{Denotes}
 use Rattle.table.specs.Table.{rulesFrom}
@@ -37,20 +39,20 @@ abbrev pub behindOf : ℕ → ℕ → ℕ
 behindOf k i = pick (eqb k 0) (i + 1) (k - 1)
 
 -- what the rules from the i-th on give
-abbrev pub runs : List ℕ → List ℕ → List ℕ → ℕ → Device → State → ℕ → Ran State
-runs v r t n d s i = runFrom engine d next s (rulesFrom v r t i (n - i))
+abbrev pub runs : List ℕ → List ℕ → List ℕ → ℕ → Sheet → Device → State → ℕ → Ran State
+runs v r t n a d s i = runFrom (engine a) d next s (rulesFrom v r t i (n - i))
 
 -- ---- one rule
 
-abbrev pub RuleSays : List ℕ → List ℕ → List ℕ → ℕ → ℕ → List ℕ → Chain → List ℕ → Layout → List ℕ → RuleRan → Type 0
-RuleSays v r t n i dev places x lay x′ (rule.Next lay′ j k) =
+abbrev pub RuleSays : List ℕ → List ℕ → List ℕ → ℕ → ℕ → List ℕ → Chain → List ℕ → List ℕ → Layout → List ℕ → RuleRan → Type 0
+RuleSays v r t n i dev places sheet x lay x′ (rule.Next lay′ j k) =
     (i < j) × (j ≤ n) × (k ≤ mostChain)
-    × ((d : Device) (s : State) → Denotes dev places x lay d s → (s′ : State) × Denotes dev places x′ lay′ d s′ × (runs v r t n d s i ≡ more 1 k (runs v r t n d s′ j)))
-RuleSays v r t n i dev places x lay x′ (rule.Refused f) =
-    (d : Device) (s : State) → Denotes dev places x lay d s → runs v r t n d s i ≡ refused (line (getD t (i * 4) 0) (refusalOf f))
+    × ((a : Sheet) → decode sheet ≡ some a → (d : Device) (s : State) → Denotes dev places x lay d s → (s′ : State) × Denotes dev places x′ lay′ d s′ × (runs v r t n a d s i ≡ more 1 k (runs v r t n a d s′ j)))
+RuleSays v r t n i dev places sheet x lay x′ (rule.Refused f) =
+    (a : Sheet) → decode sheet ≡ some a → (d : Device) (s : State) → Denotes dev places x lay d s → runs v r t n a d s i ≡ refused (line (getD t (i * 4) 0) (refusalOf f))
 
-pub record RuleRuns (v r t : List ℕ) (n i : ℕ) (dev : List ℕ) (places : Chain) (x : List ℕ) (lay : Layout) (x′ : List ℕ) (o : RuleRan) : Type 0 where
-  pub says : RuleSays v r t n i dev places x lay x′ o
+pub record RuleRuns (v r t : List ℕ) (n i : ℕ) (dev : List ℕ) (places : Chain) (sheet x : List ℕ) (lay : Layout) (x′ : List ℕ) (o : RuleRan) : Type 0 where
+  pub says : RuleSays v r t n i dev places sheet x lay x′ o
   pub length : length x′ ≡ length x
 
 -- ---- all rules
@@ -64,7 +66,7 @@ abbrev pub Small : TextRan → Type 0
 Small (all.Ended lay k w) = (k < 65536) × (w < 65536)
 Small (all.Refused f n) = n < 65536
 
-pub record Runs (v r t : List ℕ) (n : ℕ) (dev : List ℕ) (places : Chain) (x : List ℕ) (lay : Layout) (x′ : List ℕ) (o : TextRan) : Type 0 where
-  pub says : (d : Device) (s : State) → Denotes dev places x lay d s → Says dev places d x′ o (runFrom engine d next s (rulesFrom v r t 0 n))
+pub record Runs (v r t : List ℕ) (n : ℕ) (dev : List ℕ) (places : Chain) (sheet x : List ℕ) (lay : Layout) (x′ : List ℕ) (o : TextRan) : Type 0 where
+  pub says : (a : Sheet) → decode sheet ≡ some a → (d : Device) (s : State) → Denotes dev places x lay d s → Says dev places d x′ o (runFrom (engine a) d next s (rulesFrom v r t 0 n))
   pub small : Small o
   pub length : length x′ ≡ length x

@@ -1,7 +1,11 @@
-// The rules of a table in order, with jumps, the visited count and the devices tried.
+// The rules of a table in order over the records of a device and a target and an answer sheet, with jumps, the visited count and the
+// devices tried.
 ghost use mathlib.Core.Path.{_≡_};
+ghost use mathlib.Core.Bool.{true};
 ghost use Prim.Native.Nat.{_<_};
 ghost use lib.ListN.{length, getD};
+ghost use Rattle.lists.specs.Lists.{isSome};
+ghost use Rattle.sheet.specs.Sheet.{decode};
 ghost use Rattle.records.specs.Records.{Ready};
 ghost use Rattle.runner.specs.Runs.{behindOf, Runnable, RuleRuns, Runs};
 use device_lookup::Chain;
@@ -42,22 +46,24 @@ fn run_rule(
     i: usize,
     dev: &[u8],
     chain: Chain,
+    sheet: &[u8],
     t: &mut [u8],
     layout: Layout,
 ) -> RuleRan
-    requires { ⌜ (i < count) × Runnable (now values) (now rows) (now rules) (now jumps) count × Ready (now dev) chain (now t) layout ⌝ }
-    ensures { λ r. ⌜ RuleRuns (now (values .entry)) (now (rows .entry)) (now (rules .entry)) count i (now (dev .entry)) chain (now (t .entry)) layout (now (t .exit)) r ⌝ }
+    requires { ⌜ (i < count) × Runnable (now values) (now rows) (now rules) (now jumps) count × Ready (now dev) chain (now t) layout × (isSome (decode (now sheet)) ≡ true) ⌝ }
+    ensures { λ r. ⌜ RuleRuns (now (values .entry)) (now (rows .entry)) (now (rules .entry)) count i (now (dev .entry)) chain (now (sheet .entry)) (now (t .entry)) layout (now (t .exit)) r ⌝ }
 {
     let from = table::number_at(rules, i * 4 + 1);
     let to = table::number_at(rules, i * 4 + 2);
-    match step::step(values, rows, from, to, dev, chain, t, layout) {
+    match step::step(values, rows, from, to, dev, chain, sheet, t, layout) {
         Stepped::Missed(tried) => RuleRan::Next(layout, i + 1, tried),
+        Stepped::Failed(left, tried) => RuleRan::Next(left, i + 1, tried),
         Stepped::Left(left, tried) => RuleRan::Next(left, behind(jumps, i), tried),
         Stepped::Refused(refusal) => RuleRan::Refused(refusal),
     }
 }
 
-// All rules of a table.
+// All rules of a table over a record that lies in the target, with its layout.
 pub fn run_rules(
     values: &[u8],
     rows: &[u16],
@@ -66,18 +72,31 @@ pub fn run_rules(
     count: usize,
     dev: &[u8],
     chain: Chain,
+    sheet: &[u8],
     t: &mut [u8],
     layout: Layout,
 ) -> TextRan
-    requires { ⌜ Runnable (now values) (now rows) (now rules) (now jumps) count × Ready (now dev) chain (now t) layout ⌝ }
-    ensures { λ r. ⌜ Runs (now (values .entry)) (now (rows .entry)) (now (rules .entry)) count (now (dev .entry)) chain (now (t .entry)) layout (now (t .exit)) r ⌝ }
+    requires { ⌜ Runnable (now values) (now rows) (now rules) (now jumps) count × Ready (now dev) chain (now t) layout × (isSome (decode (now sheet)) ≡ true) ⌝ }
+    ensures { λ r. ⌜ Runs (now (values .entry)) (now (rows .entry)) (now (rules .entry)) count (now (dev .entry)) chain (now (sheet .entry)) (now (t .entry)) layout (now (t .exit)) r ⌝ }
 {
     let mut layout = layout;
     let mut visited: usize = 0;
     let mut tried: usize = 0;
     let mut i: usize = 0;
     while i < count {
-        match run_rule(values, rows, rules, jumps, count, i, dev, chain, t, layout) {
+        match run_rule(
+            values,
+            rows,
+            rules,
+            jumps,
+            count,
+            i,
+            dev,
+            chain,
+            sheet,
+            t,
+            layout,
+        ) {
             RuleRan::Next(left, next, more) => {
                 layout = left;
                 visited += 1;

@@ -1,3 +1,4 @@
 pub mod Ends
 pub mod Equality
 pub mod Groups
+pub mod Trims

@@ -4,7 +4,7 @@ ghost use mathlib.Core.Bool.{true, false};
 ghost use Prim.Native.Nat.{_+_, _≤_};
 ghost use lib.ListN.{length, getD, take, drop};
 ghost use Rattle.lists.specs.Bytes.{isUpper, isDigit, isBlank, isSpace, sameBytes, starts};
-ghost use Rattle.lists.specs.Runs.{splitAt, lastOf, trim, endsInSpace, endDigits};
+ghost use Rattle.lists.specs.Runs.{splitAt, lastOf, trim, chomp, endsInSpace, endDigits};
 ghost use Rattle.scan.specs.Ends.{RunEnd, isNot};
 ghost use Rattle.scan.specs.Groups.{SameFrom, LacksFrom, Met, AboveFrom};
 
@@ -328,6 +328,20 @@ pub fn trimmed_len(s: &[u8]) -> usize
     let mut n = s.len();
     while 0 < n {
         if !is_space(s[n - 1]) {
+            return n;
+        }
+        n -= 1;
+    }
+    n
+}
+
+// The length without the newlines at the end (document 02, Item 6).
+pub fn chomped_len(s: &[u8]) -> usize
+    ensures { λ r. ⌜ (r ≤ length (now (s .entry))) × (take r (now (s .entry)) ≡ chomp (now (s .entry))) ⌝ }
+{
+    let mut n = s.len();
+    while 0 < n {
+        if s[n - 1] != b'\n' {
             return n;
         }
         n -= 1;

@@ -11,6 +11,7 @@ use Rattle.device.specs.Device.{Member, decode}
 use Rattle.device.specs.Places.{Lies}
 use Rattle.device_lookup.specs.Lookup.{Standing}
 use Rattle.device_lookup.specs.declared.Chain.{Chain}
+use Rattle.outcome_readers.specs.Readers.{OutputIs}
 use Rattle.engine.specs.Substitute.{Source, matchedIn}
 use Rattle.substitution.specs.declared.Matched.{Matched}
 use Rattle.substitution.specs.declared.Matched.the-variants.{At, Nothing}
@@ -33,7 +34,7 @@ OfMatched dev matched P = (o : Option Member) → MatchedIs dev matched o → P 
 
 -- ---- all that is inserted
 
--- the device record and the one that holds the properties are those of a source
+-- the device record and the outcome record are those of a source
 pub record From (dev rec : List ℕ) (p : Places) (s : Source) : Type 0 where
   pub device : decode dev ≡ some (s .device)
   pub event : Lies dev (p .event) (s .device .event)
@@ -41,6 +42,7 @@ pub record From (dev rec : List ℕ) (p : Places) (s : Source) : Type 0 where
   pub inside : p .properties ≤ length rec
   pub rest : List ℕ
   pub properties : many oneProp (p .count) (drop (p .properties) rec) ≡ got (s .properties) rest
+  pub output : OutputIs rec (s .output)
 
 abbrev pub Sourced : List ℕ → List ℕ → Places → Type 0
 Sourced dev rec p = (s : Source) × From dev rec p s

@@ -34,7 +34,7 @@ pub enum Matched {
 }
 
 // Where inserted text comes from: the places of the event device and of the matched one in the device record, the place of the properties in
-// their record and how many there are.
+// the outcome record and how many there are.
 pub struct Places {
     pub event: usize,
     pub matched: Matched,
@@ -167,7 +167,7 @@ fn put_decimal(dev: &[u8], at: usize, n: usize, spaceless: bool, out: &mut [u8],
     insertion::put_text(out, used, &digits[start..], spaceless)
 }
 
-// A property of the record that holds them.
+// A property of the outcome record.
 fn put_property(
     rec: &[u8],
     at: usize,
@@ -218,6 +218,7 @@ fn put_piece(
         Piece::Driver => put_driver(dev, matched, spaceless, out, used),
         Piece::Major => put_decimal(dev, 12, 12, spaceless, out, used),
         Piece::Minor => put_decimal(dev, 24, 20, spaceless, out, used),
+        Piece::Result => insertion::put_text(out, used, outcome_readers::output_of(rec), spaceless),
         Piece::Attr(start, len) => put_attribute(
             dev,
             event,

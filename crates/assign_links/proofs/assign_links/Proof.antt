@@ -111,7 +111,7 @@ link-text-requires c κs =
           ∙
           (clean-names .ensures .1
           (filled-clean (sourceOf d (entry .place) s) (device-sound (entry .dev .now) d (h .device))
-          (h .held .good .properties .each) (not (is-as-is .result)) (entry .value .now) _ (pre .3)
+          (h .held .good .properties .each) (h .held .good .output) (not (is-as-is .result)) (entry .value .now) _ (pre .3)
           ((filled-front (filled (not (is-as-is .result)) (sourceOf d (entry .place) s) (entry .value .now)) _ (fill .result)
           (fill .last .1 .1 .1 .1 .1 .1 .1 .0) (fill .ensures d s h) (k .given .0 .0) (k .given .1)) .is))),
     )

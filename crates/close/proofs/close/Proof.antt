@@ -90,7 +90,7 @@ returns-3 c =
     let w =
     close-both (args .device .now) (args .outcome .now) (length (args .target .now)) h (d .0) (d .1) (chain-of .result)
     (chain-of .ensures (d .0) (d .1)) (layout .given .0 .0) (sym (layout .given .1) ∙ check2 .ensures) in
-    list .ensures (d .0) (w .0) (w .1) ∙ ap (λ (n : ℕ). given n (listed (commands (d .0) (w .0 .properties) (w .0 .runs)))) e ∙ sym
+    list .ensures (d .0) (w .0) (w .1) ∙ ap (λ (n : ℕ). given n (listed (commands (d .0) (w .0 .properties) (w .0 .output) (w .0 .runs)))) e ∙ sym
     (close-listed (args .device .now) (args .outcome .now) (length (args .target .now)) h (chain-of .result) (layout .given .0 .0)
     (d .0) (w .0) (w .1))
 

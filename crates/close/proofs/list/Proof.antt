@@ -27,14 +27,14 @@ accepted-requires c κs =
     let args = entry in
     let write = write-call in
     let used = c .before .used in
-    let w : Written (commands (pre .2 .0) ((pre .2 .1) .properties) ((pre .2 .1) .runs)) (args .t .now) (Done (used .given .0 .0)) (write .last .0) =
+    let w : Written (commands (pre .2 .0) ((pre .2 .1) .properties) ((pre .2 .1) .output) ((pre .2 .1) .runs)) (args .t .now) (Done (used .given .0 .0)) (write .last .0) =
     rw (used .given .1) at (write .ensures (pre .2 .0) (pre .2 .1) (pre .2 .2)) in (
       omega arith,
       omega arith,
       omega (
         arith,
         w .2 .end,
-        list-few (pre .2 .0) ((pre .2 .1) .properties) ((pre .2 .1) .runs) (w .0) (w .1)
+        list-few (pre .2 .0) ((pre .2 .1) .properties) ((pre .2 .1) .output) ((pre .2 .1) .runs) (w .0) (w .1)
             (runs-few (args .dev .now) (args .rec .now) (args .chain) (args .layout) (pre .2 .0) (pre .2 .1)
             (λ i. shared-slice-known2 .given i .fits) (pre .2 .2)),
       ),
@@ -54,12 +54,12 @@ returns c =
     let used = used-call in
     let accepted = c .accepted in
     λ d s b.
-    let w : Written (commands d (s .properties) (s .runs)) (args .t .now) (Done (used .given .0 .0)) (write .last .0) =
+    let w : Written (commands d (s .properties) (s .output) (s .runs)) (args .t .now) (Done (used .given .0 .0)) (write .last .0) =
     rw (used .given .1) at (write .ensures d s b) in
     ap (answered (accepted .result))
     (list-bytes (args .t .now) (runList (w .0)) (write .last .0) (length (args .t .now)) (used .given .0 .0) (pre .1) (w .2)) ∙
     accepted .ensures (length (args .t .now)) (runList (w .0)) (omega (arith, w .2 .end)) ∙ listed-given (length (args .t .now))
-    (commands d (s .properties) (s .runs)) (w .0) (w .1)
+    (commands d (s .properties) (s .output) (s .runs)) (w .0) (w .1)
 
 returns-2 : tie.Need-returns-2
 returns-2 c =
@@ -72,9 +72,9 @@ returns-2 c =
     let the-refusal = c .refused in
     λ d s b.
     let e : length (write .last .0) ≡ length (args .t .now) = omega arith in
-    let f : commands d (s .properties) (s .runs) ≡ checked.refused substitution-long = rw (enum-told .given .1) at (write .ensures d s b) in
+    let f : commands d (s .properties) (s .output) (s .runs) ≡ checked.refused substitution-long = rw (enum-told .given .1) at (write .ensures d s b) in
     ap (answered (the-refusal .result)) (clear .ensures ∙ ap (λ (n : ℕ). replicate n 0) e) ∙ the-refusal .ensures (length (args .t .now)) ∙
-    refused-given (length (args .t .now)) (commands d (s .properties) (s .runs)) f
+    refused-given (length (args .t .now)) (commands d (s .properties) (s .output) (s .runs)) f
 
 pub list-spec : {M : Type 1} → statement M
 list-spec =

@@ -5,6 +5,7 @@ use lib.ListN.{length}
 use Rattle.engine.specs.Assign.{sourceOf}
 use Rattle.device_lookup.proofs.Devices.{chain-few}
 use Rattle.device.specs.Device.{chain}
+use Rattle.outcome_readers.proofs.Outputs.{held-output}
 use Rattle.substitution.specs.declared.Places.{Places}
 use Rattle.substitution.specs.Places.{From}
 use Rattle.substitution.proofs.Sources.{chain-source}
@@ -39,7 +40,8 @@ substitute-requires c κs =
             (chain-source (entry .dev .now) d (λ i. shared-slice-known2 .given i .fits) (h .device) (entry .chain) (h .chained)
             (entry .t .now) (row-of .result .at) (row-of .result .count) (s .properties)
             ((row-of .ensures (length (chain d)) s (h .held)) .read .0) ((row-of .ensures (length (chain d)) s (h .held)) .within)
-            ((row-of .ensures (length (chain d)) s (h .held)) .read .1) (entry .place) (omega (arith, h .chained .len, pre .2)))),
+            ((row-of .ensures (length (chain d)) s (h .held)) .read .1) (s .output)
+            (held-output (length (chain d)) (entry .t .now) (entry .layout) s (h .held)) (entry .place) (omega (arith, h .chained .len, pre .2)))),
       ),
       pre .3,
     )
@@ -58,7 +60,8 @@ returns c =
     (chain-source (entry .dev .now) d (λ i. shared-slice-known2 .given i .fits) (h .device) (entry .chain) (h .chained)
     (entry .t .now) (row-of .result .at) (row-of .result .count) (s .properties)
     ((row-of .ensures (length (chain d)) s (h .held)) .read .0) ((row-of .ensures (length (chain d)) s (h .held)) .within)
-    ((row-of .ensures (length (chain d)) s (h .held)) .read .1) (entry .place) (omega (arith, h .chained .len, pre .2))))
+    ((row-of .ensures (length (chain d)) s (h .held)) .read .1) (s .output)
+    (held-output (length (chain d)) (entry .t .now) (entry .layout) s (h .held)) (entry .place) (omega (arith, h .chained .len, pre .2))))
 
 pub fill-spec : {M : Type 1} → statement M
 fill-spec =

@@ -84,10 +84,41 @@ unfolding keyWith
 returns-19 c = rw (c .match .keys19)
 
 returns-20 : tie.Need-returns-20
-returns-20 c =
+unfolding keyWith
+returns-20 c = rw (c .match .keys20)
+
+returns-21 : tie.Need-returns-21
+unfolding keyWith
+returns-21 c = rw (c .match .keys21)
+
+returns-22 : tie.Need-returns-22
+returns-22 c =
     let n = c .before .args .n in
     let r = c .match .rest in
-    sym (key-last n (above 18 n (above 17 n (above 16 n (above 15 n (above 14 n (above 13 n (above 12 n (above 11 n (above 10 n (above 9 n (above 8 n (above 7 n (above 6 n (above 5 n (above 4 n (above 3 n (above 2 n (above 1 n (above 0 n (omega arith) (r .0 .0 .0 .0 .0 .0 .0 .0 .0 .0 .0 .0 .0 .0 .0 .0 .0 .0 .1)) (r .0 .0 .0 .0 .0 .0 .0 .0 .0 .0 .0 .0 .0 .0 .0 .0 .0 .1)) (r .0 .0 .0 .0 .0 .0 .0 .0 .0 .0 .0 .0 .0 .0 .0 .0 .1)) (r .0 .0 .0 .0 .0 .0 .0 .0 .0 .0 .0 .0 .0 .0 .0 .1)) (r .0 .0 .0 .0 .0 .0 .0 .0 .0 .0 .0 .0 .0 .0 .1)) (r .0 .0 .0 .0 .0 .0 .0 .0 .0 .0 .0 .0 .0 .1)) (r .0 .0 .0 .0 .0 .0 .0 .0 .0 .0 .0 .0 .1)) (r .0 .0 .0 .0 .0 .0 .0 .0 .0 .0 .0 .1)) (r .0 .0 .0 .0 .0 .0 .0 .0 .0 .0 .1)) (r .0 .0 .0 .0 .0 .0 .0 .0 .0 .1)) (r .0 .0 .0 .0 .0 .0 .0 .0 .1)) (r .0 .0 .0 .0 .0 .0 .0 .1)) (r .0 .0 .0 .0 .0 .0 .1)) (r .0 .0 .0 .0 .0 .1)) (r .0 .0 .0 .0 .1)) (r .0 .0 .0 .1)) (r .0 .0 .1)) (r .0 .1)) (r .1)))
+    let from1 = above 0 n (omega arith) (r .0 .0 .0 .0 .0 .0 .0 .0 .0 .0 .0 .0 .0 .0 .0 .0 .0 .0 .0 .0 .1) in
+    let from2 = above 1 n from1 (r .0 .0 .0 .0 .0 .0 .0 .0 .0 .0 .0 .0 .0 .0 .0 .0 .0 .0 .0 .1) in
+    let from3 = above 2 n from2 (r .0 .0 .0 .0 .0 .0 .0 .0 .0 .0 .0 .0 .0 .0 .0 .0 .0 .0 .1) in
+    let from4 = above 3 n from3 (r .0 .0 .0 .0 .0 .0 .0 .0 .0 .0 .0 .0 .0 .0 .0 .0 .0 .1) in
+    let from5 = above 4 n from4 (r .0 .0 .0 .0 .0 .0 .0 .0 .0 .0 .0 .0 .0 .0 .0 .0 .1) in
+    let from6 = above 5 n from5 (r .0 .0 .0 .0 .0 .0 .0 .0 .0 .0 .0 .0 .0 .0 .0 .1) in
+    let from7 = above 6 n from6 (r .0 .0 .0 .0 .0 .0 .0 .0 .0 .0 .0 .0 .0 .0 .1) in
+    let from8 = above 7 n from7 (r .0 .0 .0 .0 .0 .0 .0 .0 .0 .0 .0 .0 .0 .1) in
+    let from9 = above 8 n from8 (r .0 .0 .0 .0 .0 .0 .0 .0 .0 .0 .0 .0 .1) in
+    let from10 = above 9 n from9 (r .0 .0 .0 .0 .0 .0 .0 .0 .0 .0 .0 .1) in
+    let from11 = above 10 n from10 (r .0 .0 .0 .0 .0 .0 .0 .0 .0 .0 .1) in
+    let from12 = above 11 n from11 (r .0 .0 .0 .0 .0 .0 .0 .0 .0 .1) in
+    let from13 = above 12 n from12 (r .0 .0 .0 .0 .0 .0 .0 .0 .1) in
+    let from14 = above 13 n from13 (r .0 .0 .0 .0 .0 .0 .0 .1) in
+    let from15 = above 14 n from14 (r .0 .0 .0 .0 .0 .0 .1) in
+    let from16 = above 15 n from15 (r .0 .0 .0 .0 .0 .1) in
+    let from17 = above 16 n from16 (r .0 .0 .0 .0 .1) in
+    let from18 = above 17 n from17 (r .0 .0 .0 .1) in
+    let from19 = above 18 n from18 (r .0 .0 .1) in
+    let from20 = above 19 n from19 (r .0 .1) in
+    let from21 = above 20 n from20 (r .1) in
+    sym (key-last n from21)
 
 pub key-with-spec : {M : Type 1} → statement M
-key-with-spec = tie.close (tie.spec returns returns-2 returns-3 returns-4 returns-5 returns-6 returns-7 returns-8 returns-9 returns-10 returns-11 returns-12 returns-13 returns-14 returns-15 returns-16 returns-17 returns-18 returns-19 returns-20)
+key-with-spec =
+    tie.close
+    (tie.spec returns returns-2 returns-3 returns-4 returns-5 returns-6 returns-7 returns-8 returns-9 returns-10 returns-11 returns-12 returns-13 returns-14 returns-15 returns-16 returns-17 returns-18 returns-19 returns-20 returns-21 returns-22)

@@ -1,7 +1,7 @@
 -- `listing_rows::put_entry` meets its contract.
 -- Assumes nothing.
 use Rattle.listing_rows.proofs.Laws.{line-of}
-use Rattle.rows.specs.declared.Kind.the-variants.{Text, Property, Run}
+use Rattle.rows.specs.declared.Kind.the-variants.{Text, Property, Run, Reply}
 use native.Mathlib.Omega.{arith}
 use borrow.Author.Needs.{needs}
 use Rattle.listing_rows.proofs.put_entry.Statement.{statement}
@@ -40,6 +40,16 @@ returns-3 c =
           (put-line2 .last .0) (entry .front) (put-line2 .result) (put-line2 .ensures .1),
     )
 
+returns-4 : tie.Need-returns-4
+returns-4 c =
+    let entry = c .before .before .before .before .before .before .before .before .before .before .args in
+    let enum-told4 = c .before .before .before .before .enum-told4 in
+    let put-line3 = c .before .before .put-line3 in (
+      put-line3 .ensures .0,
+      line-of (entry .kind) Reply (entry .word .now) (entry .name .now) (entry .rest .now) (enum-told4 .given .1) (entry .out .now)
+          (put-line3 .last .0) (entry .front) (put-line3 .result) (put-line3 .ensures .1),
+    )
+
 pub put-entry-spec : {M : Type 1} → statement M
 put-entry-spec =
     tie.close
@@ -51,8 +61,12 @@ put-entry-spec =
     (λ c. search needs)
     (λ c κs. search needs)
     (λ c. search needs)
+    (λ c κs. search needs)
+    (λ c. search needs)
     returns
     (λ c. search needs)
     returns-2
     (λ c. search needs)
-    returns-3)
+    returns-3
+    (λ c. search needs)
+    returns-4)

@@ -1,7 +1,7 @@
--- `matching::match_rule` meets its contract: every row so far holds, and `first` is the first of them with a parent key.
+-- `matching::match_rule` meets its contract: every row so far holds, and `first` is the first of them with a parent key; `asks` is whether one is to be asked.
 -- Assumes nothing.
 use Prim.Native.Nat.{ℕ, _-_, _≤_}
-use mathlib.Core.Path.{_≡_, refl, sym, ap, _∙_}
+use mathlib.Core.Path.{_≡_, refl, sym, ap, _∙_, subst}
 use mathlib.Core.Bool.{true, false}
 use mathlib.Core.List.{List}
 use native.Mathlib.Omega.{arith}
@@ -14,24 +14,26 @@ use Rattle.table.specs.Table.{entryOf, pairsFrom}
 use Rattle.device.specs.Device.{chain}
 use Rattle.engine.specs.Match.{pairHolds, allHold, hasParents, isParent, nearest, placeOr}
 use Rattle.matching.specs.Answers.{placeIn, triedIn}
-use Rattle.matching.specs.Judging.{Begun}
+use Rattle.matching.specs.Judging.{Begun, PlacedOf}
 use Rattle.matching.proofs.Keys.{event-judged, parent-here}
 use Rattle.table.proofs.Pairs.{entry-in}
 use Rattle.matching.proofs.Tests.{all-fails, all-next, all-end}
 use Rattle.matching.proofs.Search.{near-alike, place-by, matched-by, tried-by, tried-missed}
 use Rattle.matching.proofs.Pending.{Noted, noted-start, noted-next, noted-none}
+use Rattle.matching.proofs.Asked.{AsksFrom, asks-next, asks-end}
 use Rattle.matching.proofs.Begin.{at-first}
 use Rattle.matching.proofs.match_rule.Statement.{statement}
 use Rattle.matching.proofs.match_rule.Tie as tie
 
 abbrev Inv-loop : tie.InvT-loop
-Inv-loop values rows from to dev places t layout event first₀ i₀ first i =
+Inv-loop values rows from to dev places t layout event first₀ asks₀ i₀ first asks i =
     (i ≤ to)
     × ((x : Begun dev places t layout) → all (pairHolds (x .device) (x .state)) (pairsFrom values rows from (to - from)) ≡ all (pairHolds (x .device) (x .state)) (pairsFrom values rows i (to - i)))
     × Noted values rows to (pairsFrom values rows from (to - from)) i first
+    × AsksFrom values rows to (pairsFrom values rows from (to - from)) i asks
 
 abbrev μ-loop : tie.MeasureT-loop
-μ-loop values rows from to dev places t layout event first₀ i₀ first i = to - i
+μ-loop values rows from to dev places t layout event first₀ asks₀ i₀ first asks i = to - i
 
 -- ---- the row at hand
 
@@ -60,7 +62,7 @@ loop-holds : tie.Need-loop-holds Inv-loop μ-loop
 loop-holds c =
     let entry = c .before .before .before .before .before in
     let a = entry .args in
-    (entry .pre .0, (λ x. refl), noted-start (a .values .now) (a .rows .now) (a .from) (a .to) (entry .pre .0))
+    (entry .pre .0, (λ x. refl), noted-start (a .values .now) (a .rows .now) (a .from) (a .to) (entry .pre .0), refl)
 
 pair-at-requires : tie.Need-pair-at-requires Inv-loop μ-loop
 pair-at-requires c κs = let entry = c .before .before .before .before .before .before .before in omega (arith, entry .pre .1 .room)
@@ -82,31 +84,35 @@ returns c =
     let a = c .before .before .before .before .before .before .before .before .before .before .before .before .args in
     let l = c .before .before .before .before .before .before .loop in
     let p = c .before .before .before .before .pair-at in (
-      (λ x.
-          let fails =
-          l .inv .1 x
-          ∙ all-fails (a .values .now) (a .rows .now) (l .i) (a .to) (p .result) (p .ensures) (c .before .before .before .before .before .loop-test .taken) (pairHolds (x .device) (x .state))
-          (judged (c .before) x ∙ not-true _ (c .if1 .taken)) in
-          (sym (matched-by (x .device) (x .state) _ false fails), sym (tried-missed (x .device) (x .state) _ fails))),
-      omega arith,
+      (
+        (λ x.
+            let fails =
+            l .inv .1 x
+            ∙ all-fails (a .values .now) (a .rows .now) (l .i) (a .to) (p .result) (p .ensures) (c .before .before .before .before .before .loop-test .taken) (pairHolds (x .device) (x .state))
+            (judged (c .before) x ∙ not-true _ (c .if1 .taken)) in
+            (sym (matched-by (x .device) (x .state) _ false fails), sym (tried-missed (x .device) (x .state) _ fails))),
+        omega arith,
+      ),
+      tt,
     )
 
 add-i : tie.Need-add-i Inv-loop μ-loop
-add-i c = let h = c .before .before .before .before .before .before .before .loop-test .taken in let f = c .before .before .before .before .before .before .before .before .before .before .before .before .before .before .fits in omega arith
+add-i c = let h = c .before .before .before .before .before .before .before .before .loop-test .taken in let f = c .before .before .before .before .before .before .before .before .before .before .before .before .before .before .before .fits in omega arith
 
 loop-again : tie.Need-loop-again Inv-loop μ-loop
 loop-again c =
-    let a = c .before .before .before .before .before .before .before .before .before .before .before .before .before .before .args in
-    let l = c .before .before .before .before .before .before .before .before .loop in
-    let p = c .before .before .before .before .before .before .pair-at in
-    let u = c .before .is-parent in
-    let h = c .before .before .before .before .before .before .before .loop-test .taken in (
+    let a = c .before .before .before .before .before .before .before .before .before .before .before .before .before .before .before .args in
+    let l = c .before .before .before .before .before .before .before .before .before .loop in
+    let p = c .before .before .before .before .before .before .before .pair-at in
+    let u = c .before .before .is-parent in
+    let h = c .before .before .before .before .before .before .before .before .loop-test .taken in (
       omega arith,
       (λ x.
           l .inv .1 x
           ∙ all-next (a .values .now) (a .rows .now) (l .i) (a .to) (p .result) (p .ensures) h (pairHolds (x .device) (x .state))
-          (judged (c .before .before .before) x ∙ not-false _ (c .before .before .if1 .left))),
-      rw (c .first-of .ensures) (noted-next (a .values .now) (a .rows .now) (a .to) _ (l .i) (p .result) (p .ensures) h (l .first) (u .result) (parent (c .before)) (l .inv .2)),
+          (judged (c .before .before .before .before) x ∙ not-false _ (c .before .before .before .if1 .left))),
+      rw (c .before .first-of .ensures) (noted-next (a .values .now) (a .rows .now) (a .to) _ (l .i) (p .result) (p .ensures) h (l .first) (u .result) (parent (c .before .before)) (l .inv .2)),
+      rw (c .asks-by .ensures) (asks-next (a .values .now) (a .rows .now) (a .to) _ (l .i) (p .result) (p .ensures) h (l .asks) (l .inv .3)),
     )
 
 -- all rows hold, and none has a parent key
@@ -116,19 +122,24 @@ returns-2 c =
     let a = c .before .before .before .before .before .before .before .before .args in
     let l = c .before .before .loop in
     let none = noted-none (a .values .now) (a .rows .now) (a .to) _ (l .i) (l .first) (c .before .loop-test .left) (c .if2 .taken) (l .inv .2) in (
-      (λ x.
-          let hold = l .inv .1 x ∙ all-end (pairHolds (x .device) (x .state)) (a .values .now) (a .rows .now) (l .i) (a .to) (c .before .loop-test .left) in
-          (sym (matched-by (x .device) (x .state) _ true hold ∙ place-by (x .device) _ false none), sym (tried-by (x .device) (x .state) _ true false hold none))),
-      omega arith,
+      (
+        (λ x.
+            let hold = l .inv .1 x ∙ all-end (pairHolds (x .device) (x .state)) (a .values .now) (a .rows .now) (l .i) (a .to) (c .before .loop-test .left) in
+            (sym (matched-by (x .device) (x .state) _ true hold ∙ place-by (x .device) _ false none), sym (tried-by (x .device) (x .state) _ true false hold none))),
+        omega arith,
+      ),
+      asks-end (a .values .now) (a .rows .now) (a .to) _ (l .i) (c .before .loop-test .left) (l .asks) (l .inv .3),
     )
 
 nearest-requires : tie.Need-nearest-requires Inv-loop μ-loop
 nearest-requires c κs = let entry = c .before .before .before .before .before .before .before .before in (c .before .before .loop .inv .2 .within, entry .pre .1, entry .pre .2)
 
 -- one has: the search decides
-returns-3 : tie.Need-returns-3 Inv-loop μ-loop
+searched : (c : tie.After-nearest Inv-loop μ-loop)
+    → let a = c .before .before .before .before .before .before .before .before .before .args in
+    PlacedOf (a .values .now) (a .rows .now) (a .from) (a .to) (a .dev .now) (a .chain) (a .t .now) (a .layout) (c .nearest .result)
 unfolding allHold
-returns-3 c =
+searched c =
     let a = c .before .before .before .before .before .before .before .before .before .args in
     let l = c .before .before .before .loop in
     let found = c .nearest in
@@ -143,6 +154,19 @@ returns-3 c =
           )),
       found .ensures .2,
     )
+
+returns-3 : tie.Need-returns-3 Inv-loop μ-loop
+returns-3 c =
+    let a = c .before .before .before .before .before .before .before .before .before .before .before .before .args in
+    let l = c .before .before .before .before .before .before .loop in (
+      subst (PlacedOf (a .values .now) (a .rows .now) (a .from) (a .to) (a .dev .now) (a .chain) (a .t .now) (a .layout)) (c .before .place .given .1) (searched (c .before .before .before)),
+      asks-end (a .values .now) (a .rows .now) (a .to) _ (l .i) (c .before .before .before .before .before .loop-test .left) (l .asks) (l .inv .3),
+    )
+
+returns-4 : tie.Need-returns-4 Inv-loop μ-loop
+returns-4 c =
+    let a = c .before .before .before .before .before .before .before .before .before .before .before .before .args in
+    (subst (PlacedOf (a .values .now) (a .rows .now) (a .from) (a .to) (a .dev .now) (a .chain) (a .t .now) (a .layout)) (c .before .tried .given .1) (searched (c .before .before .before)), tt)
 
 pub match-rule-spec : {M : Type 1} → statement M
 match-rule-spec =
@@ -159,9 +183,13 @@ match-rule-spec =
     returns
     (λ c κs. search needs)
     (λ c κs. search needs)
+    (λ c κs. search needs)
     add-i
     (λ c. omega arith)
     loop-again
     returns-2
     nearest-requires
-    returns-3)
+    (λ c. search needs)
+    (λ c. search needs)
+    returns-3
+    returns-4)

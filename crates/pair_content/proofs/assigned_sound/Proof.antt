@@ -85,6 +85,15 @@ enum-told-20 c = search needs
 is-setting-requires : tie.Need-is-setting-requires
 is-setting-requires c κs = search needs
 
+enum-told-21 : tie.Need-enum-told-21
+enum-told-21 c = search needs
+
+well-formed-requires-6 : tie.Need-well-formed-requires-6
+well-formed-requires-6 c κs = search needs
+
+enum-told-22 : tie.Need-enum-told-22
+enum-told-22 c = search needs
+
 returns : tie.Need-returns
 returns c = rw (c .enum-told .given .1)
 
@@ -145,6 +154,12 @@ returns-19 c = rw (c .enum-told19 .given .1) (ap not (length-empty (c .before .b
 returns-20 : tie.Need-returns-20
 returns-20 c = rw (c .before .enum-told20 .given .1) (c .is-setting .ensures)
 
+returns-21 : tie.Need-returns-21
+returns-21 c = rw (c .before .enum-told21 .given .1) (c .well-formed6 .ensures)
+
+returns-22 : tie.Need-returns-22
+returns-22 c = rw (c .enum-told22 .given .1)
+
 pub assigned-sound-spec : {M : Type 1} → statement M
 assigned-sound-spec =
     tie.close
@@ -175,6 +190,9 @@ assigned-sound-spec =
     enum-told-19
     enum-told-20
     is-setting-requires
+    enum-told-21
+    well-formed-requires-6
+    enum-told-22
     returns
     returns-2
     returns-3
@@ -194,4 +212,6 @@ assigned-sound-spec =
     returns-17
     returns-18
     returns-19
-    returns-20)
+    returns-20
+    returns-21
+    returns-22)

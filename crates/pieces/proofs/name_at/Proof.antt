@@ -1,9 +1,11 @@
 -- `pieces::name_at` meets its contract.
 -- Assumes nothing.
 use mathlib.Core.Path.{sym, _∙_}
+use native.Mathlib.Omega.{arith}
 use borrow.Author.Needs.{needs}
+use lib.ListN.{drop, length-drop}
 use Rattle.lists.specs.Quoted.{bytes}
-use Rattle.pieces.proofs.Names.{behind, name-k, name-n, name-i, name-de, name-d, name-ma, name-m, name-a, name-e, name-none}
+use Rattle.pieces.proofs.Names.{name-inside, behind, name-k, name-n, name-i, name-de, name-d, name-ma, name-m, name-a, name-e, name-r, name-none}
 use Rattle.pieces.proofs.name_at.Statement.{statement}
 use Rattle.pieces.proofs.name_at.Tie as tie
 
@@ -135,15 +137,46 @@ returns-11 c =
       c .if-named7 .ensures .1,
     )
 
+result-at-requires : tie.Need-result-at-requires
+unfolding bytes
+result-at-requires c κs =
+    let entry = c .before .before .before .before .before .before in
+    let args = entry .args in
+    let named = sym (c .before .starts-at3 .ensures) ∙ c .if5 .taken in
+    let k = name-inside (bytes "result") (drop (args .at) (args .template .now)) named in
+    (omega (arith, length-drop (args .at) (args .template .now), entry .pre .0), omega arith)
+
 returns-12 : tie.Need-returns-12
+unfolding bytes
 returns-12 c =
+    let entry = c .before .before .before .before .before .before .before .args in
+    let byte-at = c .before .before .before .before .before .byte-at in
+    let match = c .before .before .before .before .match in
+    let starts-at3 = c .before .before .starts-at3 in
+    let args = entry in
+    let here = sym (byte-at .ensures) ∙ match .keys8 in
+    let named = sym (starts-at3 .ensures) ∙ c .before .if5 .taken in
+    (c .result-at .ensures .0 ∙ sym (name-r (args .template .now) (args .at) here ∙ rw named), c .result-at .ensures .1)
+
+returns-13 : tie.Need-returns-13
+unfolding bytes
+returns-13 c =
+    let entry = c .before .before .before .before .before .before .args in
+    let byte-at = c .before .before .before .before .byte-at in
+    let args = entry in
+    let here = sym (byte-at .ensures) ∙ c .before .before .before .match .keys8 in
+    let named = sym (c .before .starts-at3 .ensures) ∙ c .if5 .left in
+    (sym (name-r (args .template .now) (args .at) here ∙ rw named), tt)
+
+returns-14 : tie.Need-returns-14
+returns-14 c =
     let before = c .before .before .before in
     let entry = before in
     let args = entry .args in
     let byte = c .before .byte-at .ensures in
     let rest = c .match .rest in (
-      name-none (args .template .now) (args .at) byte (λ e. entry .pre .1 (sym byte ∙ e)) (rest .0 .0 .0 .0 .0 .0 .1)
-          (rest .0 .0 .0 .0 .0 .1) (rest .0 .0 .0 .0 .1) (rest .0 .0 .0 .1) (rest .0 .0 .1) (rest .0 .1) (rest .1),
+      name-none (args .template .now) (args .at) byte (λ e. entry .pre .1 (sym byte ∙ e)) (rest .0 .0 .0 .0 .0 .0 .0 .1)
+          (rest .0 .0 .0 .0 .0 .0 .1) (rest .0 .0 .0 .0 .0 .1) (rest .0 .0 .0 .0 .1) (rest .0 .0 .0 .1) (rest .0 .0 .1) (rest .0 .1) (rest .1),
       tt,
     )
 
@@ -178,6 +211,9 @@ name-at-spec =
     (λ c κs. search needs)
     (λ c. search needs)
     (λ c κs. search needs)
+    (λ c. search needs)
+    (λ c κs. search needs)
+    result-at-requires
     returns
     returns-2
     returns-3
@@ -189,4 +225,6 @@ name-at-spec =
     returns-9
     returns-10
     returns-11
-    returns-12)
+    returns-12
+    returns-13
+    returns-14)

@@ -2,7 +2,7 @@
 -- Assumes nothing.
 use Prim.Native.Nat.{_+_}
 use Rattle.lists.proofs.Moves.{length-part}
-use Rattle.rows.proofs.Heads.{text-shaped, property-shaped, run-shaped}
+use Rattle.rows.proofs.Heads.{text-shaped, property-shaped, run-shaped, reply-shaped}
 use native.Mathlib.Omega.{arith}
 use borrow.Author.Needs.{needs}
 use Rattle.rows.proofs.shape_at.Statement.{statement}
@@ -57,6 +57,26 @@ run-shape-requires c κs =
     let a = c .before .before .before .before .args in
     let h = rw (c .before .enum-told3 .given .1) at (c .before .before .before .before .pre) in omega (arith, length-part (a .rec .now) (a .p) (a .p + 2) h)
 
+enum-told-4 : tie.Need-enum-told-4
+enum-told-4 c = search needs
+
+add-reply-shape : tie.Need-add-reply-shape
+add-reply-shape c = search needs
+
+sub-reply-shape : tie.Need-sub-reply-shape
+sub-reply-shape c = search needs
+
+part-reply-shape-start : tie.Need-part-reply-shape-start
+part-reply-shape-start c = search needs
+
+part-reply-shape-end : tie.Need-part-reply-shape-end
+part-reply-shape-end c = let h = rw (c .enum-told4 .given .1) at (c .before .before .before .pre) in omega arith
+
+reply-shape-requires : tie.Need-reply-shape-requires
+reply-shape-requires c κs =
+    let a = c .before .before .before .before .args in
+    let h = rw (c .before .enum-told4 .given .1) at (c .before .before .before .before .pre) in omega (arith, length-part (a .rec .now) (a .p) (a .p + 3) h)
+
 returns : tie.Need-returns
 returns c =
     let a = c .before .before .before .before .before .args in
@@ -74,6 +94,12 @@ returns-3 c =
     let a = c .before .before .before .before .before .args in
     let run-shape = c .run-shape in
     rw (c .before .before .enum-told3 .given .1) (run-shaped (a .rec .now) (a .p) (run-shape .result) (run-shape .ensures .0) (run-shape .ensures .1) (run-shape .ensures .2))
+
+returns-4 : tie.Need-returns-4
+returns-4 c =
+    let a = c .before .before .before .before .before .args in
+    let reply-shape = c .reply-shape in
+    rw (c .before .before .enum-told4 .given .1) (reply-shaped (a .rec .now) (a .p) (reply-shape .result) (reply-shape .ensures .0) (reply-shape .ensures .1) (reply-shape .ensures .2) (reply-shape .ensures .3))
 
 pub shape-at-spec : {M : Type 1} → statement M
 shape-at-spec =
@@ -94,6 +120,13 @@ shape-at-spec =
     part-run-shape-start
     part-run-shape-end
     run-shape-requires
+    enum-told-4
+    add-reply-shape
+    sub-reply-shape
+    part-reply-shape-start
+    part-reply-shape-end
+    reply-shape-requires
     returns
     returns-2
-    returns-3)
+    returns-3
+    returns-4)

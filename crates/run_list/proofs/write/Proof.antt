@@ -53,6 +53,7 @@ put-runs-requires c κs =
       (
         pre .1 .0,
         pre .1 .1 .properties,
+        pre .1 .1 .output,
         pre .1 .1 .runs,
         both-beside (args .dev .now) (args .rec .now) (args .chain) (args .layout) (pre .1 .0) (pre .1 .1)
             (λ i. shared-slice-known2 .given i .fits) (pre .1 .2) (count-of2 .result) (count-of2 .ensures .0),
@@ -79,18 +80,18 @@ returns c =
     let the-k = k in
     let write-count = write-count-call in
     λ d s w.
-    let l : Listed (commands d (s .properties) (s .runs)) (args .t .now) 1 (Done (the-k .given .0 .0)) (put-runs .last .0) =
+    let l : Listed (commands d (s .properties) (s .output) (s .runs)) (args .t .now) 1 (Done (the-k .given .0 .0)) (put-runs .last .0) =
     rw (the-k .given .1) at
-    (put-runs .ensures d (s .properties) (s .runs)
+    (put-runs .ensures d (s .properties) (s .output) (s .runs)
     (both-beside (args .dev .now) (args .rec .now) (args .chain) (args .layout) d s (λ i. shared-slice-known2 .given i .fits) w
     (count-of2 .result) (count-of2 .ensures .0))
     (both-runs (args .dev .now) (args .rec .now) (args .chain) (args .layout) d s (λ i. shared-slice-known2 .given i .fits) w
     (count-of .result) (count-of .ensures .0)))
     in
-    list-written (commands d (s .properties) (s .runs)) (args .t .now) (put-runs .last .0) (write-count .last .0)
+    list-written (commands d (s .properties) (s .output) (s .runs)) (args .t .now) (put-runs .last .0) (write-count .last .0)
     (lentPart (put-runs .last .0) 0 1 (write-count .last .0)) (count-of .result) (the-k .given .0 .0) (omega (arith, pre .0))
     (λ cs e.
-    commands-count d (s .properties) (s .runs) cs e ∙ sym
+    commands-count d (s .properties) (s .output) (s .runs) cs e ∙ sym
     (runs-row-of (args .dev .now) (args .rec .now) (args .chain) (args .layout) d s (λ i. shared-slice-known2 .given i .fits) w
     (count-of .result) (count-of .ensures .0) .counted))
     l (omega arith) (write-count .ensures) refl
@@ -107,9 +108,9 @@ returns-2 c =
     let count-of = count-of-call in
     let count-of2 = count-of2-call in
     λ d s w.
-    let l : commands d (s .properties) (s .runs) ≡ refused substitution-long =
+    let l : commands d (s .properties) (s .output) (s .runs) ≡ refused substitution-long =
     rw (c .enum-told .given .1) at
-    (put-runs .ensures d (s .properties) (s .runs)
+    (put-runs .ensures d (s .properties) (s .output) (s .runs)
     (both-beside (args .dev .now) (args .rec .now) (args .chain) (args .layout) d s (λ i. shared-slice-known2 .given i .fits) w
     (count-of2 .result) (count-of2 .ensures .0))
     (both-runs (args .dev .now) (args .rec .now) (args .chain) (args .layout) d s (λ i. shared-slice-known2 .given i .fits) w

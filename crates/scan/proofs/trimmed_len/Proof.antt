@@ -8,9 +8,11 @@ use borrow.Author.Tests.{not-true, not-false}
 use borrow.Author.Needs.{needs}
 use lib.Seq.{drop-length}
 use lib.ListN.{length, drop}
-use Rattle.lists.proofs.Scan.{all-back, trim-all, trim-at}
+use Rattle.lists.proofs.Scan.{all-back}
 use Rattle.lists.specs.Bytes.{isSpace}
 use Rattle.lists.specs.Lists.{all}
+use Rattle.lists.specs.Runs.{trim}
+use Rattle.scan.proofs.Trims.{trims-spaces, trimmed-all, trimmed-at}
 use Rattle.scan.proofs.trimmed_len.Statement.{statement}
 use Rattle.scan.proofs.trimmed_len.Tie as tie
 
@@ -29,7 +31,7 @@ returns c =
     let loop-call = c .before .before .before .before .loop in
     let loop = loop-call in (
       loop .inv .0,
-      trim-at (entry .s .now) (loop .n) (omega arith) (omega arith) (sym (c .before .is-space .ensures) ∙ not-true _ (c .if1 .taken))
+      trimmed-at isSpace trim trims-spaces (entry .s .now) (loop .n) (omega arith) (omega arith) (sym (c .before .is-space .ensures) ∙ not-true _ (c .if1 .taken))
           (loop .inv .1),
     )
 
@@ -46,7 +48,7 @@ loop-again c =
 returns-2 : tie.Need-returns-2 Inv-loop μ-loop
 returns-2 c =
     let e : c .before .loop .n ≡ 0 = omega arith in
-    (c .before .loop .inv .0, rw e (sym (trim-all (c .before .before .before .args .s .now) (rw e at (c .before .loop .inv .1)))))
+    (c .before .loop .inv .0, rw e (sym (trimmed-all isSpace trim trims-spaces (c .before .before .before .args .s .now) (rw e at (c .before .loop .inv .1)))))
 
 pub trimmed-len-spec : {M : Type 1} → statement M
 trimmed-len-spec =

@@ -24,6 +24,9 @@ use Rattle.substitution.proofs.put_piece.Tie as tie
 enum-told : tie.Need-enum-told
 enum-told c = search needs
 
+output-of-requires : tie.Need-output-of-requires
+output-of-requires c κs = c .before .before .before .before .before .before .before .pre .1 .1 .output .within
+
 name-at-requires : tie.Need-name-at-requires
 name-at-requires c κs =
     let entry = c .before .before .before .before .before .before .before .args in
@@ -269,6 +272,17 @@ returns-8 c =
 returns-9 : tie.Need-returns-9
 unfolding inserted
 returns-9 c =
+    let args = c .before .before .before .before .before .before .before .before .before .before .before .args in
+    let told = c .before .before .before .before .before .enum-told8 in
+    let output-of = c .before .before .before .output-of in
+    let put-text3 = c .before .before .put-text3 in
+    λ s h.
+    piece-inserted (args .spaceless) s (args .template .now) (args .p) T.result _ (args .out .now) (args .used) (put-text3 .result) _
+    (ap (λ (y : Piece). meaning y (args .template .now)) (told .given .1)) refl (output-of .ensures ∙ h .output .is) (put-text3 .ensures)
+
+returns-10 : tie.Need-returns-10
+unfolding inserted
+returns-10 c =
     let entry = c .before .before .before .before .before .before .before .before .before .before .before .before .args in
     let p2-call = c .before .before .before .before .before .before .p2 in
     let put-attribute-call = c .before .before .put-attribute in
@@ -283,9 +297,9 @@ returns-9 c =
     (sized-part (args .template .now) (p2 .given .0 .0) (p2 .given .0 .1 .0)))
     (put-attribute .ensures (s .device .event) (h .event) (matchedIn s) (h .matched))
 
-returns-10 : tie.Need-returns-10
+returns-11 : tie.Need-returns-11
 unfolding inserted
-returns-10 c =
+returns-11 c =
     let entry = c .before .before .before .before .before .before .before .before .before .before .before .before .args in
     let p3-call = c .before .before .before .before .before .before .p3 in
     let put-property-call = c .before .before .put-property in
@@ -301,28 +315,28 @@ returns-10 c =
     (sized-part (args .template .now) (p3 .given .0 .0) (p3 .given .0 .1 .0)))
     (put-property .ensures)
 
-returns-11 : tie.Need-returns-11
-returns-11 c =
+returns-12 : tie.Need-returns-12
+returns-12 c =
     let entry = c .before .before .before .before .before .before .before .before .before .before .args in
-    let enum-told8 = c .before .before .before .before .enum-told8 in
+    let enum-told9 = c .before .before .before .before .enum-told9 in
     let put-byte2-call = c .before .before .put-byte2 in
     let args = entry in
     let put-byte2 = put-byte2-call in
     λ s h.
     piece-written (args .spaceless) s (args .template .now) (args .p) T.dollar _ (args .out .now) (args .used) (put-byte2 .result) _
-    (ap (λ (y : Piece). meaning y (args .template .now)) (enum-told8 .given .1)) (dollar-text (args .spaceless) s)
+    (ap (λ (y : Piece). meaning y (args .template .now)) (enum-told9 .given .1)) (dollar-text (args .spaceless) s)
     (put-byte2 .ensures)
 
-returns-12 : tie.Need-returns-12
-returns-12 c =
+returns-13 : tie.Need-returns-13
+returns-13 c =
     let entry = c .before .before .before .before .before .before .before .before .before .before .args in
-    let enum-told9 = c .before .before .before .before .enum-told9 in
+    let enum-told10 = c .before .before .before .before .enum-told10 in
     let put-byte3-call = c .before .before .put-byte3 in
     let args = entry in
     let put-byte3 = put-byte3-call in
     λ s h.
     piece-written (args .spaceless) s (args .template .now) (args .p) T.percent _ (args .out .now) (args .used) (put-byte3 .result) _
-    (ap (λ (y : Piece). meaning y (args .template .now)) (enum-told9 .given .1)) (percent-text (args .spaceless) s)
+    (ap (λ (y : Piece). meaning y (args .template .now)) (enum-told10 .given .1)) (percent-text (args .spaceless) s)
     (put-byte3 .ensures)
 
 pub put-piece-spec : {M : Type 1} → statement M
@@ -347,6 +361,9 @@ put-piece-spec =
     put-decimal-requires
     (λ c. search needs)
     put-decimal-requires-2
+    (λ c. search needs)
+    output-of-requires
+    (λ c κs. search needs)
     (λ c. search needs)
     add-put-attribute
     (λ c. search needs)
@@ -386,4 +403,6 @@ put-piece-spec =
     (λ c. search needs)
     returns-11
     (λ c. search needs)
-    returns-12)
+    returns-12
+    (λ c. search needs)
+    returns-13)
