@@ -1,5 +1,5 @@
 // Prints the listings of rules texts that were judged by hand: for one device from its fresh record, then from an outcome record, then for
-// faulty records.
+// faulty records, with an answer sheet and with a faulty one.
 
 use insertion::Put;
 use libc::STDOUT_FILENO;
@@ -11,6 +11,12 @@ const DEVICE: [u8; 89] =
 // Owner u, mode 0600, priority 5, the output `said`, nowatch, link old, property K=V, tag g, program x.
 const OUTCOME: [u8; 31] =
     *b" \x01\x020\x00\x00\x00\x00\xa1\x04!\x01 saidu\x03old\x02\x01KV\x01g\x00\x02x";
+
+// The sheet of no entries.
+const NO_ANSWERS: [u8; 1] = [0];
+
+// `id` succeeds with the output `a b` and two newlines, `up` fails with the output `x`.
+const ANSWERS: [u8; 17] = *b"\x02\x80@(ida b\x0a\x0a\x00@\x08upx";
 
 fn say(word: &[u8]) {
     io::write_all(STDOUT_FILENO, word);
@@ -31,17 +37,39 @@ fn say_listing(name: &[u8], listing: Put, out: &[u8]) {
 // From the fresh record of a device.
 fn show(name: &[u8], text: &[u8], device: &[u8]) {
     let mut out: [u8; 4096] = [0; 4096];
-    let listing = listing_run::list(text, device, &mut out);
+    let listing = listing_run::list(text, device, &NO_ANSWERS, &mut out);
     say_listing(name, listing, &out);
 }
 
 fn show_from(name: &[u8], text: &[u8], outcome: &[u8]) {
     let mut out: [u8; 4096] = [0; 4096];
-    let listing = listing_run::list_from(text, &DEVICE, outcome, &mut out);
+    let listing = listing_run::list_from(text, &DEVICE, outcome, &NO_ANSWERS, &mut out);
     say_listing(name, listing, &out);
 }
 
-fn main() {
+// From the fresh record, with an answer sheet.
+fn show_answered(name: &[u8], text: &[u8], sheet: &[u8]) {
+    let mut out: [u8; 4096] = [0; 4096];
+    let listing = listing_run::list(text, &DEVICE, sheet, &mut out);
+    say_listing(name, listing, &out);
+}
+
+// Rules that ask programs (document 02, Item 6).
+fn show_programs() {
+    show_answered(
+        b"answers: the links and the command have the output; a program that failed left it",
+        b"PROGRAM=\"id\", RESULT==\"a b\", SYMLINK+=\"$result\", RUN+=\"[%c]\"\x0aPROGRAM!=\"up\", SYMLINK+=\"x-$result\"\x0a",
+        &ANSWERS,
+    );
+    show_answered(
+        b"a command that is not on the sheet",
+        b"PROGRAM==\"id\"\x0a\x0aPROGRAM!=\"gone\"\x0a",
+        &ANSWERS,
+    );
+    show_answered(b"a faulty sheet", b"", &ANSWERS[..16]);
+}
+
+fn show_runs() {
     show(
         b"one counter",
         b"KERNEL==\"ttyUSB[0-9]*\", ATTRS{serial}==\"RC-0417\", SYMLINK+=\"rope/trip%n\", MODE=\"0660\", GROUP=\"dialout\"",
@@ -83,6 +111,9 @@ fn main() {
         b"OPTIONS=\"nowatch\", GROUP=\"g\"\x0aOPTIONS+=\"watch\", SYMLINK=\"l\"\x0aKERNEL==\"none\", OPTIONS=\"nowatch\"",
         &DEVICE,
     );
+}
+
+fn show_refusals() {
     show(
         b"a jump without its label",
         b"\x0a\x0a# jump\x0aKERNEL==\"a\", GOTO=\"end\"\x0a",
@@ -109,6 +140,10 @@ fn main() {
         b"RUN+=\"%p%p%p%p%p%p%p%p%p%p%p%p%p%p%p%p\"",
         &DEVICE,
     );
+}
+
+// From a record, and with faulty records.
+fn show_records() {
     show_from(b"from a record", b"SYMLINK+=\"new\", ENV{K}=\"\"", &OUTCOME);
     show(b"a faulty device", b"TAG+=\"t\"", &DEVICE[..88]);
     show_from(b"a faulty record", b"TAG+=\"t\"", &OUTCOME[..30]);
@@ -122,6 +157,13 @@ fn main() {
         b"TAG+=\"t\"",
         b"\x10\x01\x020\x00\x00\x00\x00\xa1\x04!u\x03old\x02\x01KV\x01g\x00\x02x",
     );
+}
+
+fn main() {
+    show_runs();
+    show_refusals();
+    show_records();
+    show_programs();
     show(
         b"a faulty text and a faulty device",
         b"TAG+=\"t\"x",

@@ -13,7 +13,7 @@ use lib.Seq.{take-at}
 use Rattle.lists.specs.Lists.{cat}
 use Rattle.lists.specs.Bytes.{Bytes}
 use Rattle.lists.specs.Checked.{Checked, refused, ok, _>>=_, _>>_, require, found, Holds, Placed, line, onLine}
-use Rattle.lists.specs.Refusal.{Refusal, number, target-short, device-bad, outcome-bad}
+use Rattle.lists.specs.Refusal.{Refusal, number, target-short, device-bad, outcome-bad, sheet-bad}
 use Rattle.lists.specs.Sizes.{fullestOutcome, fullestRunList}
 use Rattle.lists.specs.Quoted.{bytes}
 use Rattle.lists.proofs.Lists.{All-map, all-each}
@@ -23,7 +23,6 @@ use Rattle.text.specs.Reading.{readText}
 use Rattle.text.specs.Rules.{rulesOf}
 use Rattle.text.specs.Running.{Halt, Ran, next, runFrom}
 use Rattle.text.specs.Run as runs
-use Rattle.text.specs.Run.{runChecked}
 use Rattle.text.proofs.Runs.{refusal-number}
 use Rattle.text.proofs.Texts.{read}
 use Rattle.text.proofs.Sound as sound
@@ -41,8 +40,11 @@ use Rattle.outcome_target.specs.Layout.{layoutOf}
 use Rattle.outcome_target.specs.declared.Layout.{Layout}
 use Rattle.outcome_check.specs.Check.{checkedOf}
 use Rattle.outcome_check.specs.declared.Checked.the-variants.{Sound, Faulty}
+use Rattle.sheet.specs.Sheet as Sheets
+use Rattle.sheet.specs.Sheet.{Sheet}
+use Rattle.sheet.proofs.RoundTrip as sheets
 use Rattle.engine.specs.Operations as operations
-use Rattle.engine.specs.Operations.{engine, decodeFor, Command, commands, runList, closeChecked, freshChecked}
+use Rattle.engine.specs.Operations.{engine, runChecked, decodeFor, Command, commands, runList, closeChecked, freshChecked}
 use Rattle.engine.specs.Listing.{commandLine, listingOf, freshOr, listed, printed, listingFrom, listing}
 use Rattle.engine.proofs.Laws.{engine-laws, engine-good}
 use Rattle.engine.proofs.Sizes as sizes
@@ -76,69 +78,70 @@ no-number f e = omega (arith, refusal-number f .1)
 
 -- ---- the run
 
-module _ (text dev out : List ℕ) where
-  abbrev ran : Ran State
-  ran = runChecked engine text dev out fullestOutcome
+module _ (text dev out sheet : List ℕ) where
+  abbrev halted : Ran State
+  halted = runChecked text dev out sheet fullestOutcome
 
   -- a refused run is all that is listed
-  ran-refused : (n : ℕ) (f : Refusal) → ran ≡ refused (line n f) → listingFrom text dev out ≡ refusalLine (number f) n
+  ran-refused : (n : ℕ) (f : Refusal) → halted ≡ refused (line n f) → listingFrom text dev out sheet ≡ refusalLine (number f) n
   unfolding listingFrom listed printed bytes
   ran-refused n f e = rw e
 
-  ran-ok : (h : Halt State) (d : Device) → ran ≡ ok h → D.decode dev ≡ some d → listingFrom text dev out ≡ printed (closedListing (h .visited) (h .tried) d (h .state))
+  ran-ok : (h : Halt State) (d : Device) → halted ≡ ok h → D.decode dev ≡ some d → listingFrom text dev out sheet ≡ printed (closedListing (h .visited) (h .tried) d (h .state))
   unfolding listingFrom listed
   ran-ok h d e f = rw (e, f)
 
   -- the state that a run leaves is sound beside its device
   abbrev pub Ends : Halt State → Type 0
-  Ends h = (d : Device) × (D.decode dev ≡ some d) × engine-laws .Good d (h .state)
+  Ends h = (d : Device) × (D.decode dev ≡ some d) × O.Good (length (chain d)) (h .state)
 
   rules-end : Bytes out → (rs : List (Placed Rule)) → readText reader text ≡ ok rs → (d : Device) → D.decode dev ≡ some d
-      → (s : State) → decodeFor d out ≡ some s → Holds Ends (runFrom engine d next s rs)
+      → (s : State) → decodeFor d out ≡ some s → (a : Sheet) → Sheets.Good a → Holds Ends (runFrom (engine a) d next s rs)
   unfolding rulesOf
-  rules-end by rs e d f s g =
-      let t = read engine text rs e in
+  rules-end by rs e d f s g a ag =
+      let t = read (engine a) text rs e in
       rw (t .same)
-      (holds-map (sound.Sound engine engine-laws d) Ends (runFrom engine d next s (rulesOf reader text))
-      (run-sound engine engine-laws d (rulesOf reader text) next s tt (t .parts .settled) (lines-read engine (lines text)) (engine-laws .starts by f g))
-      (λ h w. (d, f, w .good)))
+      (holds-map (sound.Sound (engine a) (engine-laws a ag) d) Ends (runFrom (engine a) d next s (rulesOf reader text))
+      (run-sound (engine a) (engine-laws a ag) d (rulesOf reader text) next s tt (t .parts .settled) (lines-read (engine a) (lines text)) (engine-laws a ag .starts by f g))
+      (λ h w. (d, f, engine-good a ag d (h .state) (w .good))))
 
-  pub run-ends : Bytes out → Holds Ends ran
+  pub run-ends : Bytes out → Bytes sheet → Holds Ends halted
   unfolding runChecked
-  run-ends by =
+  run-ends by bs =
       holds-bind (λ (rs : List (Placed Rule)). readText reader text ≡ ok rs) Ends (readText reader text) _ (holds-self (readText reader text)) λ rs e.
       holds-bind (λ (d : Device). D.decode dev ≡ some d) Ends (found (D.decode dev) (line 0 device-bad)) _ (holds-found (D.decode dev) (line 0 device-bad)) λ d f.
       holds-bind (λ (s : State). decodeFor d out ≡ some s) Ends (found (decodeFor d out) (line 0 outcome-bad)) _ (holds-found (decodeFor d out) (line 0 outcome-bad)) λ s g.
-      rules-end by rs e d f s g
+      holds-bind (λ (a : Sheet). Sheets.decode sheet ≡ some a) Ends (found (Sheets.decode sheet) (line 0 sheet-bad)) _ (holds-found (Sheets.decode sheet) (line 0 sheet-bad)) λ a k.
+      rules-end by rs e d f s g a (sheets.back sheet a bs k .good)
 
   -- by what the run gives back
-  module _ (g : Given) (bs : List ℕ) (e : answered g bs ≡ operations.run text dev out fullestOutcome) where
-    pub run-refused : (g .number ≡ 0 → ⊥) → refusalLine (g .number) (g .line) ≡ listingFrom text dev out
-    unfolding runs.run runs.answer
-    run-refused z = go ran refl e
+  module _ (g : Given) (bs : List ℕ) (e : answered g bs ≡ operations.run text dev out sheet fullestOutcome) where
+    pub run-refused : (g .number ≡ 0 → ⊥) → refusalLine (g .number) (g .line) ≡ listingFrom text dev out sheet
+    unfolding operations.run operations.ran
+    run-refused z = go halted refl e
       where
-        go : (c : Ran State) → ran ≡ c → answered g bs ≡ runs.answer engine fullestOutcome c → refusalLine (g .number) (g .line) ≡ listingFrom text dev out
+        go : (c : Ran State) → halted ≡ c → answered g bs ≡ operations.ran fullestOutcome c → refusalLine (g .number) (g .line) ≡ listingFrom text dev out sheet
         go (refused (line n f)) q a = rw (ap (λ (x : runs.Answer). x .number) a, ap (λ (x : runs.Answer). x .line) a) (sym (ran-refused n f q))
         go (ok h) q a = absurd (z (ap (λ (x : runs.Answer). x .number) a))
 
     -- what is left for the close: the device and the state, and what is then listed
     abbrev Leaves : Type 0
-    Leaves = (d : Device) × (s : State) × LeftBy dev bs (g .used) d s × (listingFrom text dev out ≡ printed (closedListing (g .visited) (g .tried) d s))
+    Leaves = (d : Device) × (s : State) × LeftBy dev bs (g .used) d s × (listingFrom text dev out sheet ≡ printed (closedListing (g .visited) (g .tried) d s))
 
-    pub run-left : Bytes out → length bs ≡ fullestOutcome → g .number ≡ 0 → Leaves
-    unfolding runs.run runs.answer
-    run-left by len z = go ran refl e
+    pub run-left : Bytes out → Bytes sheet → length bs ≡ fullestOutcome → g .number ≡ 0 → Leaves
+    unfolding operations.run operations.ran
+    run-left by ss len z = go halted refl e
       where
-        go : (c : Ran State) → ran ≡ c → answered g bs ≡ runs.answer engine fullestOutcome c → Leaves
+        go : (c : Ran State) → halted ≡ c → answered g bs ≡ operations.ran fullestOutcome c → Leaves
         go (refused (line n f)) q a = absurd (no-number f (sym (ap (λ (x : runs.Answer). x .number) a) ∙ z))
         go (ok h) q a =
-            let (d, f, w) = holds-at Ends q (run-ends by) in
+            let (d, f, w) = holds-at Ends q (run-ends by ss) in
             let u : g .used ≡ length (encode (h .state)) = ap (λ (x : runs.Answer). x .used) a in
             let b : bs ≡ encode (h .state) ++ replicate (length bs - length (encode (h .state))) 0 =
             ap (λ (x : runs.Answer). x .bytes) a ∙ ap (λ (k : ℕ). encode (h .state) ++ replicate (k - length (encode (h .state))) 0) (sym len) in (
               d,
               h .state,
-              record { device = f; held = record { good = engine-good d (h .state) w; bytes = b; layout = refl; room = omega (arith, len) }; end = u },
+              record { device = f; held = record { good = w; bytes = b; layout = refl; room = omega (arith, len) }; end = u },
               ran-ok h d q f ∙ ap (λ (x : runs.Answer). printed (closedListing (x .visited) (x .tried) d (h .state))) (sym a),
             )
 
@@ -146,7 +149,7 @@ module _ (text dev out : List ℕ) where
 
 module _ (dev t : List ℕ) (used : ℕ) (d : Device) (s : State) (w : LeftBy dev t used d s) where
   abbrev made : Checked Refusal (List Command)
-  made = commands d (s .properties) (s .runs)
+  made = commands d (s .properties) (s .output) (s .runs)
 
   -- the record stands at the front of the target
   pub left-record : take used t ≡ encode s
@@ -184,7 +187,7 @@ module _ (dev t : List ℕ) (used : ℕ) (d : Device) (s : State) (w : LeftBy de
             → (cs : List Command) × (made ≡ ok cs) × Made list cs
         go (refused f) q a = absurd (no-number f (sym (ap (λ (x : runs.Answer). x .number) a) ∙ z))
         go (ok cs) q a =
-            let m = holds-at (sizes.Made (length (s .runs))) q (commands-made d (s .properties) (s .runs)) in (
+            let m = holds-at (sizes.Made (length (s .runs))) q (commands-made d (s .properties) (s .output) (s .runs)) in (
               cs,
               q,
               record {

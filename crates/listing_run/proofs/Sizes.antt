@@ -27,10 +27,8 @@ use Rattle.device.specs.Device.{Device, chain}
 use Rattle.outcome.specs.Content.{okLink, okOwner, okName}
 use Rattle.outcome.specs.State as O
 use Rattle.outcome.specs.State.{State, okTag}
-use Rattle.text.specs.Run.{runChecked}
-use Rattle.engine.specs.Operations.{engine, Command, commands}
+use Rattle.engine.specs.Operations.{runChecked, Command, commands}
 use Rattle.engine.specs.Listing.{shownByte, hex, escaped, signed, fourOctal, lineOf, modeLine, setLine, watchLine, envLine, commandLine, listingOf, listed, printed, listingFrom}
-use Rattle.engine.proofs.Laws.{engine-good}
 use Rattle.engine.proofs.Sizes.{Made, shortText, commands-made}
 use Rattle.listing_run.proofs.Laws.{Ends, run-ends}
 
@@ -150,13 +148,13 @@ unfolding printed
 printed-size (refused (line n f)) h = omega (arith, refusal-size n f)
 printed-size (ok l) h = h
 
-pub listing-fits : (text dev out : List ℕ) → Bytes out → length (listingFrom text dev out) ≤ 86873
+pub listing-fits : (text dev out sheet : List ℕ) → Bytes out → Bytes sheet → length (listingFrom text dev out sheet) ≤ 86873
 unfolding listingFrom listed
-listing-fits text dev out by =
+listing-fits text dev out sheet by bs =
     let Q : List ℕ → Type 0 = λ l. length l ≤ 86873 in
-    printed-size (listed text dev out)
-    (holds-bind (Ends text dev out) Q (runChecked engine text dev out fullestOutcome) _ (run-ends text dev out by) λ h w.
+    printed-size (listed text dev out sheet)
+    (holds-bind (Ends text dev out sheet) Q (runChecked text dev out sheet fullestOutcome) _ (run-ends text dev out sheet by bs) λ h w.
     holds-bind (λ (d : Device). D.decode dev ≡ some d) Q (found (D.decode dev) (line 0 device-bad)) _ (holds-found (D.decode dev) (line 0 device-bad)) λ d f.
-    holds-bind (Made (length (h .state .runs))) Q (onLine 0 (commands d (h .state .properties) (h .state .runs))) _
-    (holds-onLine (Made (length (h .state .runs))) 0 (commands d (h .state .properties) (h .state .runs)) (commands-made d (h .state .properties) (h .state .runs))) λ cs m.
-    listing-size (h .visited) (h .tried) (length (chain (w .0))) (h .state) cs (engine-good (w .0) (h .state) (w .2)) m)
+    holds-bind (Made (length (h .state .runs))) Q (onLine 0 (commands d (h .state .properties) (h .state .output) (h .state .runs))) _
+    (holds-onLine (Made (length (h .state .runs))) 0 (commands d (h .state .properties) (h .state .output) (h .state .runs)) (commands-made d (h .state .properties) (h .state .output) (h .state .runs))) λ cs m.
+    listing-size (h .visited) (h .tried) (length (chain (w .0))) (h .state) cs (w .2) m)

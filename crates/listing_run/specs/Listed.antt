@@ -41,7 +41,7 @@ Left dev t used = (d : Device) × (s : State) × LeftBy dev t used d s
 
 -- the listing of a state beside its commands, if they can be made
 abbrev pub closedListing : ℕ → ℕ → Device → State → Checked (Placed Refusal) (List ℕ)
-closedListing visited tried d s = onLine 0 (commands d (s .properties) (s .runs)) >>= λ cs. ok (listingOf visited tried s cs)
+closedListing visited tried d s = onLine 0 (commands d (s .properties) (s .output) (s .runs)) >>= λ cs. ok (listingOf visited tried s cs)
 
 abbrev pub OfLeft : ℕ → ℕ → List ℕ → List ℕ → ℕ → List ℕ → Put → List ℕ → Type 0
 OfLeft visited tried dev t used o r o₁ = (d : Device) (s : State) → LeftBy dev t used d s → Appended (printed (closedListing visited tried d s)) o 0 r o₁

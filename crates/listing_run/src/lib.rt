@@ -45,12 +45,12 @@ fn list_closed(
     put_both(out, visited, tried, t, layout, &list)
 }
 
-// From an outcome record.
-pub fn list_from(text: &[u8], device: &[u8], outcome: &[u8], out: &mut [u8]) -> Put
-    ensures { λ r. ⌜ Appended (listingFrom (now (text .entry)) (now (device .entry)) (now (outcome .entry))) (now (out .entry)) 0 r (now (out .exit)) ⌝ }
+// From an outcome record, with an answer sheet.
+pub fn list_from(text: &[u8], device: &[u8], outcome: &[u8], sheet: &[u8], out: &mut [u8]) -> Put
+    ensures { λ r. ⌜ Appended (listingFrom (now (text .entry)) (now (device .entry)) (now (outcome .entry)) (now (sheet .entry))) (now (out .entry)) 0 r (now (out .exit)) ⌝ }
 {
     let mut target: [u8; outcome_target::FULLEST] = [0; outcome_target::FULLEST];
-    let ran = run::run(text, device, outcome, &mut target);
+    let ran = run::run(text, device, outcome, sheet, &mut target);
     if ran.number != 0 {
         return listing_lines::put_refusal_line(out, Put::Done(0), ran.number, ran.line);
     }
@@ -65,11 +65,11 @@ pub fn list_from(text: &[u8], device: &[u8], outcome: &[u8], out: &mut [u8]) -> 
 }
 
 // From the fresh outcome record of the device.
-pub fn list(text: &[u8], device: &[u8], out: &mut [u8]) -> Put
-    ensures { λ r. ⌜ Appended (listing (now (text .entry)) (now (device .entry))) (now (out .entry)) 0 r (now (out .exit)) ⌝ }
+pub fn list(text: &[u8], device: &[u8], sheet: &[u8], out: &mut [u8]) -> Put
+    ensures { λ r. ⌜ Appended (listing (now (text .entry)) (now (device .entry)) (now (sheet .entry))) (now (out .entry)) 0 r (now (out .exit)) ⌝ }
 {
     let mut outcome: [u8; outcome_target::FULLEST] = [0; outcome_target::FULLEST];
     let made = fresh::fresh(device, &mut outcome);
     let used = made.used as usize;
-    list_from(text, device, &outcome[..used], out)
+    list_from(text, device, &outcome[..used], sheet, out)
 }

@@ -13,7 +13,7 @@ use Rattle.device.specs.Device.{Device, chain, decode}
 use Rattle.spillfinch.specs.Exports.{RunGives}
 use Rattle.spillfinch.specs.Joined.{visitedIn, triedIn}
 
-pub record Counted (text dev out : List ℕ) (room : ℕ) (written target : List ℕ) : Type 0 where
+pub record Counted (text dev out sheet : List ℕ) (room : ℕ) (written target : List ℕ) : Type 0 where
   -- no more rules are visited than the text has
   pub visited : (rs : List (Placed Rule)) → readText reader text ≡ ok rs → visitedIn written ≤ length rs
   -- document 02, Item 9: for each of them no more devices are tried than the chain has
@@ -21,4 +21,4 @@ pub record Counted (text dev out : List ℕ) (room : ℕ) (written target : List
 
 -- of every call, refused or not
 abbrev pub Counts : Type 0
-Counts = (text dev out : List ℕ) (room : ℕ) (written target : List ℕ) → RunGives text dev out room written target → Counted text dev out room written target
+Counts = (text dev out sheet : List ℕ) (room : ℕ) (written target : List ℕ) → RunGives text dev out sheet room written target → Counted text dev out sheet room written target

@@ -1,4 +1,5 @@
--- Document 01, Joined texts, of the exported functions: what their calls write for texts, for their join and for the pieces of a text.
+-- Document 01, Joined texts, of the exported functions: what their calls write for texts, for their join and for the pieces of a text,
+-- with one answer sheet in all of them (document 02, Item 6).
 -- Assumes nothing.
 use Prim.Native.Nat.{ℕ, zero, suc, _+_, _≤_}
 use mathlib.Core.Path.{_≡_}
@@ -18,6 +19,8 @@ use Rattle.rules.specs.Reading.{reader}
 use Rattle.device.specs.Device as D
 use Rattle.device.specs.Device.{Device}
 use Rattle.outcome.specs.State.{State}
+use Rattle.sheet.specs.Sheet as Sheets
+use Rattle.sheet.specs.Sheet.{Sheet}
 use Rattle.engine.specs.Operations.{engine, decodeFor}
 use Rattle.spillfinch.specs.Exports.{CheckGives, RunGives}
 
@@ -61,10 +64,10 @@ back c =
       left = take (usedIn (c .written)) (c .target);
     }
 
--- beside a device record, from an outcome record, with full room
-pub record Ran (dev out : List ℕ) (c : Call) : Type 0 where
+-- beside a device record, from an outcome record, with a sheet and full room
+pub record Ran (dev sheet out : List ℕ) (c : Call) : Type 0 where
   pub room : fullestOutcome ≤ length (c .target)
-  pub gives : RunGives (c .text) dev out (length (c .target)) (c .written) (c .target)
+  pub gives : RunGives (c .text) dev out sheet (length (c .target)) (c .written) (c .target)
 
 -- ---- calls one after another
 
@@ -74,20 +77,20 @@ followed zero others last = others
 followed (suc k) others last = last
 
 -- a call for each text, each from what the one before left; none behind a refused one
-abbrev pub InTurn : List ℕ → List ℕ → List (List ℕ) → List Call → Type 0
-InTurn dev out [] [] = Unit {0}
-InTurn dev out [] (c ∷ cs) = ⊥
-InTurn dev out (t ∷ ts) [] = ⊥
-InTurn dev out (t ∷ ts) (c ∷ cs) =
-    (c .text ≡ t) × Ran dev out c × followed (numberIn (c .written)) (InTurn dev (back c .left) ts cs) (cs ≡ [])
+abbrev pub InTurn : List ℕ → List ℕ → List ℕ → List (List ℕ) → List Call → Type 0
+InTurn dev sheet out [] [] = Unit {0}
+InTurn dev sheet out [] (c ∷ cs) = ⊥
+InTurn dev sheet out (t ∷ ts) [] = ⊥
+InTurn dev sheet out (t ∷ ts) (c ∷ cs) =
+    (c .text ≡ t) × Ran dev sheet out c × followed (numberIn (c .written)) (InTurn dev sheet (back c .left) ts cs) (cs ≡ [])
 
 -- what they give together: what the last one gave, with the counts of all, or its refusal with its line counted on;
 -- v rules visited, w devices tried (document 02, Item 9) and n newlines before
-abbrev pub together : ℕ → ℕ → ℕ → List ℕ → List Call → Given
-together v w n out [] = record { number = 0; line = 0; visited = v; tried = w; used = length out; left = out }
-together v w n out (c ∷ cs) =
-    onward engine (numberIn (c .written))
-    (together (v + visitedIn (c .written)) (w + triedIn (c .written)) (n + newlines (c .text)) (back c .left) cs)
+abbrev pub together : Sheet → ℕ → ℕ → ℕ → List ℕ → List Call → Given
+together a v w n out [] = record { number = 0; line = 0; visited = v; tried = w; used = length out; left = out }
+together a v w n out (c ∷ cs) =
+    onward (engine a) (numberIn (c .written))
+    (together a (v + visitedIn (c .written)) (w + triedIn (c .written)) (n + newlines (c .text)) (back c .left) cs)
     (record { number = numberIn (c .written); line = n + lineIn (c .written); visited = 0; tried = 0; used = 0; left = [] })
 
 -- ---- the demand
@@ -107,18 +110,23 @@ pub record Sound (dev out : List ℕ) : Type 0 where
   pub read : D.decode dev ≡ some device
   pub held : decodeFor device out ≡ some state
 
-pub record Demand3 : Type 0 where
+-- of the calls with one sheet
+pub record WithSheet (sheet : List ℕ) (a : Sheet) : Type 0 where
   -- the check accepts the join of accepted texts
   pub join-checked : (ts : List (List ℕ)) → Fit ts → Checked (join ts)
   -- one call for the join gives what the calls for its texts one after another give together
-  pub join-run : (ts : List (List ℕ)) → Fit ts → (dev out : List ℕ) → Sound dev out → (cs : List Call) → InTurn dev out ts cs
-      → (c : Call) → c .text ≡ join ts → Ran dev out c → back c ≡ together 0 0 0 out cs
+  pub join-run : (ts : List (List ℕ)) → Fit ts → (dev out : List ℕ) → Sound dev out → (cs : List Call) → InTurn dev sheet out ts cs
+      → (c : Call) → c .text ≡ join ts → Ran dev sheet out c → back c ≡ together a 0 0 0 out cs
   -- the check accepts all pieces of an accepted text, cut only behind newlines that join nothing, if and only if no jump, taken or not,
   -- crosses a cut
   pub cut-checked : (t : List ℕ) (rs : List (Placed Rule)) → readText reader t ≡ ok rs
-      → (ps : List (List ℕ)) → Cuttable ps → join ps ≡ t → All Checked ps ↔ NoCrossing (cuts 0 ps) (jumps engine rs)
+      → (ps : List (List ℕ)) → Cuttable ps → join ps ≡ t → All Checked ps ↔ NoCrossing (cuts 0 ps) (jumps (engine a) rs)
   -- and then the calls for its pieces give together what one call for the text gives
   pub cut-run : (t : List ℕ) (rs : List (Placed Rule)) → readText reader t ≡ ok rs
-      → (ps : List (List ℕ)) → Cuttable ps → join ps ≡ t → NoCrossing (cuts 0 ps) (jumps engine rs)
-      → (dev out : List ℕ) → Sound dev out → (cs : List Call) → InTurn dev out ps cs
-      → (c : Call) → c .text ≡ t → Ran dev out c → back c ≡ together 0 0 0 out cs
+      → (ps : List (List ℕ)) → Cuttable ps → join ps ≡ t → NoCrossing (cuts 0 ps) (jumps (engine a) rs)
+      → (dev out : List ℕ) → Sound dev out → (cs : List Call) → InTurn dev sheet out ps cs
+      → (c : Call) → c .text ≡ t → Ran dev sheet out c → back c ≡ together a 0 0 0 out cs
+
+-- for every sound sheet
+abbrev pub Demand3 : Type 0
+Demand3 = (sheet : List ℕ) (a : Sheet) → Bytes sheet → Sheets.decode sheet ≡ some a → WithSheet sheet a

@@ -75,12 +75,13 @@ pub extern "C" fn spillfinch_run(
     text: &[u8],
     device: &[u8],
     outcome: &[u8],
+    sheet: &[u8],
     target: &mut [u8],
     answer: &mut [u32; 8],
 )
-    ensures { λ _. ⌜ RunGives (now (text .entry)) (now (device .entry)) (now (outcome .entry)) (length (now (target .entry))) (now (answer .exit)) (now (target .exit)) ⌝ }
+    ensures { λ _. ⌜ RunGives (now (text .entry)) (now (device .entry)) (now (outcome .entry)) (now (sheet .entry)) (length (now (target .entry))) (now (answer .exit)) (now (target .exit)) ⌝ }
 {
-    put_answer(run::run(text, device, outcome, target), answer);
+    put_answer(run::run(text, device, outcome, sheet, target), answer);
 }
 
 #[no_mangle]

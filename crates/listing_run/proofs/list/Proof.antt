@@ -1,5 +1,7 @@
 -- `listing_run::list` meets its contract.
 -- Assumes nothing.
+use Prim.Native.Nat.{ℕ}
+use mathlib.Core.List.{List}
 use lib.Seq.{length-take-le}
 use mathlib.Core.Path.{sym, ap}
 use Rattle.engine.specs.Listing.{listingFrom, listing}
@@ -19,10 +21,17 @@ cast-used : tie.Need-cast-used
 cast-used c = search needs
 
 array-share-prefix-outcome : tie.Need-array-share-prefix-outcome
-array-share-prefix-outcome c = omega (arith, fresh-within (c .before .before .before .before .before .before .before .args .device .now) (c .before .before .fresh .result) (c .before .before .fresh .last .1 .0) (c .before .before .fresh .ensures), c .before .before .fresh .kept .1 .0)
+array-share-prefix-outcome c =
+    let a = c .before .before .before .before .before .before .before .before .args in
+    let fresh = c .before .before .fresh in
+    omega (arith, fresh-within (a .device .now) (fresh .result) (fresh .last .1 .0) (fresh .ensures), fresh .kept .1 .0)
 
 slice-aggregate-list-from : tie.Need-slice-aggregate-list-from
-slice-aggregate-list-from c = sym (length-take-le (c .before .before .before .fresh .result .used) (c .before .before .before .fresh .last .1 .0) (omega (arith, fresh-within (c .before .before .before .before .before .before .before .before .args .device .now) (c .before .before .before .fresh .result) (c .before .before .before .fresh .last .1 .0) (c .before .before .before .fresh .ensures), c .before .before .before .fresh .kept .1 .0)))
+slice-aggregate-list-from c =
+    let a = c .before .before .before .before .before .before .before .before .before .args in
+    let fresh = c .before .before .before .fresh in
+    sym (length-take-le (fresh .result .used) (fresh .last .1 .0)
+    (omega (arith, fresh-within (a .device .now) (fresh .result) (fresh .last .1 .0) (fresh .ensures), fresh .kept .1 .0)))
 
 list-from-requires : tie.Need-list-from-requires
 list-from-requires c κs = search needs
@@ -32,7 +41,13 @@ same-length c = search needs
 
 returns : tie.Need-returns
 unfolding listing
-returns c = appended-is _ _ (c .before .before .before .before .before .before .before .before .before .before .before .before .args .out .now) (c .before .before .list-from .last .1 .1 .1 .0) (c .before .before .list-from .result) (ap (listingFrom (c .before .before .before .before .before .before .before .before .before .before .before .before .args .text .now) (c .before .before .before .before .before .before .before .before .before .before .before .before .args .device .now)) (fresh-record (c .before .before .before .before .before .before .before .before .before .before .before .before .args .device .now) (c .before .before .before .before .before .before .before .fresh .result) (c .before .before .before .before .before .before .before .fresh .last .1 .0) (c .before .before .before .before .before .before .before .fresh .ensures))) (c .before .before .list-from .ensures)
+returns c =
+    let a = c .before .before .before .before .before .before .before .before .before .before .before .before .before .args in
+    let fresh = c .before .before .before .before .before .before .before .fresh in
+    let list-from = c .before .before .list-from in
+    appended-is _ _ (a .out .now) (list-from .last .1 .1 .1 .1 .0) (list-from .result)
+    (ap (λ (x : List ℕ). listingFrom (a .text .now) (a .device .now) x (a .sheet .now)) (fresh-record (a .device .now) (fresh .result) (fresh .last .1 .0) (fresh .ensures)))
+    (list-from .ensures)
 
 pub list-spec : {M : Type 1} → statement M
 list-spec =

@@ -22,7 +22,15 @@ same-length : tie.Need-same-length
 same-length c = search needs
 
 returns : tie.Need-returns
-returns c = appended-is (refusalLine (c .before .before .before .before .before .before .before .run .result .number) (c .before .before .before .before .before .before .before .run .result .line)) (listingFrom (c .before .before .before .before .before .before .before .before .before .before .before .before .before .args .text .now) (c .before .before .before .before .before .before .before .before .before .before .before .before .before .args .device .now) (c .before .before .before .before .before .before .before .before .before .before .before .before .before .args .outcome .now)) (c .before .before .before .before .before .before .before .before .before .before .before .before .before .args .out .now) (c .before .before .put-refusal-line .last .0) (c .before .before .put-refusal-line .result) (run-refused (c .before .before .before .before .before .before .before .before .before .before .before .before .before .args .text .now) (c .before .before .before .before .before .before .before .before .before .before .before .before .before .args .device .now) (c .before .before .before .before .before .before .before .before .before .before .before .before .before .args .outcome .now) (c .before .before .before .before .before .before .before .run .result) (c .before .before .before .before .before .before .before .run .last .1 .1 .1 .0) (c .before .before .before .before .before .before .before .run .ensures) (c .before .before .before .before .if1 .taken)) (from-start (refusalLine (c .before .before .before .before .before .before .before .run .result .number) (c .before .before .before .before .before .before .before .run .result .line)) (c .before .before .before .before .before .before .before .before .before .before .before .before .before .args .out .now) (c .before .before .put-refusal-line .last .0) (c .before .before .put-refusal-line .result) (c .before .before .put-refusal-line .ensures .1))
+returns c =
+    let a = c .before .before .before .before .before .before .before .before .before .before .before .before .before .before .args in
+    let run = c .before .before .before .before .before .before .before .run in
+    let put = c .before .before .put-refusal-line in
+    let said = refusalLine (run .result .number) (run .result .line) in
+    appended-is said (listingFrom (a .text .now) (a .device .now) (a .outcome .now) (a .sheet .now)) (a .out .now) (put .last .0) (put .result)
+    (run-refused (a .text .now) (a .device .now) (a .outcome .now) (a .sheet .now) (run .result) (run .last .1 .1 .1 .1 .0) (run .ensures)
+    (c .before .before .before .before .if1 .taken))
+    (from-start said (a .out .now) (put .last .0) (put .result) (put .ensures .1))
 
 slice-aggregate-list-closed : tie.Need-slice-aggregate-list-closed
 slice-aggregate-list-closed c = search needs
@@ -31,13 +39,33 @@ cast-list-closed : tie.Need-cast-list-closed
 cast-list-closed c = search needs
 
 list-closed-requires : tie.Need-list-closed-requires
-list-closed-requires c κs = let (d, s, w, e) = run-left (c .before .before .before .before .before .before .before .before .before .before .before .before .args .text .now) (c .before .before .before .before .before .before .before .before .before .before .before .before .args .device .now) (c .before .before .before .before .before .before .before .before .before .before .before .before .args .outcome .now) (c .before .before .before .before .before .before .run .result) (c .before .before .before .before .before .before .run .last .1 .1 .1 .0) (c .before .before .before .before .before .before .run .ensures) (λ i. c .before .before .before .before .before .before .before .before .before .shared-slice-known3 .given i .fits) (c .before .before .before .before .before .before .run .kept .1 .1 .1 .0) (c .before .before .before .if1 .left) in (d, s, w)
+list-closed-requires c κs =
+    let a = c .before .before .before .before .before .before .before .before .before .before .before .before .before .args in
+    let run = c .before .before .before .before .before .before .run in
+    let (d, s, w, e) =
+    run-left (a .text .now) (a .device .now) (a .outcome .now) (a .sheet .now) (run .result) (run .last .1 .1 .1 .1 .0) (run .ensures)
+    (λ i. c .before .before .before .before .before .before .before .before .before .before .shared-slice-known3 .given i .fits) (λ i. c .before .before .before .before .before .before .before .before .before .shared-slice-known4 .given i .fits)
+    (run .kept .1 .1 .1 .1 .0) (c .before .before .before .if1 .left)
+    in
+    (d, s, w)
 
 same-length-2 : tie.Need-same-length-2
 same-length-2 c = search needs
 
 returns-2 : tie.Need-returns-2
-returns-2 c = let (d, s, w, e) = run-left (c .before .before .before .before .before .before .before .before .before .before .before .before .before .before .before .args .text .now) (c .before .before .before .before .before .before .before .before .before .before .before .before .before .before .before .args .device .now) (c .before .before .before .before .before .before .before .before .before .before .before .before .before .before .before .args .outcome .now) (c .before .before .before .before .before .before .before .before .before .run .result) (c .before .before .before .before .before .before .before .before .before .run .last .1 .1 .1 .0) (c .before .before .before .before .before .before .before .before .before .run .ensures) (λ i. c .before .before .before .before .before .before .before .before .before .before .before .before .shared-slice-known3 .given i .fits) (c .before .before .before .before .before .before .before .before .before .run .kept .1 .1 .1 .0) (c .before .before .before .before .before .before .if1 .left) in appended-is (printed (closedListing (c .before .before .before .before .before .before .before .before .before .run .result .visited) (c .before .before .before .before .before .before .before .before .before .run .result .tried) d s)) (listingFrom (c .before .before .before .before .before .before .before .before .before .before .before .before .before .before .before .args .text .now) (c .before .before .before .before .before .before .before .before .before .before .before .before .before .before .before .args .device .now) (c .before .before .before .before .before .before .before .before .before .before .before .before .before .before .before .args .outcome .now)) (c .before .before .before .before .before .before .before .before .before .before .before .before .before .before .before .args .out .now) (c .before .before .list-closed .last .0) (c .before .before .list-closed .result) (sym e) (c .before .before .list-closed .ensures d s w)
+returns-2 c =
+    let a = c .before .before .before .before .before .before .before .before .before .before .before .before .before .before .before .before .args in
+    let run = c .before .before .before .before .before .before .before .before .before .run in
+    let list-closed = c .before .before .list-closed in
+    let (d, s, w, e) =
+    run-left (a .text .now) (a .device .now) (a .outcome .now) (a .sheet .now) (run .result) (run .last .1 .1 .1 .1 .0) (run .ensures)
+    (λ i. c .before .before .before .before .before .before .before .before .before .before .before .before .before .shared-slice-known3 .given i .fits)
+    (λ i. c .before .before .before .before .before .before .before .before .before .before .before .before .shared-slice-known4 .given i .fits)
+    (run .kept .1 .1 .1 .1 .0) (c .before .before .before .before .before .before .if1 .left)
+    in
+    appended-is (printed (closedListing (run .result .visited) (run .result .tried) d s))
+    (listingFrom (a .text .now) (a .device .now) (a .outcome .now) (a .sheet .now)) (a .out .now) (list-closed .last .0) (list-closed .result) (sym e)
+    (list-closed .ensures d s w)
 
 pub list-from-spec : {M : Type 1} → statement M
 list-from-spec =

@@ -16,7 +16,7 @@ same-length : tie.Need-same-length
 same-length c = search needs
 
 returns : tie.Need-returns
-returns c = gives (c .before .before .before .before .run .result) (c .put-answer .last .1 .0) (c .before .before .before .before .run .last .1 .1 .1 .0) _ (c .before .before .before .before .run .ensures) (c .put-answer .ensures)
+returns c = gives (c .before .before .before .before .run .result) (c .put-answer .last .1 .0) (c .before .before .before .before .run .last .1 .1 .1 .1 .0) _ (c .before .before .before .before .run .ensures) (c .put-answer .ensures)
 
 pub spillfinch-run-spec : {M : Type 1} → statement M
 spillfinch-run-spec = tie.close (tie.spec run-requires put-answer-requires same-length returns)
