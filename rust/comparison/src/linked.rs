@@ -30,7 +30,8 @@ fn call(request: &Request, written: &mut Written, answer: &mut AnswerArray) {
             text,
             device,
             outcome,
-        } => calls::run(text, device, outcome, target, answer),
+            sheet,
+        } => calls::run(text, device, outcome, sheet, target, answer),
         Request::Close { device, outcome } => calls::close(device, outcome, target, answer),
         Request::Contest { set } => calls::contest(set, target, answer),
         Request::Write { text } => calls::write(text, target, answer),
@@ -54,10 +55,12 @@ impl Engine for LinkedApart {
                 text,
                 device,
                 outcome,
+                sheet,
             } => call(Request::Run {
                 text: &own(text),
                 device: &own(device),
                 outcome: &own(outcome),
+                sheet: &own(sheet),
             }),
             Request::Close { device, outcome } => call(Request::Close {
                 device: &own(device),

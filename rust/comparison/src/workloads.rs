@@ -2,14 +2,17 @@
 
 use reference::device::Device;
 use reference::generate::{fullest, Case, Extra, Rooms};
+use reference::sheet::SheetEntry;
 use reference::text_form::parse_device;
-use reference::{sizes, Outcome};
+use reference::{sizes, Outcome, Sheet};
 
 pub struct Workload {
     pub name: &'static str,
     pub text: Vec<u8>,
     /// The record that its run starts from.
     pub outcome: Outcome,
+    /// What its programs say.
+    pub sheet: Sheet,
 }
 
 impl Workload {
@@ -24,6 +27,7 @@ impl Workload {
             text: self.text.clone(),
             device: counter().encode(),
             outcome: self.outcome.encode(),
+            sheet: self.sheet.encode(),
             rooms: Rooms {
                 fresh: sizes::OUTCOME_TARGET,
                 run: sizes::OUTCOME_TARGET,
@@ -62,6 +66,7 @@ pub fn workloads() -> Vec<Workload> {
         short_lines(),
         short_pairs(),
         full_record(),
+        programs(),
         one_rule(),
         ten_rules(),
         full_start(),
@@ -96,6 +101,7 @@ fn workload(name: &'static str, text: Vec<u8>) -> Workload {
         name,
         text,
         outcome: Outcome::fresh(&counter()),
+        sheet: Sheet::default(),
     }
 }
 
@@ -265,6 +271,34 @@ fn full_record() -> Workload {
     )
 }
 
+/// One command a rule, each of the 64 of a full sheet in turn; all succeed.
+fn programs() -> Workload {
+    let text = text_of(sizes::RULES, |i| {
+        let command = command(i % sizes::SHEET_ENTRIES);
+        format!(r#"PROGRAM=="{command}", TAG+="t""#)
+    });
+    Workload {
+        sheet: full_sheet(),
+        ..workload("programs", text)
+    }
+}
+
+fn command(number: usize) -> String {
+    format!("/usr/bin/say {number:02}")
+}
+
+/// As many entries as there may be, with outputs that fill the sheet.
+fn full_sheet() -> Sheet {
+    let entry = |number: usize| SheetEntry {
+        command: command(number).into_bytes(),
+        success: true,
+        output: vec![b'o'; if number == 0 { 493 } else { 494 }],
+    };
+    Sheet {
+        entries: (0..sizes::SHEET_ENTRIES).map(entry).collect(),
+    }
+}
+
 /// One rule, which holds.
 fn one_rule() -> Workload {
     workload("one_rule", text_of(1, |_| link_of("ttyUSB0", "t0")))
@@ -327,11 +361,19 @@ mod tests {
                 name,
                 text,
                 outcome,
+                sheet,
             } = workload;
-            let answer = reference::run(&text, &device, &outcome.encode(), target);
+            let answer = reference::run(&text, &device, &outcome.encode(), &sheet.encode(), target);
             let refused = if name == "jumps_nowhere" { 19 } else { 0 };
             assert_eq!(answer.number, refused, "{name}");
         }
+    }
+
+    #[test]
+    fn the_sheet_of_the_programs_is_full() {
+        let packed = full_sheet().encode();
+        assert_eq!(packed.len(), sizes::SHEET);
+        assert_eq!(Sheet::decode(&packed), Some(full_sheet()));
     }
 
     #[test]

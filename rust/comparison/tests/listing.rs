@@ -9,7 +9,7 @@ use reference::generate::{case, Case};
 use reference::listing;
 use reference::sizes::OUTCOME_TARGET;
 
-const CASES: u64 = 3_000;
+const CASES: u64 = 2_000;
 
 /// Where the program is built.
 fn program() -> PathBuf {
@@ -31,29 +31,31 @@ fn printed(directory: &Path, files: &[&str]) -> Vec<u8> {
     output.stdout
 }
 
-/// Both listings of a case, from the fresh record and from its own, against the reference's.
+/// The listings of a case against the reference's: from the fresh record and from its own, without an answer sheet and with its own.
 fn assert_listed(directory: &Path, case: &Case, name: &str) {
     for (name, bytes) in [
         ("text", &case.text),
         ("device", &case.device),
         ("outcome", &case.outcome),
+        ("sheet", &case.sheet),
     ] {
         fs::write(directory.join(name), bytes).expect("a file of the case");
     }
-    let fresh = printed(directory, &["text", "device"]);
-    assert_eq!(
-        String::from_utf8_lossy(&fresh),
-        String::from_utf8_lossy(&listing(&case.text, &case.device, None)),
-        "{name} ({}), from the fresh record",
-        case.shape
-    );
-    let from = printed(directory, &["text", "device", "outcome"]);
-    assert_eq!(
-        String::from_utf8_lossy(&from),
-        String::from_utf8_lossy(&listing(&case.text, &case.device, Some(&case.outcome))),
-        "{name} ({}), from the outcome record",
-        case.shape
-    );
+    let outcome = Some(&case.outcome[..]);
+    let sheet = Some(&case.sheet[..]);
+    for (files, outcome, sheet) in [
+        (&["text", "device"][..], None, None),
+        (&["text", "device", "outcome"], outcome, None),
+        (&["text", "device", "outcome", "sheet"], outcome, sheet),
+        (&["text", "device", "-", "sheet"], None, sheet),
+    ] {
+        assert_eq!(
+            String::from_utf8_lossy(&printed(directory, files)),
+            String::from_utf8_lossy(&listing(&case.text, &case.device, outcome, sheet)),
+            "{name} ({}), of {files:?}",
+            case.shape
+        );
+    }
 }
 
 /// A directory of a test's own.

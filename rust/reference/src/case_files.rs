@@ -13,6 +13,7 @@ pub fn write_case(directory: &Path, case: &Case) -> io::Result<()> {
     fs::write(directory.join("text"), &case.text)?;
     fs::write(directory.join("device"), &case.device)?;
     fs::write(directory.join("outcome"), &case.outcome)?;
+    fs::write(directory.join("sheet"), &case.sheet)?;
     let mut rooms = format!("fresh {fresh}\nrun {run}\nclose {close}\n");
     match &case.extra {
         Extra::Nothing => {}
@@ -67,6 +68,7 @@ pub fn read_case(directory: &Path) -> io::Result<Case> {
         text: fs::read(directory.join("text"))?,
         device: fs::read(directory.join("device"))?,
         outcome: fs::read(directory.join("outcome"))?,
+        sheet: fs::read(directory.join("sheet"))?,
         rooms: Rooms {
             fresh: room("fresh")?,
             run: room("run")?,

@@ -92,12 +92,14 @@ pub fn run_reply(
     text: &[u8],
     device: &[u8],
     outcome: &[u8],
+    sheet: &[u8],
     room: usize,
 ) -> Reply {
     let request = Request::Run {
         text,
         device,
         outcome,
+        sheet,
     };
     reply(engine, Operation::Run, &request, Written::with_target(room))
 }
@@ -117,6 +119,7 @@ pub fn replies(engine: &dyn Engine, case: &Case) -> Vec<Reply> {
         text,
         device,
         outcome,
+        sheet,
         rooms,
         ..
     } = case;
@@ -129,7 +132,7 @@ pub fn replies(engine: &dyn Engine, case: &Case) -> Vec<Reply> {
             Written::with_target(rooms.close),
         )
     };
-    let run = run_reply(engine, text, device, outcome, rooms.run);
+    let run = run_reply(engine, text, device, outcome, sheet, rooms.run);
     let mut replies = vec![
         check_reply(engine, text),
         reply(

@@ -9,6 +9,9 @@ use crate::template::Template;
 #[derive(Clone, Debug, PartialEq, Eq)]
 pub enum Content {
     Match(Match),
+    /// A match key with each of its operators; the value is the command.
+    Program(Template),
+    Result(Pattern),
     Assignment(Assignment),
     Label(Vec<u8>),
     Goto(Vec<u8>),
@@ -70,6 +73,11 @@ pub fn read_content(
     operator: Operator,
     value: &[u8],
 ) -> Option<Content> {
+    match key {
+        Key::Program => return Template::read(value).map(Content::Program),
+        Key::Result => return Pattern::read(value).map(Content::Result),
+        _ => {}
+    }
     if operator.is_match() {
         let subject = subject(key, argument);
         let pattern = Pattern::read(value)?;
@@ -98,6 +106,7 @@ fn subject(key: Key, argument: &[u8]) -> Subject {
         Key::Env => Subject::Property(argument.to_vec()),
         Key::Symlink => Subject::Links,
         Key::Tag => Subject::Tags,
+        Key::Program | Key::Result => unreachable!("{key:?} is judged on the answer sheet"),
         Key::Owner | Key::Group | Key::Mode | Key::Run | Key::Label | Key::Goto | Key::Options => {
             unreachable!("the key table gives {key:?} no match operator")
         }
@@ -132,7 +141,9 @@ fn read_assignment(key: Key, argument: &[u8], value: &[u8]) -> Option<Assignment
         | Key::Drivers
         | Key::Attr
         | Key::Attrs => unreachable!("the key table gives {key:?} no assignment"),
-        Key::Label | Key::Goto => unreachable!("{key:?} is no assignment"),
+        Key::Program | Key::Result | Key::Label | Key::Goto => {
+            unreachable!("{key:?} is no assignment")
+        }
     })
 }
 

@@ -5,7 +5,7 @@ use std::fmt;
 
 use crate::compare::{first_number, Operation, Reply};
 use crate::content::{Assignment, Content, Match, Subject};
-use crate::device::{Device, EVENT_DEVICE, NO_PLACE};
+use crate::device::{Device, Place, EVENT_DEVICE, NO_PLACE};
 use crate::engine::{
     devices_tried, feature_of, has_parent_keys, holds, is_closed, matched_place, Runner,
 };
@@ -13,7 +13,9 @@ use crate::generate::Case;
 use crate::key::{Key, Operator};
 use crate::lines::lines;
 use crate::outcome::Outcome;
+use crate::program::{program_holds, result_holds};
 use crate::rules::{self, Pair, Rule};
+use crate::sheet::Sheet;
 use crate::template::{Piece, Template};
 
 #[derive(Clone, Debug, Default)]
@@ -58,10 +60,14 @@ pub enum Fact {
     ValueHoldsNewline,
     ValueEndsInBackslash,
     AcceptedTextJoinsLines,
+    ProgramStoresOutput,
+    ProgramStoresOutputThoughRuleFails,
+    FailureHolds,
+    SecondProgramAsked,
 }
 
 impl Fact {
-    pub const ALL: [Fact; 19] = [
+    pub const ALL: &[Fact] = &[
         Fact::AcceptedRunVisitsRules,
         Fact::AcceptedRunSkipsRules,
         Fact::AcceptedRunChangesRecord,
@@ -81,11 +87,16 @@ impl Fact {
         Fact::ValueHoldsNewline,
         Fact::ValueEndsInBackslash,
         Fact::AcceptedTextJoinsLines,
+        Fact::ProgramStoresOutput,
+        Fact::ProgramStoresOutputThoughRuleFails,
+        Fact::FailureHolds,
+        Fact::SecondProgramAsked,
     ];
 }
 
-pub const PIECES: [&str; 10] = [
+pub const PIECES: [&str; 11] = [
     "written", "kernel", "number", "devpath", "id", "driver", "attr", "env", "major", "minor",
+    "result",
 ];
 
 impl Coverage {
@@ -133,9 +144,12 @@ impl Coverage {
         let Some(outcome) = Outcome::decode(&case.outcome, device.chain.len()) else {
             return;
         };
-        let mut runner = Runner::new(&rules, &device, outcome);
+        let Some(sheet) = Sheet::decode(&case.sheet) else {
+            return;
+        };
+        let mut runner = Runner::new(&rules, &device, &sheet, outcome);
         while let Some(rule) = runner.next_rule() {
-            self.see_rule(rule, &device, runner.outcome());
+            self.see_rule(rule, &device, &sheet, runner.outcome());
             let matched = matched_place(rule, &device, runner.outcome());
             if runner.step(rule).is_err() {
                 break;
@@ -168,7 +182,7 @@ impl Coverage {
         }
     }
 
-    fn see_rule(&mut self, rule: &Rule, device: &Device, outcome: &Outcome) {
+    fn see_rule(&mut self, rule: &Rule, device: &Device, sheet: &Sheet, outcome: &Outcome) {
         let matched = matched_place(rule, device, outcome);
         let each_holds = rule
             .pairs
@@ -181,7 +195,8 @@ impl Coverage {
             None => self.fact_if(each_holds, Fact::ParentKeysMatchOnlyApart),
         }
         self.see_search(rule, device, outcome);
-        self.fact_if(matched.is_some() && rule.jump.is_some(), Fact::JumpTaken);
+        let matches = self.see_answers(rule, matched, device, sheet, outcome);
+        self.fact_if(matches && rule.jump.is_some(), Fact::JumpTaken);
         for (_, content) in rule.matches() {
             self.see_features(content, device);
         }
@@ -190,17 +205,65 @@ impl Coverage {
             self.fact_if(pair.value.ends_with(b"\\"), Fact::ValueEndsInBackslash);
             let takes_effect = match &pair.content {
                 Content::Match(_) => pair_holds(pair, device, outcome),
-                _ if matched.is_none() => false,
+                Content::Program(_) | Content::Result(_) => continue,
+                _ if !matches => false,
                 Content::Assignment(assignment) => self.see_assignment(assignment, outcome),
                 Content::Label(_) | Content::Goto(_) => true,
             };
-            let count = self.pairs.entry((pair.key, pair.operator)).or_default();
-            if takes_effect {
-                count.effective += 1;
-            } else {
-                count.without_effect += 1;
+            self.count_pair(pair, takes_effect);
+        }
+    }
+
+    fn count_pair(&mut self, pair: &Pair, takes_effect: bool) {
+        let count = self.pairs.entry((pair.key, pair.operator)).or_default();
+        if takes_effect {
+            count.effective += 1;
+        } else {
+            count.without_effect += 1;
+        }
+    }
+
+    /// Looks at PROGRAM and RESULT; gives whether the rule matches.
+    fn see_answers(
+        &mut self,
+        rule: &Rule,
+        matched: Option<Place>,
+        device: &Device,
+        sheet: &Sheet,
+        outcome: &Outcome,
+    ) -> bool {
+        let mut after = outcome.clone();
+        let mut matches = matched.is_some();
+        let mut asked = 0;
+        for pair in &rule.pairs {
+            let Content::Program(command) = &pair.content else {
+                continue;
+            };
+            if let (Some(matched), true) = (matched, matches) {
+                self.see_template(command);
+                let answer =
+                    program_holds(pair.operator, command, matched, device, sheet, &mut after);
+                matches = answer == Ok(true);
+                asked += 1;
+                let is_unequal = pair.operator == Operator::Unequal;
+                self.fact_if(matches && is_unequal, Fact::FailureHolds);
+            }
+            self.count_pair(pair, matches);
+        }
+        for pair in &rule.pairs {
+            if let Content::Result(pattern) = &pair.content {
+                matches &= result_holds(pair.operator, pattern, &after);
+                self.count_pair(pair, matches);
             }
         }
+        let is_stored = after.output != outcome.output;
+        self.fact_if(asked > 1, Fact::SecondProgramAsked);
+        self.fact_if(is_stored, Fact::ProgramStoresOutput);
+        self.fact_if(
+            is_stored && !matches,
+            Fact::ProgramStoresOutputThoughRuleFails,
+        );
+        matches
     }
 
     fn see_search(&mut self, rule: &Rule, device: &Device, outcome: &Outcome) {
@@ -279,6 +342,7 @@ fn piece_name(piece: &Piece) -> &'static str {
         Piece::Env(_) => "env",
         Piece::Major => "major",
         Piece::Minor => "minor",
+        Piece::Result => "result",
     }
 }
 

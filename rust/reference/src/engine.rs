@@ -6,9 +6,11 @@ use crate::key::Operator;
 use crate::link::{cleaned, is_sound_link, split_names};
 use crate::outcome::{is_sound_owner_or_group, lets_others_write, Outcome, Run};
 use crate::pattern::Pattern;
+use crate::program::programs_and_results_hold;
 use crate::property::{value_of, Property};
 use crate::refusal::{Fault, Refusal};
 use crate::rules::Rule;
+use crate::sheet::Sheet;
 use crate::sizes;
 use crate::template::{Inserted, Sources, Template};
 
@@ -16,6 +18,7 @@ use crate::template::{Inserted, Sources, Template};
 pub struct Runner<'a> {
     rules: &'a [Rule],
     device: &'a Device,
+    sheet: &'a Sheet,
     outcome: Outcome,
     next: usize,
     visited: u32,
@@ -31,10 +34,11 @@ pub struct Finished {
 }
 
 impl<'a> Runner<'a> {
-    pub fn new(rules: &'a [Rule], device: &'a Device, outcome: Outcome) -> Self {
+    pub fn new(rules: &'a [Rule], device: &'a Device, sheet: &'a Sheet, outcome: Outcome) -> Self {
         Runner {
             rules,
             device,
+            sheet,
             outcome,
             next: 0,
             visited: 0,
@@ -56,21 +60,29 @@ impl<'a> Runner<'a> {
         self.visited += 1;
         self.tried += devices_tried(rule, self.device, &self.outcome) as u32;
         self.next += 1;
+        let at_line = |fault: Fault| fault.at_line(rule.line);
         if let Some(matched) = matched_place(rule, self.device, &self.outcome) {
-            let mut assigner = Assigner {
-                device: self.device,
-                matched,
-                string_escape: StringEscape::Unset,
-                outcome: &mut self.outcome,
-            };
-            assigner
-                .assign_all(rule)
-                .map_err(|fault| fault.at_line(rule.line))?;
-            if let Some(target) = rule.jump {
-                self.next = target;
+            if self.answers_hold(rule, matched).map_err(at_line)? {
+                self.assign_all(rule, matched).map_err(at_line)?;
+                self.next = rule.jump.unwrap_or(self.next);
             }
         }
         Ok(())
+    }
+
+    /// Whether the keys hold that the sheet decides.
+    fn answers_hold(&mut self, rule: &Rule, matched: Place) -> Result<bool, Fault> {
+        programs_and_results_hold(rule, matched, self.device, self.sheet, &mut self.outcome)
+    }
+
+    fn assign_all(&mut self, rule: &Rule, matched: Place) -> Result<(), Fault> {
+        let mut assigner = Assigner {
+            device: self.device,
+            matched,
+            string_escape: StringEscape::Unset,
+            outcome: &mut self.outcome,
+        };
+        assigner.assign_all(rule)
     }
 
     /// Runs the rules that are left.
@@ -86,8 +98,8 @@ impl<'a> Runner<'a> {
     }
 }
 
-/// The place that the parent keys matched (none without parent keys), or `None` if the rule
-/// does not match.
+/// The place that the parent keys matched (none without parent keys), or `None` if a match key
+/// other than PROGRAM and RESULT does not hold.
 pub fn matched_place(rule: &Rule, device: &Device, outcome: &Outcome) -> Option<Place> {
     if !other_keys_hold(rule, device, outcome) {
         None
@@ -116,7 +128,7 @@ fn is_parent_key(content: &Match) -> bool {
     matches!(content.subject, Subject::OfChain(_))
 }
 
-/// Whether all match keys but the parent keys hold.
+/// Whether all match keys but the parent keys, PROGRAM and RESULT hold.
 fn other_keys_hold(rule: &Rule, device: &Device, outcome: &Outcome) -> bool {
     // They are the same at every place.
     rule.matches()
@@ -243,6 +255,7 @@ impl Assigner<'_> {
         let sources = Sources {
             device: self.device,
             properties: &self.outcome.properties,
+            output: &self.outcome.output,
             matched: self.matched,
         };
         template

@@ -1,4 +1,5 @@
-//! Generated cases: a rules text, a device record, an outcome record, target lengths, and what else is asked for.
+//! Generated cases: a rules text, a device record, an outcome record, an answer sheet, target
+//! lengths, and what else is asked for.
 
 mod contest_edges;
 mod damage;
@@ -12,6 +13,8 @@ mod patterns;
 pub mod record_sets;
 pub mod rng;
 mod rules_text;
+mod sheet_edges;
+mod sheets;
 mod strike_edges;
 mod struck;
 mod vocabulary;
@@ -38,6 +41,7 @@ pub struct Case {
     pub text: Vec<u8>,
     pub device: Vec<u8>,
     pub outcome: Vec<u8>,
+    pub sheet: Vec<u8>,
     pub rooms: Rooms,
     pub extra: Extra,
 }
@@ -60,8 +64,9 @@ pub fn case(seed: u64) -> Case {
         660..=709 => with_any_pairing(rng),
         710..=799 => return at_an_edge(rng),
         800..=859 => with_damaged_text(rng),
-        860..=909 => with_damaged_device(rng),
-        910..=959 => with_damaged_outcome(rng),
+        860..=899 => with_damaged_device(rng),
+        900..=939 => with_damaged_outcome(rng),
+        940..=959 => with_damaged_sheet(rng),
         960..=979 => of_random_bytes(rng),
         _ => with_small_rooms(rng),
     };
@@ -75,6 +80,7 @@ fn case_of(shape: &str, text: Vec<u8>, world: &World, rng: &mut Rng) -> Case {
         text,
         device: world.device.encode(),
         outcome: world.outcome.encode(),
+        sheet: world.sheet.encode(),
         rooms: enough_room(rng),
         extra: Extra::Nothing,
     }
@@ -122,7 +128,7 @@ fn with_any_pairing(rng: &mut Rng) -> Case {
     let world = world(rng);
     let row = rng.pick_ref(&KEYS);
     let operator = rng.pick(&Operator::ALL);
-    let mut pairs = vec![any_pair(rng, row, operator)];
+    let mut pairs = vec![any_pair(rng, row, operator, &world)];
     if rng.percent(50) {
         pairs.push(assignment_pair(rng, &world));
     }
@@ -131,19 +137,21 @@ fn with_any_pairing(rng: &mut Rng) -> Case {
     case_of(&shape, text, &world, rng)
 }
 
-fn any_pair(rng: &mut Rng, row: &KeyRow, operator: Operator) -> Vec<u8> {
+fn any_pair(rng: &mut Rng, row: &KeyRow, operator: Operator, world: &World) -> Vec<u8> {
     let argument = match row.argument {
         ArgumentRule::None => "",
         ArgumentRule::Name => "{A}",
         ArgumentRule::RunTypeOrNone => rng.pick(&["", "{program}", "{builtin}"]),
     };
+    let command = world.commands.first();
     let value = match row.name {
-        "OPTIONS" => "string_escape=none",
-        "MODE" => "0660",
-        _ => rng.pick(&["a", "root", "b"]),
+        "OPTIONS" => &b"string_escape=none"[..],
+        "MODE" => b"0660",
+        "PROGRAM" => command.map_or(&b"a"[..], |command| &command.template),
+        _ => rng.pick(&[&b"a"[..], b"root", b"b"]),
     };
     let key = [row.name, argument].concat();
-    pair(rng, key.as_bytes(), operator, value.as_bytes())
+    pair(rng, key.as_bytes(), operator, value)
 }
 
 pub fn pairing_shape(row: &KeyRow, operator: Operator) -> String {
@@ -187,12 +195,20 @@ fn with_damaged_outcome(rng: &mut Rng) -> Case {
     case
 }
 
+fn with_damaged_sheet(rng: &mut Rng) -> Case {
+    let mut case = meaningful(rng);
+    case.shape = String::from("damaged sheet");
+    damage(rng, &mut case.sheet);
+    case
+}
+
 fn of_random_bytes(rng: &mut Rng) -> Case {
     let mut case = meaningful(rng);
     case.shape = String::from("random bytes");
-    match rng.below(3) {
+    match rng.below(4) {
         0 => case.text = random_bytes(rng, 400),
-        1 => case.device = random_bytes(rng, 400),
+        1 => case.sheet = random_bytes(rng, 40),
+        2 => case.device = random_bytes(rng, 400),
         _ => case.outcome = random_bytes(rng, 400),
     }
     case

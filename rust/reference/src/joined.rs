@@ -6,12 +6,18 @@ use crate::generate::{Case, Extra, Rooms};
 use crate::rules::{self, Rule};
 use crate::sizes;
 
+/// A run for the device of the list and with its sheet.
+pub fn run_of(engine: &dyn Engine, list: &JoinList, text: &[u8], outcome: &[u8]) -> Reply {
+    let JoinList { device, sheet, .. } = list;
+    run_reply(engine, text, device, outcome, sheet, sizes::OUTCOME_TARGET)
+}
+
 /// The runs of the texts one after the other; a refused one is the last.
 fn runs_in_a_row(engine: &dyn Engine, list: &JoinList) -> Vec<Reply> {
     let mut runs = Vec::new();
     let mut outcome = list.outcome.clone();
     for text in &list.texts {
-        let run = run_reply(engine, text, &list.device, &outcome, sizes::OUTCOME_TARGET);
+        let run = run_of(engine, list, text, &outcome);
         outcome = run.record().to_vec();
         let is_refused = run.number() != 0;
         runs.push(run);
@@ -29,13 +35,7 @@ pub fn check_list(engine: &dyn Engine, list: &JoinList) -> Result<(), String> {
     if check != [0; 8] {
         return Err(format!("the join is refused: {check:?}"));
     }
-    let of_join = run_reply(
-        engine,
-        &join,
-        &list.device,
-        &list.outcome,
-        sizes::OUTCOME_TARGET,
-    );
+    let of_join = run_of(engine, list, &join, &list.outcome);
     let expected = expected_of_join(&runs_in_a_row(engine, list), list);
     let Some(expected) = expected else {
         return Err(String::from("there is no run"));
@@ -101,12 +101,13 @@ pub fn crossing_jump(rules: &[Rule], cut_text: &CutText) -> Option<u32> {
     rules.iter().find(crosses).map(|rule| rule.line)
 }
 
-fn case(shape: &str, text: &[u8], device: &[u8], outcome: &[u8]) -> Case {
+fn case(shape: &str, text: &[u8], list: &JoinList, outcome: &[u8]) -> Case {
     Case {
         shape: shape.to_string(),
         text: text.to_vec(),
-        device: device.to_vec(),
+        device: list.device.clone(),
         outcome: outcome.to_vec(),
+        sheet: list.sheet.clone(),
         rooms: Rooms {
             fresh: sizes::OUTCOME_TARGET,
             run: sizes::OUTCOME_TARGET,
@@ -117,11 +118,12 @@ fn case(shape: &str, text: &[u8], device: &[u8], outcome: &[u8]) -> Case {
 }
 
 pub fn case_of_join(list: &JoinList) -> Case {
-    case("join", &list.texts.concat(), &list.device, &list.outcome)
+    case("join", &list.texts.concat(), list, &list.outcome)
 }
 
 pub fn case_of_cuts(cut_text: &CutText) -> Case {
-    case("cut text", &cut_text.text, &[], &[])
+    let nothing = JoinList::default();
+    case("cut text", &cut_text.text, &nothing, &nothing.outcome)
 }
 
 /// The cases of all runs that a list is about: those in a row, then that of the join.
@@ -133,7 +135,7 @@ pub fn cases_of(engine: &dyn Engine, list: &JoinList) -> Vec<Case> {
     let mut cases: Vec<Case> = list.texts[..runs.len()]
         .iter()
         .zip(starts)
-        .map(|(text, start)| case("joined text", text, &list.device, start))
+        .map(|(text, start)| case("joined text", text, list, start))
         .collect();
     cases.push(case_of_join(list));
     cases

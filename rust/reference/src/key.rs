@@ -15,6 +15,8 @@ pub enum Key {
     Env,
     Symlink,
     Tag,
+    Program,
+    Result,
     Owner,
     Group,
     Mode,
@@ -103,7 +105,7 @@ const fn row(
     }
 }
 
-pub const KEYS: [KeyRow; 20] = [
+pub const KEYS: [KeyRow; 22] = [
     row(Key::Action, "ACTION", ArgumentRule::None, MATCHES),
     row(Key::Devpath, "DEVPATH", ArgumentRule::None, MATCHES),
     row(Key::Kernel, "KERNEL", ArgumentRule::None, MATCHES),
@@ -122,6 +124,13 @@ pub const KEYS: [KeyRow; 20] = [
     ),
     row(Key::Symlink, "SYMLINK", ArgumentRule::None, &Operator::ALL),
     row(Key::Tag, "TAG", ArgumentRule::None, &Operator::ALL),
+    row(
+        Key::Program,
+        "PROGRAM",
+        ArgumentRule::None,
+        &[Equal, Unequal, Assign, Add, AssignFinally],
+    ),
+    row(Key::Result, "RESULT", ArgumentRule::None, MATCHES),
     row(Key::Owner, "OWNER", ArgumentRule::None, ASSIGNMENTS),
     row(Key::Group, "GROUP", ArgumentRule::None, ASSIGNMENTS),
     row(Key::Mode, "MODE", ArgumentRule::None, ASSIGNMENTS),

@@ -1,17 +1,25 @@
 //! The listing of what a text makes of a device.
 
 use crate::engine::{Finished, Runner};
-use crate::operations::{decode_device, decode_outcome, make_run_list};
+use crate::operations::{decode_device, decode_outcome, decode_sheet, make_run_list};
 use crate::outcome::Outcome;
 use crate::refusal::Refusal;
 use crate::rules;
 use crate::run_list::RunList;
+use crate::sheet;
 
-/// The listing after a run from the outcome record, or from the fresh one, and a close.
-pub fn listing(text: &[u8], device: &[u8], outcome: Option<&[u8]>) -> Vec<u8> {
+/// The listing after a run from the outcome record, or from the fresh one, with the answer sheet,
+/// or with an empty one, and a close.
+pub fn listing(
+    text: &[u8],
+    device: &[u8],
+    outcome: Option<&[u8]>,
+    sheet: Option<&[u8]>,
+) -> Vec<u8> {
+    let sheet = sheet.unwrap_or(sheet::EMPTY);
     let lines = match outcome {
-        Some(outcome) => list_from(text, device, outcome),
-        None => list_from_fresh(text, device),
+        Some(outcome) => list_from(text, device, outcome, sheet),
+        None => list_from(text, device, &fresh(device), sheet),
     };
     lines.unwrap_or_else(|refusal| {
         let number = refusal.fault.number();
@@ -19,17 +27,18 @@ pub fn listing(text: &[u8], device: &[u8], outcome: Option<&[u8]>) -> Vec<u8> {
     })
 }
 
-fn list_from_fresh(text: &[u8], device: &[u8]) -> Result<Vec<u8>, Refusal> {
-    // A faulty device has no fresh record. The run refuses it in its turn, after a faulty text.
+/// A faulty device has no fresh record. The run refuses it in its turn, after a faulty text.
+fn fresh(device: &[u8]) -> Vec<u8> {
     let fresh = decode_device(device).map(|device| Outcome::fresh(&device).encode());
-    list_from(text, device, &fresh.unwrap_or_default())
+    fresh.unwrap_or_default()
 }
 
-fn list_from(text: &[u8], device: &[u8], outcome: &[u8]) -> Result<Vec<u8>, Refusal> {
+fn list_from(text: &[u8], device: &[u8], outcome: &[u8], sheet: &[u8]) -> Result<Vec<u8>, Refusal> {
     let rules = rules::read(text)?;
     let device = decode_device(device)?;
     let outcome = decode_outcome(outcome, &device)?;
-    let finished = Runner::new(&rules, &device, outcome).finish()?;
+    let sheet = decode_sheet(sheet)?;
+    let finished = Runner::new(&rules, &device, &sheet, outcome).finish()?;
     let run_list = make_run_list(&finished.outcome, &device)?;
     Ok(lines(&finished, &run_list))
 }

@@ -8,6 +8,7 @@ use crate::record_set::{RecordPair, RecordSet};
 use crate::refusal::{Fault, Refusal};
 use crate::rules;
 use crate::run_list::RunList;
+use crate::sheet::Sheet;
 use crate::sizes;
 use crate::strike::{self, Struck};
 use crate::writer;
@@ -58,9 +59,10 @@ pub fn fresh(device: &[u8], target: &mut [u8]) -> Answer {
     deliver(result, target)
 }
 
-/// Runs the rules of a text and writes the outcome record that they leave.
-pub fn run(text: &[u8], device: &[u8], outcome: &[u8], target: &mut [u8]) -> Answer {
-    let result = make_run(text, device, outcome, target.len());
+/// Runs the rules of a text, with an answer sheet for the programs that they ask, and writes the
+/// outcome record that they leave.
+pub fn run(text: &[u8], device: &[u8], outcome: &[u8], sheet: &[u8], target: &mut [u8]) -> Answer {
+    let result = make_run(text, device, outcome, sheet, target.len());
     deliver(result, target)
 }
 
@@ -139,12 +141,19 @@ fn make_fresh(device: &[u8], room: usize) -> Result<Accepted, Refusal> {
     })
 }
 
-fn make_run(text: &[u8], device: &[u8], outcome: &[u8], room: usize) -> Result<Accepted, Refusal> {
+fn make_run(
+    text: &[u8],
+    device: &[u8],
+    outcome: &[u8],
+    sheet: &[u8],
+    room: usize,
+) -> Result<Accepted, Refusal> {
     check_room(room, sizes::OUTCOME_TARGET)?;
     let rules = rules::read(text)?;
     let device = decode_device(device)?;
     let outcome = decode_outcome(outcome, &device)?;
-    let finished = Runner::new(&rules, &device, outcome).finish()?;
+    let sheet = decode_sheet(sheet)?;
+    let finished = Runner::new(&rules, &device, &sheet, outcome).finish()?;
     Ok(Accepted {
         visited: finished.visited,
         tried: finished.tried,
@@ -256,6 +265,10 @@ fn decode_outcome_edition(
 ) -> Result<Outcome, Refusal> {
     Outcome::decode_edition(edition, record, device.chain.len())
         .ok_or(Fault::OutcomeRecord.without_line())
+}
+
+pub fn decode_sheet(packed: &[u8]) -> Result<Sheet, Refusal> {
+    Sheet::decode(packed).ok_or(Fault::Sheet.without_line())
 }
 
 pub fn make_run_list(outcome: &Outcome, device: &Device) -> Result<RunList, Refusal> {

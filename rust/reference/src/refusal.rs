@@ -9,6 +9,7 @@ pub enum Fault {
     DeviceRecord = 3,
     OutcomeRecord = 4,
     NotInEdition1 = 5,
+    Sheet = 6,
     Set = 7,
     Line = 10,
     Key = 11,
@@ -26,6 +27,7 @@ pub enum Fault {
     Full = 32,
     OwnerOrGroup = 33,
     Mode = 34,
+    Command = 35,
     WorldWritable = 36,
 }
 
@@ -36,6 +38,7 @@ impl Fault {
         Fault::DeviceRecord,
         Fault::OutcomeRecord,
         Fault::NotInEdition1,
+        Fault::Sheet,
         Fault::Set,
         Fault::Line,
         Fault::Key,
@@ -53,6 +56,7 @@ impl Fault {
         Fault::Full,
         Fault::OwnerOrGroup,
         Fault::Mode,
+        Fault::Command,
         Fault::WorldWritable,
     ];
 

@@ -18,6 +18,7 @@ pub enum Request<'a> {
         text: &'a [u8],
         device: &'a [u8],
         outcome: &'a [u8],
+        sheet: &'a [u8],
     },
     Close {
         device: &'a [u8],
@@ -103,7 +104,8 @@ impl Engine for Reference {
                 text,
                 device,
                 outcome,
-            } => operations::run(text, device, outcome, target),
+                sheet,
+            } => operations::run(text, device, outcome, sheet, target),
             Request::Close { device, outcome } => operations::close(device, outcome, target),
             Request::Contest { set } => operations::contest(set, target),
             Request::Write { text } => operations::write(text, target),

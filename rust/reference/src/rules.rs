@@ -4,8 +4,10 @@ use crate::bytes::is_blank;
 use crate::content::{read_content, Assignment, Content, Match};
 use crate::key::{ArgumentRule, Key, KeyRow, Operator, KEYS};
 use crate::lines::{is_skipped, lines, Line};
+use crate::pattern::Pattern;
 use crate::refusal::{Fault, Refusal};
 use crate::sizes;
+use crate::template::Template;
 
 #[derive(Clone, Debug, PartialEq, Eq)]
 pub struct Rule {
@@ -36,9 +38,24 @@ impl Rule {
         goto_of(&self.pairs)
     }
 
+    /// The match keys but PROGRAM and RESULT.
     pub fn matches(&self) -> impl Iterator<Item = (Operator, &Match)> {
         self.pairs.iter().filter_map(|pair| match &pair.content {
             Content::Match(content) => Some((pair.operator, content)),
+            _ => None,
+        })
+    }
+
+    pub fn programs(&self) -> impl Iterator<Item = (Operator, &Template)> {
+        self.pairs.iter().filter_map(|pair| match &pair.content {
+            Content::Program(command) => Some((pair.operator, command)),
+            _ => None,
+        })
+    }
+
+    pub fn results(&self) -> impl Iterator<Item = (Operator, &Pattern)> {
+        self.pairs.iter().filter_map(|pair| match &pair.content {
+            Content::Result(pattern) => Some((pair.operator, pattern)),
             _ => None,
         })
     }

@@ -73,6 +73,7 @@ fn entry(run: &Run, outcome: &Outcome, device: &Device) -> Option<RunEntry> {
     let sources = Sources {
         device,
         properties: &outcome.properties,
+        output: &outcome.output,
         matched: run.matched,
     };
     Some(RunEntry {

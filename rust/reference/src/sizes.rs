@@ -34,6 +34,11 @@ pub const MODE_DIGITS: usize = 4;
 /// The output of a program that an outcome keeps.
 pub const OUTPUT: usize = 512;
 
+/// The packed answer sheet, its entries and a command of these.
+pub const SHEET: usize = 32_768;
+pub const SHEET_ENTRIES: usize = 64;
+pub const COMMAND: usize = 512;
+
 /// The fullest outcome record, and so the least room for a target of one.
 pub const OUTCOME_TARGET: usize = 18_125;
 /// The same of edition 1.

@@ -23,12 +23,15 @@ pub enum Piece {
     Env(Vec<u8>),
     Major,
     Minor,
+    Result,
 }
 
 /// What the pieces of a template are looked up in.
 pub struct Sources<'a> {
     pub device: &'a Device,
     pub properties: &'a [Property],
+    /// What a program said last.
+    pub output: &'a [u8],
     /// The place of the device that the rule's parent keys matched.
     pub matched: Place,
 }
@@ -103,6 +106,9 @@ fn read_long_name(rest: &[u8]) -> Option<(Piece, &[u8])> {
             return Some((piece, after));
         }
     }
+    if let Some(after) = rest.strip_prefix(b"result") {
+        return read_result(after);
+    }
     if let Some(after) = rest.strip_prefix(b"attr") {
         let (name, after) = read_braces(after)?;
         return Some((Piece::Attr(name), after));
@@ -122,6 +128,7 @@ fn read_letter(rest: &[u8]) -> Option<(Piece, &[u8])> {
         b'b' => Piece::Id,
         b'M' => Piece::Major,
         b'm' => Piece::Minor,
+        b'c' => return read_result(after),
         b's' => {
             let (name, after) = read_braces(after)?;
             return Some((Piece::Attr(name), after));
@@ -133,6 +140,11 @@ fn read_letter(rest: &[u8]) -> Option<(Piece, &[u8])> {
         _ => return None,
     };
     Some((piece, after))
+}
+
+/// Parts of the output cannot be inserted yet.
+fn read_result(after: &[u8]) -> Option<(Piece, &[u8])> {
+    (!after.starts_with(b"{")).then_some((Piece::Result, after))
 }
 
 fn read_braces(rest: &[u8]) -> Option<(Vec<u8>, &[u8])> {
@@ -158,6 +170,7 @@ impl Sources<'_> {
             Piece::Env(key) => value_of(self.properties, key).unwrap_or_default().to_vec(),
             Piece::Major => decimal(node.map_or(0, |node| node.major)),
             Piece::Minor => decimal(node.map_or(0, |node| node.minor)),
+            Piece::Result => self.output.to_vec(),
         }
     }
 

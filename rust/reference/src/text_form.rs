@@ -32,7 +32,7 @@ impl fmt::Display for FormError {
 impl std::error::Error for FormError {}
 
 /// What a single line makes of its part; the line number is put to it later.
-type Parsed<T> = Result<T, String>;
+pub(crate) type Parsed<T> = Result<T, String>;
 
 /// The device that a text form describes.
 pub fn parse_device(form: &[u8]) -> Result<Device, FormError> {
@@ -60,7 +60,7 @@ pub fn parse_outcome(form: &[u8]) -> Result<Outcome, FormError> {
 }
 
 /// Gives each line's word and rest to `take_line`, and gives back the number of lines.
-fn each_line(
+pub(crate) fn each_line(
     form: &[u8],
     mut take_line: impl FnMut(&str, &[u8]) -> Parsed<()>,
 ) -> Result<usize, FormError> {
@@ -266,7 +266,7 @@ fn take_outcome_line(
     }
 }
 
-fn set_once<T>(place: &mut Option<T>, word: &str, value: T) -> Parsed<()> {
+pub(crate) fn set_once<T>(place: &mut Option<T>, word: &str, value: T) -> Parsed<()> {
     if place.is_some() {
         return Err(format!("a second `{word}`"));
     }
@@ -401,7 +401,7 @@ fn add_run(runs: &mut Vec<Run>, run_type: RunType, rest: &[u8]) -> Parsed<()> {
     Ok(())
 }
 
-fn text_within(
+pub(crate) fn text_within(
     what: &str,
     written: &[u8],
     lengths: std::ops::RangeInclusive<usize>,
@@ -540,7 +540,7 @@ fn escape_property(property: &Property) -> String {
 }
 
 /// Escapes what cannot be seen: bytes outside ASCII, and spaces at the ends.
-fn escape(text: &[u8]) -> String {
+pub(crate) fn escape(text: &[u8]) -> String {
     let last = text.len().saturating_sub(1);
     let shown = |(index, &byte): (usize, &u8)| match byte {
         b'\\' => String::from("\\x5c"),

@@ -8,10 +8,15 @@ pub fn write(rules: &[Rule]) -> Vec<u8> {
 }
 
 fn written_rule(rule: &Rule) -> Vec<u8> {
-    let pairs: Vec<Vec<u8>> = rule.pairs.iter().map(written_pair).collect();
-    let mut line = pairs.join(&b',');
+    let mut line = written_pairs(&rule.pairs);
     line.push(b'\n');
     line
+}
+
+/// The pairs of a rule, without the newline after it.
+pub fn written_pairs(pairs: &[Pair]) -> Vec<u8> {
+    let pairs: Vec<Vec<u8>> = pairs.iter().map(written_pair).collect();
+    pairs.join(&b',')
 }
 
 fn written_pair(pair: &Pair) -> Vec<u8> {

@@ -9,6 +9,7 @@ use reference::joined::{check_cuts, check_list};
 use reference::lines::lines;
 use reference::outcome::Outcome;
 use reference::rules;
+use reference::sheet::EMPTY;
 
 /// The number and the bytes of each line.
 fn lines_of(text: &str) -> Vec<(u32, String)> {
@@ -203,6 +204,7 @@ fn list(texts: &[&str]) -> JoinList {
         texts: texts.iter().map(|text| text.as_bytes().to_vec()).collect(),
         device: device.encode(),
         outcome: Outcome::fresh(&device).encode(),
+        sheet: EMPTY.to_vec(),
     }
 }
 

@@ -6,6 +6,7 @@ use common::*;
 use reference::compare::{replies, Operation, Reference};
 use reference::generate::{case, Extra};
 use reference::outcome::{Closed, Edition, Outcome, Run, RunType, Watch};
+use reference::sheet::EMPTY;
 use reference::sizes::{OLD_OUTCOME_TARGET, OUTCOME_TARGET, RUN_LIST_TARGET};
 use reference::template::Template;
 use reference::Answer;
@@ -92,7 +93,7 @@ fn the_header_is_two_bytes_longer() {
 /// The number that run and close give for the record.
 fn number(outcome: &[u8]) -> u32 {
     let device = tty_usb0().encode();
-    let run = reference::run(b"", &device, outcome, &mut vec![0; OUTCOME_TARGET]);
+    let run = reference::run(b"", &device, outcome, EMPTY, &mut vec![0; OUTCOME_TARGET]);
     let close = reference::close(&device, outcome, &mut vec![0; RUN_LIST_TARGET]);
     assert_eq!(run.number, close.number);
     run.number
@@ -291,7 +292,7 @@ fn a_run_keeps_the_output() {
 
 #[test]
 fn the_listing_says_it_after_group() {
-    let listing = |text: &[u8]| string(&reference::listing(text, &tty_usb0().encode(), None));
+    let listing = |text: &[u8]| string(&reference::listing(text, &tty_usb0().encode(), None, None));
     assert_eq!(
         listing(b"OPTIONS=\"watch\", GROUP=\"g\", SYMLINK=\"l\""),
         "visited 1\ntried 0\npriority 0\ngroup g\nwatch\nlink l\n"

@@ -141,7 +141,7 @@ const LISTED_RULE: &str = "KERNEL==\"ttyUSB[0-9]*\", ATTRS{serial}==\"RC-0417\",
 
 #[test]
 fn listing_example() {
-    let listing = reference::listing(LISTED_RULE.as_bytes(), &tty_usb0().encode(), None);
+    let listing = reference::listing(LISTED_RULE.as_bytes(), &tty_usb0().encode(), None, None);
     let expected = "visited 1\ntried 2\npriority 0\nmode 0660\ngroup dialout\nlink rope/trip0\n";
     assert_eq!(string(&listing), expected);
 }
@@ -149,7 +149,7 @@ fn listing_example() {
 #[test]
 fn listing_of_a_refusal() {
     let text = b"\n# first\n\nGOTO=\"nowhere\"\n";
-    let listing = reference::listing(text, &tty_usb0().encode(), None);
+    let listing = reference::listing(text, &tty_usb0().encode(), None, None);
     assert_eq!(string(&listing), "refused 19 line 4\n");
 }
 
@@ -160,7 +160,7 @@ fn listing_of_everything() {
     let text = "OPTIONS=\"link_priority=-5\", OWNER=\"root\", GROUP=\"disk\", MODE=\"5\"\n\
                 SYMLINK=\"b a\", TAG=\"t u\", RUN=\"x %k\", RUN{builtin}+=\"$env{B}\"\n\
                 KERNEL==\"no\", TAG+=\"v\"\n";
-    let listing = reference::listing(text.as_bytes(), &device.encode(), None);
+    let listing = reference::listing(text.as_bytes(), &device.encode(), None, None);
     let expected = "visited 3\n\
                     tried 0\n\
                     priority -5\n\
@@ -186,10 +186,10 @@ fn listing_from_a_given_outcome() {
         ..Outcome::default()
     };
     let record = outcome.encode();
-    let listing = reference::listing(b"TAG+=\"x\"", &device.encode(), Some(&record));
+    let listing = reference::listing(b"TAG+=\"x\"", &device.encode(), Some(&record), None);
     let expected = "visited 1\ntried 0\npriority 0\nmode 0600\ntag seat\ntag x\n";
     assert_eq!(string(&listing), expected);
-    let listing = reference::listing(b"", &device.encode(), Some(&record[1..]));
+    let listing = reference::listing(b"", &device.encode(), Some(&record[1..]), None);
     assert_eq!(string(&listing), "refused 4 line 0\n");
 }
 

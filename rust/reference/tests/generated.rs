@@ -23,6 +23,7 @@ fn a_seed_gives_the_same_case_again() {
         assert_eq!(first.text, second.text);
         assert_eq!(first.device, second.device);
         assert_eq!(first.outcome, second.outcome);
+        assert_eq!(first.sheet, second.sheet);
         assert_eq!(first.rooms, second.rooms);
     }
 }
@@ -82,7 +83,7 @@ fn cases_reach_everything() {
         for &number in *numbers {
             let answers = &coverage.answers;
             let count = *answers.get(&(*operation, number)).unwrap_or(&0);
-            assert!(count >= 10, "{operation:?} {number} only {count} times");
+            assert!(count >= 5, "{operation:?} {number} only {count} times");
         }
     }
     for row in &KEYS {
@@ -104,7 +105,7 @@ fn cases_reach_everything() {
         assert!(coverage.pieces[piece] >= 100, "{piece}");
     }
     for fact in Fact::ALL {
-        assert!(coverage.facts[&fact] >= 100, "{fact:?}");
+        assert!(coverage.facts[fact] >= 100, "{fact:?}");
     }
     for edge in EDGES.iter().copied().flatten() {
         let shape = (edge.name.to_string(), edge.number);
@@ -185,6 +186,7 @@ fn cases_come_back_from_their_files() {
         assert_eq!(read.text, written.text);
         assert_eq!(read.device, written.device);
         assert_eq!(read.outcome, written.outcome);
+        assert_eq!(read.sheet, written.sheet);
         assert_eq!(read.rooms, written.rooms);
         assert_eq!(read.extra, written.extra);
     }

@@ -3,13 +3,14 @@
 mod common;
 
 use common::*;
-use reference::compare::{run_reply, Engine, Reference, Request};
+use reference::compare::{Engine, Reference, Request};
 use reference::generate::joins::{cut_text, join_list, CutText, JoinList};
-use reference::joined::{check_cuts, check_list, crossing_jump};
+use reference::joined::{check_cuts, check_list, crossing_jump, run_of};
 use reference::outcome::Outcome;
 use reference::request::Written;
 use reference::rules;
-use reference::sizes::{OUTCOME_TARGET, RULES, TEXT};
+use reference::sheet::EMPTY;
+use reference::sizes::{RULES, TEXT};
 
 const LISTS: u64 = 20_000;
 const CUT_TEXTS: u64 = 20_000;
@@ -50,16 +51,10 @@ fn joins_run_as_their_texts_in_a_row() {
             panic!("seed {seed}: {message}");
         }
         let join = list.texts.concat();
-        let run = run_reply(
-            &Reference,
-            &join,
-            &list.device,
-            &list.outcome,
-            OUTCOME_TARGET,
-        );
+        let run = run_of(&Reference, &list, &join, &list.outcome);
         match run.number() {
             0 => accepted += 1,
-            30..=34 | 36 => refused += 1,
+            30..=36 => refused += 1,
             number => panic!("seed {seed}: {number} is no refusal of a running rule"),
         }
         at_a_limit += u32::from(join.len() + 1 >= TEXT);
@@ -96,6 +91,7 @@ fn list(texts: &[&str]) -> JoinList {
         texts: texts.iter().map(|text| text.as_bytes().to_vec()).collect(),
         device: device.encode(),
         outcome: Outcome::fresh(&device).encode(),
+        sheet: EMPTY.to_vec(),
     }
 }
 
@@ -103,14 +99,7 @@ fn run_of_join(texts: &[&str]) -> [u32; 8] {
     let list = list(texts);
     check_list(&Reference, &list).expect("the claim holds");
     let join = list.texts.concat();
-    run_reply(
-        &Reference,
-        &join,
-        &list.device,
-        &list.outcome,
-        OUTCOME_TARGET,
-    )
-    .answer
+    run_of(&Reference, &list, &join, &list.outcome).answer
 }
 
 #[test]
@@ -184,6 +173,7 @@ impl Engine for Lenient {
                 text,
                 device,
                 outcome,
+                sheet,
             } => {
                 // Runs only the first line of a text.
                 let end = text.iter().position(|&byte| byte == b'\n');
@@ -191,6 +181,7 @@ impl Engine for Lenient {
                     text: &text[..end.unwrap_or(text.len())],
                     device,
                     outcome,
+                    sheet,
                 };
                 Reference.answer(&first_line, written)
             }

@@ -58,6 +58,19 @@ fn packs_and_shows() {
 }
 
 #[test]
+fn packs_and_shows_a_sheet() {
+    let directory = Directory::new("sheet");
+    let form = "command a\n  success\n  output b\\x0a\ncommand c\n  failure\n";
+    let packed = pack(&["sheet", &directory.file("form", form.as_bytes())]);
+    assert_eq!(packed.stdout, b"\x02\x80\x20\x10ab\n\x00\x20\x00c");
+    let sheet = directory.file("sheet", &packed.stdout);
+    let shown = pack(&["show", "sheet", &sheet]);
+    assert_eq!(shown.stdout, form.as_bytes());
+    let faulty = directory.file("faulty", b"\x02");
+    assert_eq!(pack(&["show", "sheet", &faulty]).status.code(), Some(1));
+}
+
+#[test]
 fn tells_what_is_wrong() {
     let directory = Directory::new("tells");
     let form = directory.file("form", b"device /a\nattribute b\n");

@@ -7,6 +7,7 @@ use reference::device::{Action, ChainDevice, Device, Node};
 use reference::outcome::{Closed, Outcome, Run, RunType, Watch};
 use reference::property::Property;
 use reference::run_list::RunList;
+use reference::sheet::EMPTY;
 use reference::sizes::{OUTCOME_TARGET, RUN_LIST_TARGET};
 use reference::template::Template;
 
@@ -91,7 +92,13 @@ fn fresh_number(device: &[u8]) -> u32 {
 fn device_number(device: &[u8]) -> u32 {
     let number = fresh_number(device);
     let mut target = vec![0xAA; OUTCOME_TARGET];
-    let run = reference::run(b"", device, &Outcome::default().encode(), &mut target);
+    let run = reference::run(
+        b"",
+        device,
+        &Outcome::default().encode(),
+        EMPTY,
+        &mut target,
+    );
     let close = reference::close(device, &Outcome::default().encode(), &mut target);
     assert_eq!((run.number, close.number), (number, number));
     assert_eq!((run.line, close.line), (0, 0));
@@ -101,7 +108,7 @@ fn device_number(device: &[u8]) -> u32 {
 /// The number for an outcome record of the device above, the same from run and close.
 fn outcome_number(outcome: &[u8]) -> u32 {
     let mut target = vec![0xAA; OUTCOME_TARGET];
-    let run = reference::run(b"", DEVICE, outcome, &mut target);
+    let run = reference::run(b"", DEVICE, outcome, EMPTY, &mut target);
     if run.number != 0 {
         assert!(target.iter().all(|&byte| byte == 0));
     }
@@ -583,7 +590,7 @@ fn runs_of_an_outcome() {
     assert_eq!(number(&[run_entry(&"x".repeat(257), 0)]), 4);
     assert_eq!(number(&vec![run_entry("x", 0); 16]), 0);
     assert_eq!(number(&vec![run_entry("x", 0); 17]), 4);
-    let faulty_template = changed(OUTCOME, |record| *record.last_mut().unwrap() = b'c');
+    let faulty_template = changed(OUTCOME, |record| *record.last_mut().unwrap() = b'x');
     assert_eq!(outcome_number(&faulty_template), 4);
     let nul = changed(OUTCOME, |record| {
         let first_of_template = record.len() - 2;

@@ -4,6 +4,7 @@ mod common;
 
 use common::*;
 use reference::outcome::{Outcome, Run, RunType};
+use reference::sheet::EMPTY;
 use reference::sizes::{OUTCOME_TARGET, RUN_LIST_TARGET};
 use reference::template::Template;
 use reference::Device;
@@ -25,7 +26,7 @@ fn assert_accepted(lines: &[&str]) {
 
 fn run_number(text: &str, device: &[u8], outcome: &[u8], room: usize) -> (u32, u32) {
     let mut target = vec![0xAA; room];
-    let answer = reference::run(text.as_bytes(), device, outcome, &mut target);
+    let answer = reference::run(text.as_bytes(), device, outcome, EMPTY, &mut target);
     assert_eq!((answer.visited, answer.used), (0, 0));
     assert!(target.iter().all(|&byte| byte == 0));
     (answer.number, answer.line)
@@ -104,7 +105,6 @@ fn refusal_11_key() {
         11,
         &[
             "NAME=\"x\"",
-            "PROGRAM=\"x\"",
             "IMPORT{file}=\"x\"",
             "TEST==\"x\"",
             "TAGS==\"x\"",
@@ -307,10 +307,11 @@ fn refusal_15_templates() {
         "%E",
         "%E{a",
         "%K",
-        "%c",
+        "%c{",
+        "%c{1}",
         "%N",
         "%P",
-        "$result",
+        "$result{1}",
         "$name",
         "$links",
         "$sys",
@@ -322,6 +323,8 @@ fn refusal_15_templates() {
         "%%",
         "$kernel",
         "%k",
+        "$result",
+        "%c",
         "$number",
         "%n",
         "$devpath",

@@ -2,13 +2,13 @@
 
 mod common;
 
-use std::collections::BTreeMap;
+use std::collections::{BTreeMap, BTreeSet};
 
 use common::*;
 use reference::generate::case;
-use reference::lines::lines;
+use reference::lines::{lines, Line};
 use reference::refusal::Fault;
-use reference::rules::read_line;
+use reference::rules::{self, read_line};
 use reference::sizes::TEXT;
 
 const NUMBERS: usize = 2 * 16_384;
@@ -231,29 +231,31 @@ fn the_most_strikes_have_room() {
     assert_eq!(strikes, [(32_768, 11)]);
 }
 
-/// Whether a line of the text gives that fault as the Item describes it, with what is left.
-fn stated_ground_holds(text: &[u8], left: &[u8], line_number: u16, fault: u16) -> bool {
-    let lines = lines(text);
-    let index = lines
-        .iter()
-        .position(|line| line.number == u32::from(line_number))
-        .expect("a line of the text");
-    let read = read_line(&lines[index]);
-    match u32::from(fault) {
-        18 => {
-            let is_rule = |line| matches!(read_line(line), Ok(Some(_)));
-            lines[..index].iter().filter(|line| is_rule(line)).count() >= 512
+/// Whether the lines give each of these faults as the Item describes it, with what is left.
+fn stated_grounds_hold(lines: &[Line], left: &[u8], strikes: &[(u16, u16)]) -> bool {
+    let kept = rules::read(left).expect("an accepted text");
+    let mut rules_before = 0;
+    let mut strikes = strikes.iter().copied().peekable();
+    for line in lines {
+        let read = read_line(line);
+        let is_this = |(number, _): &(u16, u16)| u32::from(*number) == line.number;
+        let fault = strikes.next_if(is_this).map(|(_, fault)| u32::from(fault));
+        let is_grounded = match (fault, &read) {
+            (None, _) => read.is_ok(),
+            (Some(18), Ok(Some(_))) => rules_before >= 512,
+            (Some(19), Ok(Some(pairs))) => {
+                let goto = rules::goto_of(pairs);
+                let mut later = kept.iter().filter(|rule| rule.line > line.number);
+                goto.is_some() && !later.any(|rule| rule.label() == goto)
+            }
+            (Some(number), _) => read.clone().map_err(Fault::number) == Err(number),
+        };
+        if !is_grounded {
+            return false;
         }
-        19 => {
-            let kept = reference::rules::read(left).expect("an accepted text");
-            let pairs = read.expect("a line without fault").expect("a rule");
-            let goto = reference::rules::goto_of(&pairs).expect("a jump");
-            !kept
-                .iter()
-                .any(|rule| rule.line > u32::from(line_number) && rule.label() == Some(goto))
-        }
-        number => read.map_err(Fault::number) == Err(number),
+        rules_before += usize::from(matches!(read, Ok(Some(_))));
     }
+    strikes.next().is_none()
 }
 
 #[test]
@@ -274,21 +276,20 @@ fn what_is_wanted_of_generated_texts() {
         // Each kept line has its number and bytes, each struck one has lost its bytes.
         let (before, after) = (physical_lines(&text), physical_lines(&left));
         assert_eq!(before.len(), after.len(), "seed {seed}");
-        let firsts: Vec<u32> = lines(&text).iter().map(|line| line.number).collect();
+        let lines = lines(&text);
+        let firsts: BTreeSet<u32> = lines.iter().map(|line| line.number).collect();
+        let struck: BTreeSet<u32> = strikes.iter().map(|(line, _)| u32::from(*line)).collect();
         let mut is_struck = false;
         for (number, (before, after)) in (1..).zip(before.into_iter().zip(after)) {
-            if firsts.binary_search(&number).is_ok() {
-                is_struck = strikes.iter().any(|(line, _)| u32::from(*line) == number);
+            if firsts.contains(&number) {
+                is_struck = struck.contains(&number);
             }
             assert_eq!(after, if is_struck { b"" } else { before }, "seed {seed}");
         }
         assert!(strikes.windows(2).all(|pair| pair[0].0 < pair[1].0));
-        for (line, fault) in &strikes {
+        assert!(stated_grounds_hold(&lines, &left, &strikes), "seed {seed}");
+        for (_, fault) in &strikes {
             *counts.entry(*fault).or_insert(0) += 1;
-            assert!(
-                stated_ground_holds(&text, &left, *line, *fault),
-                "seed {seed}"
-            );
         }
         assert_eq!(strike_into(&left, TEXT, NUMBERS), (0, left.clone(), vec![]));
     }

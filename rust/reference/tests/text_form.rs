@@ -35,7 +35,7 @@ fn device_of_the_readme() {
     assert_eq!(device, expected);
     let rule = b"KERNEL==\"ttyUSB[0-9]*\", ATTRS{serial}==\"RC-0417\", \
                  SYMLINK+=\"rope/trip%n\", MODE=\"0660\", GROUP=\"dialout\"";
-    let listing = reference::listing(rule, &device.encode(), None);
+    let listing = reference::listing(rule, &device.encode(), None, None);
     let expected = "visited 1\ntried 2\npriority 0\nmode 0660\ngroup dialout\nlink rope/trip0\n";
     assert_eq!(string(&listing), expected);
     assert_eq!(show_device(&device), example("device"));
@@ -193,7 +193,7 @@ fn errors_of_outcomes() {
         ("tag a\ntag a", "line 2: the same `tag` a second time"),
         ("program x", "line 1: `program` takes a place"),
         ("builtin 17 x", "line 1: `17` is no number from 0 to 16"),
-        ("builtin 0 %c", "line 1: the template is not well formed"),
+        ("builtin 0 %x", "line 1: the template is not well formed"),
     ] {
         let error = outcome_error(form);
         assert!(error.starts_with(expected), "{form}: {error}");

@@ -97,9 +97,9 @@ fn nothing_else_tries() {
 fn the_listing_says_it_after_visited() {
     let text = "KERNEL==\"ttyUSB[0-9]*\", ATTRS{serial}==\"RC-0417\", SYMLINK+=\"rope/trip%n\", \
                 MODE=\"0660\", GROUP=\"dialout\"";
-    let listing = reference::listing(text.as_bytes(), &tty_usb0().encode(), None);
+    let listing = reference::listing(text.as_bytes(), &tty_usb0().encode(), None, None);
     let expected = "visited 1\ntried 2\npriority 0\nmode 0660\ngroup dialout\nlink rope/trip0\n";
     assert_eq!(string(&listing), expected);
-    let listing = reference::listing(b"", &tty_usb0().encode(), None);
+    let listing = reference::listing(b"", &tty_usb0().encode(), None, None);
     assert_eq!(string(&listing), "visited 0\ntried 0\npriority 0\n");
 }

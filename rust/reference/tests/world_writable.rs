@@ -4,6 +4,7 @@ mod common;
 
 use common::*;
 use reference::outcome::{Closed, Outcome};
+use reference::sheet::EMPTY;
 use reference::sizes::{OUTCOME_TARGET, RUN_LIST_TARGET};
 
 #[test]
@@ -82,7 +83,7 @@ fn such_a_record_is_faulty() {
                 ..Outcome::default()
             };
             let outcome = outcome.encode();
-            let run = reference::run(b"", &device, &outcome, &mut vec![0; OUTCOME_TARGET]);
+            let run = reference::run(b"", &device, &outcome, EMPTY, &mut vec![0; OUTCOME_TARGET]);
             let close = reference::close(&device, &outcome, &mut vec![0; RUN_LIST_TARGET]);
             assert_eq!((run.number, run.line), (close.number, close.line));
             (run.number, run.line)

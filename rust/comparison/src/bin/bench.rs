@@ -11,7 +11,7 @@ use comparison::workloads::{all_workloads, counter, family, faulty_lines, Worklo
 use comparison::Linked;
 use reference::compare::{run_reply, Engine, Reference, Request};
 use reference::request::Written;
-use reference::{generate, sizes, Outcome};
+use reference::{generate, sizes, Outcome, Sheet};
 
 const USAGE: &str = "usage: bench
        bench list                       name, bytes and rules of each text
@@ -58,15 +58,17 @@ fn main() -> ExitCode {
 struct Bench {
     device: Vec<u8>,
     outcome: Vec<u8>,
+    sheet: Vec<u8>,
     written: Written,
 }
 
 impl Bench {
-    /// The counter, with that record.
-    fn new(outcome: &Outcome) -> Bench {
+    /// The counter, with that record and that sheet.
+    fn new(outcome: &Outcome, sheet: &Sheet) -> Bench {
         Bench {
             device: counter().encode(),
             outcome: outcome.encode(),
+            sheet: sheet.encode(),
             written: Written::with_target(sizes::OUTCOME_TARGET),
         }
     }
@@ -77,6 +79,7 @@ impl Bench {
             text,
             device: &self.device,
             outcome: &self.outcome,
+            sheet: &self.sheet,
         };
         let start = Instant::now();
         black_box(engine.answer(black_box(&request), &mut self.written));
@@ -93,8 +96,14 @@ impl Bench {
 
     fn assert_engines_agree(&self, text: &[u8]) {
         let room = self.written.target.len();
+        let Bench {
+            device,
+            outcome,
+            sheet,
+            ..
+        } = self;
         let [ours, reference] = [&Linked as &dyn Engine, &Reference]
-            .map(|engine| run_reply(engine, text, &self.device, &self.outcome, room));
+            .map(|engine| run_reply(engine, text, device, outcome, sheet, room));
         assert_eq!(ours, reference);
     }
 }
@@ -112,7 +121,7 @@ fn best<const N: usize>(runs: usize, mut run: impl FnMut(usize) -> f64) -> [f64;
 
 /// The best times of the linked engine and of the reference on the counter.
 fn times_of_both(workload: &Workload) -> [f64; 2] {
-    let mut bench = Bench::new(&workload.outcome);
+    let mut bench = Bench::new(&workload.outcome, &workload.sheet);
     bench.assert_engines_agree(&workload.text);
     bench.times_of_both(RUNS, &workload.text)
 }
@@ -147,7 +156,7 @@ fn count(engine: &str, text: &str, times: &str) -> Option<()> {
     };
     let workload = workload_of(text)?;
     let times: usize = times.parse().ok()?;
-    let mut bench = Bench::new(&workload.outcome);
+    let mut bench = Bench::new(&workload.outcome, &workload.sheet);
     for _ in 0..times {
         bench.run(engine, &workload.text);
     }
@@ -254,6 +263,7 @@ fn times_of_case(seed: u64, runs: usize) -> [f64; 2] {
     let mut bench = Bench {
         device: case.device,
         outcome: case.outcome,
+        sheet: case.sheet,
         written: Written::with_target(sizes::OUTCOME_TARGET),
     };
     bench.times_of_both(runs, &case.text)
@@ -302,7 +312,8 @@ fn show_match(value: &CStr, name: &CStr, other: &str, matches: fn(&CStr, &CStr) 
         tags: vec![name.to_bytes().to_vec()],
         ..fresh.clone()
     };
-    let (mut without, mut with) = (Bench::new(&fresh), Bench::new(&tagged));
+    let [mut without, mut with] =
+        [&fresh, &tagged].map(|outcome| Bench::new(outcome, &Sheet::default()));
     let [equal_without, equal_with, unequal_without, unequal_with, calls] =
         best(RUNS_FOR_DIFFERENCES, |which| match which {
             0 => without.run(&Linked, equal.as_bytes()),

@@ -10,14 +10,15 @@ use reference::compare::{first_difference, replies, Engine, Operation, Reference
 use reference::generate::Case;
 use reference::outcome::Edition;
 use reference::run_list::RunList;
+use reference::sheet_form::show_sheet;
 use reference::text_form::{show_device, show_outcome, show_run_list};
-use reference::{Device, Outcome};
+use reference::{Device, Outcome, Sheet};
 
 fn main() -> ExitCode {
     let arguments: Vec<String> = env::args().skip(1).collect();
     let [directory] = &arguments[..] else {
         eprintln!(
-            "usage: replay DIRECTORY\n\nThe directory holds text, device, outcome and rooms."
+            "usage: replay DIRECTORY\n\nThe directory holds text, device, outcome, sheet and rooms."
         );
         return ExitCode::from(2);
     };
@@ -61,6 +62,10 @@ fn show_case(case: &Case) {
     match Outcome::decode(&case.outcome, chain_length) {
         Some(outcome) => print!("== outcome\n{}", show_outcome(&outcome)),
         None => println!("== outcome: faulty\n{}", hexadecimal(&case.outcome)),
+    }
+    match Sheet::decode(&case.sheet) {
+        Some(sheet) => print!("== sheet\n{}", show_sheet(&sheet)),
+        None => println!("== sheet: faulty\n{}", hexadecimal(&case.sheet)),
     }
     println!("== rooms\n{:?}", case.rooms);
 }

@@ -6,16 +6,19 @@ use std::fs;
 use std::io::{self, Write};
 use std::process::ExitCode;
 
+use reference::sheet_form::{parse_sheet, show_sheet};
 use reference::sizes;
 use reference::text_form::{parse_device, parse_outcome, show_device, show_outcome};
-use reference::{Device, Outcome};
+use reference::{Device, Outcome, Sheet};
 
-const USAGE: &str = "usage: pack [show] device|outcome FILE [-o OUT]
+const USAGE: &str = "usage: pack [show] device|outcome|sheet FILE [-o OUT]
 
   pack device FILE         packs the device record that FILE describes
   pack outcome FILE        packs the outcome record that FILE describes
+  pack sheet FILE          packs the answer sheet that FILE describes
   pack show device FILE    describes the packed device record in FILE
   pack show outcome FILE   describes the packed outcome record in FILE
+  pack show sheet FILE     describes the packed answer sheet in FILE
 
 The result goes to standard output, or to OUT with -o.";
 
@@ -23,6 +26,7 @@ The result goes to standard output, or to OUT with -o.";
 enum Kind {
     Device,
     Outcome,
+    Sheet,
 }
 
 struct Command {
@@ -61,6 +65,7 @@ fn read_command(arguments: &[String]) -> Option<Command> {
     let kind = match kind {
         "device" => Kind::Device,
         "outcome" => Kind::Outcome,
+        "sheet" => Kind::Sheet,
         _ => return None,
     };
     Some(Command {
@@ -89,6 +94,7 @@ fn pack(kind: Kind, form: &[u8]) -> Result<Vec<u8>, Box<dyn Error>> {
     Ok(match kind {
         Kind::Device => parse_device(form)?.encode(),
         Kind::Outcome => parse_outcome(form)?.encode(),
+        Kind::Sheet => parse_sheet(form)?.encode(),
     })
 }
 
@@ -103,6 +109,10 @@ fn show(kind: Kind, record: &[u8]) -> Result<String, Box<dyn Error>> {
             let outcome =
                 Outcome::decode(record, sizes::CHAIN).ok_or("not a sound outcome record")?;
             Ok(show_outcome(&outcome))
+        }
+        Kind::Sheet => {
+            let sheet = Sheet::decode(record).ok_or("not a sound answer sheet")?;
+            Ok(show_sheet(&sheet))
         }
     }
 }

@@ -6,6 +6,7 @@ use super::{Case, Extra, Rooms};
 use crate::device::{Action, ChainDevice, Device};
 use crate::outcome::{Closed, Edition, Outcome, Run, RunType, Watch};
 use crate::property::Property;
+use crate::sheet;
 use crate::sizes;
 use crate::template::Template;
 
@@ -23,6 +24,7 @@ fn case(text: Vec<u8>, device: Vec<u8>, outcome: Vec<u8>) -> Case {
         text,
         device,
         outcome,
+        sheet: sheet::EMPTY.to_vec(),
         rooms: full_rooms(),
         extra: Extra::Nothing,
     }

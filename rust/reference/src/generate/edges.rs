@@ -4,6 +4,7 @@ use super::contest_edges::CONTEST_EDGES;
 use super::edge_cases::*;
 use super::rng::Rng;
 use super::rules_text::broken;
+use super::sheet_edges::SHEET_EDGES;
 use super::strike_edges::STRIKE_EDGES;
 use super::Case;
 use crate::outcome::Watch;
@@ -693,7 +694,7 @@ pub const OUTCOME_EDGES: &[Edge] = &[
         )
     }),
     edge("template not well formed", 4, |rng| {
-        of_last_run(|record| *record.last_mut().expect("a run") = b'c', rng)
+        of_last_run(|record| *record.last_mut().expect("a run") = b'x', rng)
     }),
     edge("unused bit of a run", 4, |rng| {
         of_last_run(
@@ -854,4 +855,5 @@ pub const EDGES: &[&[Edge]] = &[
     DEVICE_EDGES,
     OUTCOME_EDGES,
     ROOM_EDGES,
+    SHEET_EDGES,
 ];

@@ -5,13 +5,14 @@ use super::rules_text;
 use super::world::{world, World};
 use crate::{lines, operations, rules, sizes};
 
-/// Accepted texts, each but the last empty or ending in a newline, with a device and a
-/// starting record; their join is within the sizes.
-#[derive(Clone, Debug)]
+/// Accepted texts, each but the last empty or ending in a newline, with a device, a starting
+/// record and an answer sheet; their join is within the sizes.
+#[derive(Clone, Debug, Default)]
 pub struct JoinList {
     pub texts: Vec<Vec<u8>>,
     pub device: Vec<u8>,
     pub outcome: Vec<u8>,
+    pub sheet: Vec<u8>,
 }
 
 /// An accepted text with places to cut it at, each after a newline that joins nothing.
@@ -36,6 +37,7 @@ pub fn join_list(seed: u64) -> JoinList {
         texts,
         device: world.device.encode(),
         outcome: world.outcome.encode(),
+        sheet: world.sheet.encode(),
     }
 }
 

@@ -117,7 +117,7 @@ pub fn parent_pairs(rng: &mut Rng, world: &World) -> Vec<Vec<u8>> {
 }
 
 /// A match of the key, so that it holds for the actual text or does not.
-fn judged_pair(rng: &mut Rng, key: &[u8], actual: Option<&[u8]>, holds: bool) -> Vec<u8> {
+pub fn judged_pair(rng: &mut Rng, key: &[u8], actual: Option<&[u8]>, holds: bool) -> Vec<u8> {
     let Some(actual) = actual else {
         return pair_of_absent(rng, key, holds);
     };
@@ -384,6 +384,8 @@ fn piece(rng: &mut Rng, device: &Device, outcome: &Outcome) -> Vec<u8> {
         b"%kx",
         b"$devpath",
         b"%p",
+        b"$result",
+        b"%c",
     ];
     match rng.below(10) {
         0..=3 => rng.pick(plain).to_vec(),

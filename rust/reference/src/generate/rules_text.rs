@@ -2,6 +2,7 @@
 
 use super::pairs::{assignment_pair, match_pair, options_pair, pair, parent_pairs};
 use super::rng::Rng;
+use super::sheets::asking_pairs;
 use super::vocabulary::LABELS;
 use super::world::World;
 use crate::key::Operator;
@@ -123,6 +124,9 @@ fn rule_pairs(rng: &mut Rng, world: &World) -> Vec<Vec<u8>> {
     }
     if rng.percent(35) {
         pairs.extend(parent_pairs(rng, world));
+    }
+    if rng.percent(14) {
+        pairs.extend(asking_pairs(rng, world));
     }
     if rng.percent(15) {
         pairs.push(options_pair(rng));

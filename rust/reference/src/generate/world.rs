@@ -2,6 +2,7 @@
 
 use super::pairs::template;
 use super::rng::Rng;
+use super::sheets::{commands, sheet, Command};
 use super::vocabulary::{
     ATTRIBUTE_NAMES, COMPONENTS, DRIVERS, LINKS, NAMES, OWNERS, PROPERTY_KEYS, SUBSYSTEMS, TAGS,
     VALUES,
@@ -9,19 +10,29 @@ use super::vocabulary::{
 use crate::device::{Action, ChainDevice, Device, Node};
 use crate::outcome::{Closed, Outcome, Run, RunType, Watch};
 use crate::property::{value_of, Property};
+use crate::sheet::Sheet;
 use crate::sizes;
 use crate::template::Template;
 
-/// A device with an outcome for it.
+/// A device with an outcome for it, and what programs said.
 pub struct World {
     pub device: Device,
     pub outcome: Outcome,
+    pub commands: Vec<Command>,
+    pub sheet: Sheet,
 }
 
 pub fn world(rng: &mut Rng) -> World {
     let device = device(rng);
     let outcome = outcome(rng, &device);
-    World { device, outcome }
+    let commands = commands(rng, &device, &outcome);
+    let sheet = sheet(rng, &commands);
+    World {
+        device,
+        outcome,
+        commands,
+        sheet,
+    }
 }
 
 /// A device with an outcome that mostly claims links.

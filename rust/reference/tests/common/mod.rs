@@ -6,7 +6,7 @@ use reference::device::{Action, ChainDevice, Device};
 use reference::outcome::Outcome;
 use reference::property::Property;
 use reference::sizes::{OUTCOME_TARGET, RUN_LIST_TARGET};
-use reference::Answer;
+use reference::{Answer, Sheet};
 
 pub fn chain_device(path: &str) -> ChainDevice {
     ChainDevice {
@@ -57,11 +57,21 @@ pub fn device_with(properties: &[(&str, &str)]) -> Device {
 }
 
 pub fn run_from(text: &str, device: &Device, outcome: &Outcome) -> (Answer, Vec<u8>) {
+    run_with(text, device, outcome, &Sheet::default())
+}
+
+pub fn run_with(
+    text: &str,
+    device: &Device,
+    outcome: &Outcome,
+    sheet: &Sheet,
+) -> (Answer, Vec<u8>) {
     let mut target = vec![0xAA; OUTCOME_TARGET];
     let answer = reference::run(
         text.as_bytes(),
         &device.encode(),
         &outcome.encode(),
+        &sheet.encode(),
         &mut target,
     );
     let (record, rest) = target.split_at(answer.used as usize);
@@ -140,7 +150,7 @@ pub fn check(text: impl AsRef<[u8]>) -> (u32, u32) {
 
 /// The run list after a run from the fresh record and a close, as `type text`.
 pub fn runs_of(text: &str, device: &Device) -> Vec<String> {
-    let listing = reference::listing(text.as_bytes(), &device.encode(), None);
+    let listing = reference::listing(text.as_bytes(), &device.encode(), None, None);
     string(&listing)
         .lines()
         .filter(|line| line.starts_with("program ") || line.starts_with("builtin "))
