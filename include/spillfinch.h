@@ -41,6 +41,7 @@ extern "C" {
 /* The longest input that can be accepted. A target for a rules text must have the room of the longest. */
 #define SPILLFINCH_TEXT_MOST 32768
 #define SPILLFINCH_DEVICE_MOST 16384
+#define SPILLFINCH_SHEET_MOST 32768
 
 /* The numbers that a list of strikes must have room for: two for each of the 16,384 lines that can be struck. */
 #define SPILLFINCH_STRIKES_ROOM 32768
@@ -52,7 +53,7 @@ extern "C" {
 #define SPILLFINCH_RULES_MOST 512
 
 /* Limits of the records: devices of a chain (the event device, then its parents), attributes of a device, properties; entries of an
- * outcome record; bytes of the output that it may hold; bytes of a substituted text. */
+ * outcome record; bytes of the output that it or a reply may hold; bytes of a substituted text. */
 #define SPILLFINCH_CHAIN_MOST 16
 #define SPILLFINCH_ATTRIBUTES_MOST 31
 #define SPILLFINCH_PROPERTIES_MOST 32
@@ -65,6 +66,10 @@ extern "C" {
 /* Limits of a set: its records, and the bytes of each of them. */
 #define SPILLFINCH_RECORDS_MOST 64
 #define SPILLFINCH_LENT_MOST 65535
+
+/* Limits of an answer sheet: replies, bytes of a command. */
+#define SPILLFINCH_REPLIES_MOST 64
+#define SPILLFINCH_COMMAND_MOST 512
 
 enum spillfinch_answer {
     SPILLFINCH_NUMBER = 0,
@@ -85,6 +90,7 @@ enum spillfinch_refusal {
     SPILLFINCH_DEVICE_BAD = 3,
     SPILLFINCH_OUTCOME_BAD = 4,        /* an outcome record that is faulty: one whose mode lets others write, or of another edition, is, too */
     SPILLFINCH_TOO_NEW = 5,            /* an outcome record that says what edition 1 cannot: an output, watch or nowatch */
+    SPILLFINCH_SHEET_BAD = 6,          /* an answer sheet that is faulty */
     SPILLFINCH_SET_BAD = 7,            /* a set of more than 64 records, or bytes that are not laid out as one */
     SPILLFINCH_LINE_BAD = 10,          /* a line that is too long or holds NUL */
     SPILLFINCH_KEY_BAD = 11,           /* a key that is unknown or missing */
@@ -102,6 +108,7 @@ enum spillfinch_refusal {
     SPILLFINCH_LIST_FULL = 32,         /* one more link, tag, program or property than there is room for */
     SPILLFINCH_OWNER_BAD = 33,         /* an owner or a group that is faulty */
     SPILLFINCH_MODE_BAD = 34,          /* a mode that is not 1 to 4 octal digits */
+    SPILLFINCH_COMMAND_MISSING = 35,   /* a command that PROGRAM asks and that is not on the answer sheet */
     SPILLFINCH_MODE_SHARED = 36        /* a mode that lets others write: it has the bit 0002 */
 };
 
@@ -116,10 +123,16 @@ void spillfinch_check(const uint8_t *text, size_t text_length, uint32_t answer[S
 void spillfinch_fresh(const uint8_t *device, size_t device_length, uint8_t *target, size_t target_length,
                       uint32_t answer[SPILLFINCH_ANSWER_LENGTH]);
 
-/* Runs a rules text for a device: starts from an outcome record and writes the one that the rules leave. Refusals: 1, 2, 10 to 20, 3, 4, and
- * 30 to 34 and 36 with the line of the rule that was running. */
+/* Runs a rules text for a device: starts from an outcome record and writes the one that the rules leave. Refusals: 1, 2, 10 to 20, 3, 4, 6, and
+ * 30 to 36 with the line of the rule that was running.
+ *
+ * No program is run: what PROGRAM asks is looked up on the answer sheet, which says of each command whether its program succeeded and what it
+ * wrote. A packed sheet is the number of its replies in a byte, 0 to 64, and then each reply: success in 1 bit, the length of the command in 10, of
+ * the output in 10, 3 bits that are zero, the bytes of the command (1 to 512), the bytes of the output (0 to 512). Bits run most significant first.
+ * No byte of either is NUL, no two commands are equal, the whole has at most 32,768 bytes. So one zero byte is the sheet without replies. */
 void spillfinch_run(const uint8_t *text, size_t text_length, const uint8_t *device, size_t device_length, const uint8_t *outcome,
-                    size_t outcome_length, uint8_t *target, size_t target_length, uint32_t answer[SPILLFINCH_ANSWER_LENGTH]);
+                    size_t outcome_length, const uint8_t *sheet, size_t sheet_length, uint8_t *target, size_t target_length,
+                    uint32_t answer[SPILLFINCH_ANSWER_LENGTH]);
 
 /* Writes the run list of an outcome record: each program or builtin, its template substituted with the record's properties and with
  * the device. Refusals: 1, 3, 4, 30, all with line 0. */

@@ -1,5 +1,5 @@
-/* The library from C: checks rules texts, takes a device from its fresh outcome record over a run to its run list, converts the record to
- * edition 1 and back, asks who of two holds a link, and writes rules back. */
+/* The library from C: checks rules texts, takes a device from its fresh outcome record over a run to its run list, asks an answer sheet,
+ * converts the record to edition 1 and back, asks who of two holds a link, and writes rules back. */
 #include <stdio.h>
 #include <string.h>
 
@@ -13,6 +13,11 @@ static const uint8_t device[] = "\x10\x10\xbc\x00\x00\x00\x40"            /* one
 static const char rules[] = "KERNEL==\"ttyUSB[0-9]*\", SYMLINK+=\"counter%n\", RUN+=\"tally $env{ID_MODEL}\"\n";
 
 static const size_t device_length = sizeof device - 1;
+
+static const uint8_t no_replies[] = {0};
+static const uint8_t sheet[] = "\x01"                                    /* one reply */
+                               "\x81\x40\x28" "id ttyUSB0" "RC-7\n";    /* a success, command 10 bytes, output 5 */
+static const size_t sheet_length = sizeof sheet - 1;
 
 static uint8_t fresh[SPILLFINCH_OUTCOME_ROOM];
 static uint8_t outcome[SPILLFINCH_OUTCOME_ROOM];
@@ -50,12 +55,31 @@ static void try_mode(unsigned digit, size_t outcome_length)
     outcome[2] |= 0x02;
     outcome[4] = (uint8_t)(digit << 5);
 
-    spillfinch_run((const uint8_t *)rules, strlen(rules), device, device_length, outcome, outcome_length, next, sizeof next, answer);
+    spillfinch_run((const uint8_t *)rules, strlen(rules), device, device_length, outcome, outcome_length, no_replies, sizeof no_replies, next,
+                   sizeof next, answer);
     printf("mode %u, ", digit);
     show_answer("run", answer);
     spillfinch_close(device, device_length, outcome, outcome_length, run_list, sizeof run_list, answer);
     printf("mode %u, ", digit);
     show_answer("close", answer);
+}
+
+/* A rule that asks a program: with its reply, without it, and with a sheet that is cut short. */
+static void ask(size_t fresh_length)
+{
+    uint32_t answer[SPILLFINCH_ANSWER_LENGTH];
+    const char *asks = "PROGRAM==\"id $kernel\", RESULT==\"RC-*\", SYMLINK+=\"counter/%c\"\n";
+    const size_t length = strlen(asks);
+
+    spillfinch_run((const uint8_t *)asks, length, device, device_length, fresh, fresh_length, sheet, sheet_length, next, sizeof next, answer);
+    show_answer("run with an answer sheet", answer);
+    show_bytes(next, answer[SPILLFINCH_USED]);
+    spillfinch_run((const uint8_t *)asks, length, device, device_length, fresh, fresh_length, no_replies, sizeof no_replies, next, sizeof next,
+                   answer);
+    show_answer("run with an empty one", answer);
+    spillfinch_run((const uint8_t *)asks, length, device, device_length, fresh, fresh_length, sheet, sheet_length - 1, next, sizeof next,
+                   answer);
+    show_answer("run with one that is cut short", answer);
 }
 
 /* The outcome as a record of edition 1, and that as one of edition 2 again. */
@@ -68,7 +92,8 @@ static void convert(size_t outcome_length)
     const size_t old_length = answer[SPILLFINCH_USED];
     show_bytes(old, old_length);
 
-    spillfinch_run((const uint8_t *)rules, strlen(rules), device, device_length, old, old_length, next, sizeof next, answer);
+    spillfinch_run((const uint8_t *)rules, strlen(rules), device, device_length, old, old_length, no_replies, sizeof no_replies, next,
+                   sizeof next, answer);
     show_answer("run from edition 1", answer);
 
     spillfinch_newer(device, device_length, old, old_length, next, sizeof next, answer);
@@ -77,7 +102,8 @@ static void convert(size_t outcome_length)
            answer[SPILLFINCH_USED] == outcome_length && memcmp(next, outcome, sizeof next) == 0 ? "yes" : "no");
 
     const char *watch = "OPTIONS=\"watch\"\n";
-    spillfinch_run((const uint8_t *)watch, strlen(watch), device, device_length, outcome, outcome_length, next, sizeof next, answer);
+    spillfinch_run((const uint8_t *)watch, strlen(watch), device, device_length, outcome, outcome_length, no_replies, sizeof no_replies, next,
+                   sizeof next, answer);
     spillfinch_older(device, device_length, next, answer[SPILLFINCH_USED], old, sizeof old, answer);
     show_answer("to edition 1 with watch", answer);
 }
@@ -98,7 +124,8 @@ static void contest(size_t outcome_length)
     uint8_t set[1024] = {2};
 
     const char *priority = "OPTIONS=\"link_priority=1\"\n";
-    spillfinch_run((const uint8_t *)priority, strlen(priority), device, device_length, outcome, outcome_length, next, sizeof next, answer);
+    spillfinch_run((const uint8_t *)priority, strlen(priority), device, device_length, outcome, outcome_length, no_replies,
+                   sizeof no_replies, next, sizeof next, answer);
     const size_t next_length = answer[SPILLFINCH_USED];
     size_t end = put_record(set, 1, device, device_length);
     end = put_record(set, end, outcome, outcome_length);
@@ -130,7 +157,8 @@ int main(void)
     const size_t fresh_length = answer[SPILLFINCH_USED];
     show_bytes(fresh, fresh_length);
 
-    spillfinch_run((const uint8_t *)rules, strlen(rules), device, device_length, fresh, fresh_length, outcome, sizeof outcome, answer);
+    spillfinch_run((const uint8_t *)rules, strlen(rules), device, device_length, fresh, fresh_length, no_replies, sizeof no_replies, outcome,
+                   sizeof outcome, answer);
     show_answer("run", answer);
     const size_t outcome_length = answer[SPILLFINCH_USED];
     show_bytes(outcome, outcome_length);
@@ -141,6 +169,8 @@ int main(void)
 
     spillfinch_close(device, device_length - 1, outcome, outcome_length, run_list, sizeof run_list, answer);
     show_answer("close beside a device record that is cut short", answer);
+
+    ask(fresh_length);
 
     convert(outcome_length);
     contest(outcome_length);

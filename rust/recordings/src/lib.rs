@@ -1,4 +1,5 @@
-//! Device and outcome records: packed, in their text form, and made from recordings of devices.
+//! Device and outcome records and answer sheets: packed, in their text form, and made from
+//! recordings of devices.
 //!
 //! Nothing here judges a record. What is read or made is packed, and the engine accepts or
 //! refuses it.
@@ -10,8 +11,10 @@ pub mod import;
 pub mod outcome;
 mod packed;
 pub mod recording;
+pub mod sheet;
 pub mod sizes;
 
 pub use device::{Action, ChainDevice, Device, Node};
 pub use outcome::{Outcome, RunList, Watch};
 pub use packed::Entry;
+pub use sheet::{Reply, Sheet};

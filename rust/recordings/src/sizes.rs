@@ -23,4 +23,9 @@ pub const RUN_MOST: usize = 256;
 /// Of an owner and of a group.
 pub const OWNER_MOST: usize = 32;
 pub const MODE_DIGITS_MOST: usize = 4;
+/// Of an outcome record and of a reply.
 pub const OUTPUT_MOST: usize = 512;
+
+pub const SHEET_MOST: usize = 32_768;
+pub const REPLIES_MOST: usize = 64;
+pub const COMMAND_MOST: usize = 512;

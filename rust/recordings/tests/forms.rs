@@ -1,6 +1,6 @@
 //! What is said of text forms that describe no record.
 
-use recordings::form::{read_device, read_outcome, FormError};
+use recordings::form::{read_device, read_outcome, read_sheet, FormError};
 use recordings::Node;
 
 fn lines(first: &str, line: impl Fn(usize) -> String, count: usize) -> String {
@@ -125,4 +125,77 @@ fn outcomes_at_fault() {
     let long = format!("tag {}", "t".repeat(65));
     let expected = "line 1: the tag has 65 bytes; it takes 1 to 64";
     assert_eq!(message(read_outcome(long.as_bytes())), expected);
+}
+
+#[test]
+fn a_sheet_with_all_its_words() {
+    let form = b"# asked\r\n\ncommand /bin/id  ttyUSB0 \n\tfailure\noutput\ncommand\\x20x\n";
+    let fault = "line 6: unknown word `command\\x5cx20x`; an answer sheet has command, success, \
+                 failure and output";
+    assert_eq!(message(read_sheet(form)), fault);
+    let form =
+        b"command /bin/id  ttyUSB0 \n\tfailure\noutput\ncommand \\x20x\noutput a \\x0a\nsuccess";
+    let sheet = read_sheet(form).expect("a sound form");
+    assert_eq!(sheet.replies[0].command, b"/bin/id  ttyUSB0");
+    assert!(!sheet.replies[0].is_success);
+    assert_eq!(sheet.replies[0].output, b"");
+    assert_eq!(sheet.replies[1].command, b" x");
+    assert!(sheet.replies[1].is_success);
+    assert_eq!(sheet.replies[1].output, b"a \n");
+    assert_eq!(read_sheet(b"").expect("no reply").replies, []);
+}
+
+#[test]
+fn sheets_at_fault() {
+    let command = |index| format!("command c{index}\nsuccess");
+    let full = |index| {
+        let (command, output) = ("c".repeat(500), "o".repeat(512));
+        format!("command {command}{index}\nsuccess\noutput {output}")
+    };
+    let table = [
+        ("success", "line 1: `success` comes behind its `command`"),
+        ("output a", "line 1: `output` comes behind its `command`"),
+        (
+            "command",
+            "line 1: the command has 0 bytes; it takes 1 to 512",
+        ),
+        ("command a", "line 1: no `success` or `failure` for `a`"),
+        (
+            "command a\ncommand b\nsuccess",
+            "line 2: no `success` or `failure` for `a`",
+        ),
+        (
+            "command a\nsuccess\nfailure",
+            "line 3: a second `success` or `failure`",
+        ),
+        ("command a\nsuccess well", "line 2: `success` stands alone"),
+        ("command a\nfailure 1", "line 2: `failure` stands alone"),
+        (
+            "command a\nsuccess\noutput a\noutput a",
+            "line 4: a second `output`",
+        ),
+        (
+            "command a\nsuccess\ncommand a",
+            "line 3: the same `command` a second time",
+        ),
+        ("command a\\x00", "line 1: a record holds no NUL byte"),
+        (
+            "command a\noutput \\x00",
+            "line 2: a record holds no NUL byte",
+        ),
+        (
+            &lines("", command, 65),
+            "line 129: more than 64 lines of `command`",
+        ),
+        (
+            &lines("", full, 33),
+            "line 100: the packed sheet has 33552 bytes; it takes 32768",
+        ),
+    ];
+    for (form, expected) in table {
+        assert_eq!(message(read_sheet(form.as_bytes())), expected);
+    }
+    let long = format!("command a\nsuccess\noutput {}", "o".repeat(513));
+    let expected = "line 3: the output has 513 bytes; it takes 0 to 512";
+    assert_eq!(message(read_sheet(long.as_bytes())), expected);
 }

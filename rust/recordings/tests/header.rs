@@ -14,6 +14,9 @@ fn sizes_are_those_of_the_header() {
         ("TAGS_MOST", sizes::TAGS_MOST),
         ("RUNS_MOST", sizes::RUNS_MOST),
         ("OUTPUT_MOST", sizes::OUTPUT_MOST),
+        ("SHEET_MOST", sizes::SHEET_MOST),
+        ("REPLIES_MOST", sizes::REPLIES_MOST),
+        ("COMMAND_MOST", sizes::COMMAND_MOST),
     ] {
         let definition = format!("#define SPILLFINCH_{name} {size}");
         assert!(header.lines().any(|line| line == definition), "{name}");

@@ -1,10 +1,12 @@
 //! Packed records and text forms beside those of the reference.
 
-use recordings::form::{read_device, read_outcome, write_device, write_outcome};
+use recordings::form::{
+    read_device, read_outcome, read_sheet, write_device, write_outcome, write_sheet,
+};
 use recordings::outcome::{Command, RunType};
-use recordings::{Device, Outcome, RunList};
+use recordings::{Device, Outcome, Reply, RunList, Sheet};
 use reference::generate::case;
-use reference::text_form;
+use reference::{sheet_form, text_form};
 
 const CASES: u64 = 20_000;
 
@@ -49,6 +51,47 @@ fn outcome_records() {
         assert_eq!(read, Ok(outcome), "seed {seed}:\n{form}");
     }
     assert!(sound > CASES / 2, "{sound} sound records");
+}
+
+#[test]
+fn answer_sheets() {
+    let mut sound = 0;
+    for seed in 0..CASES {
+        let packed = case(seed).sheet;
+        let decoded = Sheet::decode(&packed);
+        let Some(judged) = reference::Sheet::decode(&packed) else {
+            decoded.and_then(|sheet| sheet.encode());
+            continue;
+        };
+        sound += 1;
+        let sheet = decoded.expect("a sound sheet is decoded");
+        assert_eq!(sheet.encode().as_ref(), Some(&packed), "seed {seed}");
+        let form = write_sheet(&sheet);
+        assert_eq!(form, sheet_form::show_sheet(&judged), "seed {seed}");
+        let read = read_sheet(form.as_bytes());
+        assert_eq!(read, Ok(sheet), "seed {seed}:\n{form}");
+    }
+    assert!(sound > CASES / 2, "{sound} sound sheets");
+}
+
+#[test]
+fn a_sheet_by_hand() {
+    let sheet = Sheet::decode(b"\x02\x80\x20\x10qab\x00\x20\x00x").expect("a sheet");
+    let reply = |is_success, command: &[u8], output: &[u8]| Reply {
+        is_success,
+        command: command.to_vec(),
+        output: output.to_vec(),
+    };
+    assert_eq!(
+        sheet.replies,
+        [reply(true, b"q", b"ab"), reply(false, b"x", b"")]
+    );
+    assert_eq!(Sheet::decode(b"\x00"), Some(Sheet::default()));
+    assert_eq!(Sheet::default().encode(), Some(vec![0]));
+    assert_eq!(Sheet::decode(b""), None);
+    assert_eq!(Sheet::decode(b"\x01\x80\x20\x11qab"), None);
+    assert_eq!(Sheet::decode(b"\x01\x80\x20\x10qa"), None);
+    assert_eq!(Sheet::decode(b"\x00\x00"), None);
 }
 
 #[test]

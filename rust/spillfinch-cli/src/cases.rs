@@ -3,13 +3,15 @@
 use std::path::{Path, PathBuf};
 
 use crate::report::Failure;
-use crate::running::{head, Rules};
+use crate::running::{head, Beside, Rules};
 use crate::{device, files};
 
 /// The name of the expected listing in a case.
 pub const EXPECTED: &str = "expected";
 /// The name of the outcome record that a case starts from, if not from the fresh one.
 const START: &str = "from";
+/// The name of the answer sheet of a case, if it has one.
+const SHEET: &str = "sheet";
 const RULES: &str = ".rules";
 const DEVICES: [&str; 2] = [".device", ".umockdev"];
 
@@ -99,8 +101,12 @@ impl Case {
 
     /// Runs the rules on each device of the case.
     pub fn run(&self) -> Result<Outcome, Failure> {
-        let start = self.folder.join(START);
-        let rules = Rules::read(&self.rules, start.exists().then_some(&start))?;
+        let (start, sheet) = (self.folder.join(START), self.folder.join(SHEET));
+        let beside = Beside {
+            start: start.exists().then_some(&start),
+            sheet: sheet.exists().then_some(&sheet),
+        };
+        let rules = Rules::read(&self.rules, beside)?;
         let mut outcome = Outcome::default();
         for path in &self.devices {
             let device = device::read(path.as_os_str(), &rules.text)?;

@@ -1,15 +1,15 @@
 //! Devices as they are named on the command line: a packed record, a text form, or one device
-//! of a recording.
+//! of a recording; and the outcome record and the answer sheet beside them.
 
 use std::ffi::OsStr;
 use std::os::unix::ffi::OsStrExt;
 use std::path::{Path, PathBuf};
 
 use recordings::escape::escape;
-use recordings::form::{read_device, read_outcome, FormError};
+use recordings::form::{read_device, read_outcome, read_sheet, FormError};
 use recordings::import::{import, Named};
 use recordings::recording::{is_recording, read_recording, Block};
-use recordings::{Action, Device, Entry, Outcome};
+use recordings::{Action, Device, Entry, Outcome, Sheet};
 use spillfinch::Refused;
 
 use crate::files;
@@ -104,6 +104,25 @@ pub fn read_start(file: &Path) -> Result<Vec<u8>, Failure> {
     }
     let outcome = read_outcome(&bytes).map_err(|error| at_line(file, &error))?;
     packed(file, outcome.encode())
+}
+
+/// The packed answer sheet, from a packed one or a text form.
+pub fn read_answers(file: &Path) -> Result<Vec<u8>, Failure> {
+    let bytes = files::read(file)?;
+    if is_packed_sheet(&bytes) {
+        return Ok(bytes);
+    }
+    let sheet = read_sheet(&bytes).map_err(|error| at_line(file, &error))?;
+    packed(file, sheet.encode())
+}
+
+/// A packed sheet begins with a number up to 64, of which a text form can begin with few; the
+/// others decide only where they are followed by as many replies.
+fn is_packed_sheet(bytes: &[u8]) -> bool {
+    let is_of_text = |byte: &u8| matches!(byte, b'\t' | b'\n' | b'\r' | b' '..);
+    bytes.first().is_some_and(|first| !is_of_text(first))
+        || bytes.contains(&0)
+        || Sheet::decode(bytes).is_some()
 }
 
 /// Records of edition 1 have that number in their first four bits, which no byte of a text

@@ -12,14 +12,21 @@ pub struct Listed {
     pub record: Vec<u8>,
 }
 
-/// Runs a text for a device, from an outcome record or from the fresh one, and closes.
-pub fn list(text: &[u8], device: &[u8], start: Option<&[u8]>) -> Result<Listed, Refused> {
+/// Runs a text for a device, from an outcome record or from the fresh one, with an answer sheet or
+/// with the empty one, and closes.
+pub fn list(
+    text: &[u8],
+    device: &[u8],
+    start: Option<&[u8]>,
+    sheet: Option<&[u8]>,
+) -> Result<Listed, Refused> {
     let fresh = match start {
         Some(_) => Vec::new(),
         // A faulty device has no fresh record; the run refuses it, a faulty text first.
         None => spillfinch::fresh(device).unwrap_or_default(),
     };
-    let ran = spillfinch::run(text, device, start.unwrap_or(&fresh))?;
+    let sheet = sheet.unwrap_or(spillfinch::EMPTY_SHEET);
+    let ran = spillfinch::run(text, device, start.unwrap_or(&fresh), sheet)?;
     let list = spillfinch::close(device, &ran.record)?;
     Ok(Listed {
         listing: lines(&ran, &list),

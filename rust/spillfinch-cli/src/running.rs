@@ -8,16 +8,35 @@ use crate::device::{self, Recorded};
 use crate::report::Failure;
 use crate::{files, listing};
 
-/// A rules file, with the outcome record that its runs start from if not from the fresh one.
+/// A rules file, with the outcome record that its runs start from if not from the fresh one, and
+/// the answer sheet that they ask if not the empty one.
 pub struct Rules {
     path: PathBuf,
     pub text: Vec<u8>,
-    start: Option<Start>,
+    start: Option<Lent>,
+    sheet: Option<Lent>,
 }
 
-struct Start {
+/// The files that are lent beside the rules.
+#[derive(Clone, Copy, Default)]
+pub struct Beside<'a> {
+    pub start: Option<&'a Path>,
+    pub sheet: Option<&'a Path>,
+}
+
+/// A file that was read, as it is packed.
+struct Lent {
     path: PathBuf,
-    record: Vec<u8>,
+    packed: Vec<u8>,
+}
+
+impl Lent {
+    fn read(path: &Path, read: fn(&Path) -> Result<Vec<u8>, Failure>) -> Result<Lent, Failure> {
+        Ok(Lent {
+            path: path.to_path_buf(),
+            packed: read(path)?,
+        })
+    }
 }
 
 /// What a device gets.
@@ -28,23 +47,26 @@ pub struct Given {
 }
 
 impl Rules {
-    pub fn read(path: &Path, start_file: Option<&Path>) -> Result<Rules, Failure> {
-        let start = |path: &Path| {
-            Ok(Start {
-                path: path.to_path_buf(),
-                record: device::read_start(path)?,
-            })
-        };
+    pub fn read(path: &Path, beside: Beside) -> Result<Rules, Failure> {
+        let text = files::read(path)?;
+        let start = beside
+            .start
+            .map(|path| Lent::read(path, device::read_start));
+        let sheet = beside
+            .sheet
+            .map(|path| Lent::read(path, device::read_answers));
         Ok(Rules {
             path: path.to_path_buf(),
-            text: files::read(path)?,
-            start: start_file.map(start).transpose()?,
+            text,
+            start: start.transpose()?,
+            sheet: sheet.transpose()?,
         })
     }
 
     pub fn run(&self, device: &Recorded) -> Given {
-        let start = self.start.as_ref().map(|start| start.record.as_slice());
-        match listing::list(&self.text, &device.record, start) {
+        let start = self.start.as_ref().map(|start| start.packed.as_slice());
+        let sheet = self.sheet.as_ref().map(|sheet| sheet.packed.as_slice());
+        match listing::list(&self.text, &device.record, start, sheet) {
             Ok(listed) => Given {
                 listing: listed.listing,
                 record: Ok(listed.record),
@@ -61,9 +83,11 @@ impl Rules {
         let Refused { refusal, line } = *refused;
         let number = refusal.number();
         let rules = files::shown(&self.path);
-        let file = match (refusal, &self.start) {
-            (Refusal::DeviceBad, _) => name.to_string(),
-            (Refusal::OutcomeBad, Some(start)) => files::shown(&start.path),
+        let file = match (refusal, &self.start, &self.sheet) {
+            (Refusal::DeviceBad, ..) => name.to_string(),
+            (Refusal::OutcomeBad, Some(lent), _) | (Refusal::SheetBad, _, Some(lent)) => {
+                files::shown(&lent.path)
+            }
             _ if line > 0 => format!("{rules}:{line}"),
             _ => rules,
         };
@@ -72,10 +96,11 @@ impl Rules {
             true => format!(", for {name}"),
             false => String::new(),
         };
-        let hint = match (refusal, &self.start) {
-            (Refusal::OutcomeBad, Some(start)) if device::is_old(&start.record) => {
+        let hint = match (refusal, &self.start, &self.sheet) {
+            (Refusal::OutcomeBad, Some(start), _) if device::is_old(&start.packed) => {
                 "; it is of edition 1, of which `spillfinch convert` makes edition 2"
             }
+            (Refusal::CommandMissing, _, None) => "; no sheet is given",
             _ => "",
         };
         format!("{file}: refused {number}: {refusal}{hint}{of_device}")

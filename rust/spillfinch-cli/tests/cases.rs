@@ -100,6 +100,28 @@ fn several_devices_a_start_and_rules_of_its_own() {
 }
 
 #[test]
+fn a_case_with_an_answer_sheet() {
+    let folder = folder("test_sheet");
+    folder
+        .file("ask/tty.device", DEVICE)
+        .file("ask/own.rules", "PROGRAM==\"id %k\", TAG+=\"asked\"\n")
+        .file("ask/sheet", "command id ttyUSB0\nsuccess\n")
+        .file(
+            "ask/expected",
+            "visited 1\ntried 0\npriority 0\ntag asked\n",
+        );
+    folder
+        .run(&["test"])
+        .is(0, "3 cases: 3 passed, 0 failed\n", "");
+    folder
+        .file("ask/sheet", "command id ttyUSB1\nsuccess\n")
+        .file("ask/expected", "refused 35 line 1\n");
+    folder
+        .run(&["test"])
+        .is(0, "3 cases: 3 passed, 0 failed\n", "");
+}
+
+#[test]
 fn a_refusal_can_be_expected() {
     let folder = folder("test_refused");
     folder
@@ -187,7 +209,7 @@ fn folders_without_cases() {
 #[test]
 fn the_examples_pass() {
     let said = run_in(&repository(), &["test", "examples/cases"], b"");
-    said.is(0, "2 cases: 2 passed, 0 failed\n", "");
+    said.is(0, "3 cases: 3 passed, 0 failed\n", "");
 }
 
 /// The first case waits for a pipe that is written late.

@@ -3,8 +3,11 @@
 mod common;
 
 use common::{repository, Folder, DEVICE, RULES};
+use recordings::form::read_sheet;
 use reference::generate::case;
 use std::fs;
+
+const SHEET: &str = "command id ttyUSB0\n  success\n  output RC-0417\ncommand lamp\n  failure\n";
 
 /// A few bytes of a file changed, cut off or put in, by a number that decides where.
 fn damaged(file: &[u8], seed: usize) -> Vec<u8> {
@@ -25,6 +28,8 @@ fn every_command_ends_well_or_says_why() {
     folder.file("good.rules", RULES).file("good.device", DEVICE);
     let counter = fs::read(repository().join("examples/devices/counter.umockdev"));
     let counter = counter.expect("the recording");
+    let sheet = read_sheet(SHEET.as_bytes()).expect("a sound form");
+    let sheet = sheet.encode().expect("a small sheet");
     let mut ends = [0; 3];
     for seed in 0..120 {
         let packed = damaged(&case(seed as u64).device, seed);
@@ -33,6 +38,8 @@ fn every_command_ends_well_or_says_why() {
             .file("rules", damaged(RULES.as_bytes(), seed))
             .file("packed", packed)
             .file("outcome", outcome)
+            .file("sheet", damaged(&sheet, seed))
+            .file("sheet-form", damaged(SHEET.as_bytes(), seed))
             .file("form", damaged(DEVICE.as_bytes(), seed))
             .file("recording", damaged(&counter, seed));
         for arguments in [
@@ -56,6 +63,22 @@ fn every_command_ends_well_or_says_why() {
                 "good.device",
                 "--from",
                 "outcome",
+            ],
+            &[
+                "run",
+                "good.rules",
+                "--device",
+                "good.device",
+                "--sheet",
+                "sheet",
+            ],
+            &[
+                "run",
+                "good.rules",
+                "--device",
+                "good.device",
+                "--sheet",
+                "sheet-form",
             ],
             &["show", "packed"],
             &["show", "form"],

@@ -3,7 +3,7 @@
 use std::path::PathBuf;
 
 use reference::generate::case;
-use spillfinch::{Refusal, Refused};
+use spillfinch::{Refusal, Refused, EMPTY_SHEET};
 use spillfinch_cli::check::{check, Subject};
 use spillfinch_cli::listing::{list, refused};
 use spillfinch_cli::syntax::line::read_line;
@@ -98,12 +98,15 @@ fn every_fault_is_found() {
 fn listings_are_those_of_the_reference() {
     for seed in 0..CASES {
         let case = case(seed);
-        for start in [None, Some(&case.outcome[..])] {
-            let listing = match list(&case.text, &case.device, start) {
+        for (start, sheet) in [
+            (None, None),
+            (Some(&case.outcome[..]), Some(&case.sheet[..])),
+        ] {
+            let listing = match list(&case.text, &case.device, start, sheet) {
                 Ok(listed) => listed.listing,
                 Err(found) => refused(&found),
             };
-            let expected = reference::listing(&case.text, &case.device, start);
+            let expected = reference::listing(&case.text, &case.device, start, sheet);
             assert_eq!(listing, String::from_utf8_lossy(&expected), "seed {seed}");
         }
     }
@@ -148,7 +151,7 @@ fn quoted_pairs_hold() {
             written += 1;
             rule.extend_from_slice(b", OPTIONS=\"link_priority=7\"");
             let shown = String::from_utf8_lossy(&rule).into_owned();
-            let ran = spillfinch::run(&rule, &record, &start);
+            let ran = spillfinch::run(&rule, &record, &start, EMPTY_SHEET);
             let ran = ran.unwrap_or_else(|refused| panic!("{shown}: {refused}"));
             let outcome = recordings::Outcome::decode(&ran.record).expect("a record");
             assert_eq!(outcome.priority, 7, "seed {seed}: {shown}");
@@ -176,7 +179,7 @@ fn values_behind_an_e_are_read_as_the_engine_reads_them() {
             assert_eq!(found, of_engine(line.as_bytes()), "{line}");
         }
         let line = format!("ENV{{a}}=e\"{written}\"");
-        if let Ok(ran) = spillfinch::run(line.as_bytes(), &record, &start) {
+        if let Ok(ran) = spillfinch::run(line.as_bytes(), &record, &start, EMPTY_SHEET) {
             let outcome = recordings::Outcome::decode(&ran.record).expect("a record");
             let value = &read_line(line.as_bytes()).pairs[0].value.bytes;
             assert_eq!(&outcome.properties[0].value, value, "{line}");

@@ -126,7 +126,20 @@ fn hints_of_every_fault() {
         ("SYMLINK+=\"a%\"", "15 write %% for the sign itself"),
         ("SYMLINK+=\"100%x\"", "15 write %% for the sign itself"),
         ("SYMLINK+=\"$kernle\"", "15 did you mean $kernel?"),
-        ("SYMLINK+=\"%c\"", "15 udev's $result is not read here"),
+        (
+            "SYMLINK+=\"%c{1}\"",
+            "15 %c inserts the whole output; its parts are not read here",
+        ),
+        (
+            "PROGRAM==\"a $result{1+}\"",
+            "15 $result inserts the whole output; its parts are not read here",
+        ),
+        ("PROGRAM==\"$x\"", "15 write $$ for the sign itself"),
+        ("PROGRAM-=\"a\"", "13 PROGRAM takes ==, !=, =, += or :="),
+        ("PROGRAM{a}==\"a\"", "12 PROGRAM takes no argument"),
+        ("RESULT=\"a\"", "13 RESULT takes == or !="),
+        ("RESULT==\"[\"", "15 no `]` closes this set"),
+        ("PROGRAM==\"[\"", ""),
         (
             "SYMLINK+=\"$devnode\"",
             "15 udev's $devnode is not read here",

@@ -65,6 +65,69 @@ fn records_are_written_and_taken_up() {
 }
 
 #[test]
+fn an_answer_sheet_as_text_and_packed() {
+    let folder = folder("run_sheet");
+    folder
+        .file(
+            "ask.rules",
+            "PROGRAM==\"id %k\", RESULT==\"RC-*\", SYMLINK+=\"counter/%c\"\n",
+        )
+        .file(
+            "sheet",
+            "command id ttyUSB0\n  success\n  output RC-0417\\x0a\n",
+        )
+        .file(
+            "packed",
+            b"\x02\x00\x20\x00x\x81\x40\x40id ttyUSB0RC-0417\n",
+        );
+    for sheet in ["sheet", "packed"] {
+        let said = folder.run(&[
+            "run",
+            "ask.rules",
+            "--device",
+            "tty.device",
+            "--sheet",
+            sheet,
+        ]);
+        said.is(
+            0,
+            "visited 1\ntried 0\npriority 0\nlink counter/RC-0417\n",
+            "",
+        );
+    }
+    // The output is kept in the record.
+    folder
+        .file("later.rules", "RESULT==\"RC-0417\", TAG+=\"known\"\n")
+        .file("empty", "# nothing was asked\n");
+    let said = folder.run(&[
+        "run",
+        "ask.rules",
+        "--device",
+        "tty.device",
+        "--sheet",
+        "sheet",
+        "--record",
+        "out",
+    ]);
+    assert_eq!(said.status, 0, "{}", said.err);
+    for sheet in [&[][..], &["--sheet", "empty"]] {
+        let fixed = [
+            "run",
+            "later.rules",
+            "--device",
+            "tty.device",
+            "--from",
+            "out",
+        ];
+        folder.run(&[&fixed[..], sheet].concat()).is(
+            0,
+            "visited 1\ntried 0\npriority 0\nlink counter/RC-0417\ntag known\n",
+            "",
+        );
+    }
+}
+
+#[test]
 fn a_packed_record_is_a_device() {
     let folder = folder("run_packed");
     let packed = b"\x10\x10\xbc\x00\x00\x00\x00\x0a\x86\x00\x00/devices/usb1/ttyUSB0tty";

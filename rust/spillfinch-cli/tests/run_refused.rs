@@ -59,6 +59,56 @@ fn refusals() {
 }
 
 #[test]
+fn answer_sheets_that_are_refused() {
+    let folder = folder("run_sheet_refused");
+    folder
+        .file("ask.rules", "\nPROGRAM==\"id %k\", TAG+=\"t\"\n")
+        .file("long.rules", format!("PROGRAM==\"{}\"\n", "%p".repeat(20)))
+        .file("sheet", "command id\nsuccess\n")
+        .file("cut", b"\x01\x81")
+        .file("twice", b"\x02\x00\x20\x00x\x80\x20\x00x")
+        .file("bad", "command id\nsucces\n");
+    let run = |rules: &str, more: &[&str]| {
+        let fixed = ["run", rules, "--device", "tty.device"];
+        folder.run(&[&fixed[..], more].concat())
+    };
+    run("ask.rules", &[]).is(
+        1,
+        "refused 35 line 2\n",
+        "ask.rules:2: refused 35: command that is not on the answer sheet; no sheet is given, \
+         for tty.device\n",
+    );
+    run("ask.rules", &["--sheet", "sheet"]).is(
+        1,
+        "refused 35 line 2\n",
+        "ask.rules:2: refused 35: command that is not on the answer sheet, for tty.device\n",
+    );
+    run("long.rules", &["--sheet", "sheet"]).is(
+        1,
+        "refused 30 line 1\n",
+        "long.rules:1: refused 30: substituted text longer than 512 bytes, for tty.device\n",
+    );
+    for sheet in ["cut", "twice"] {
+        run("rope.rules", &["--sheet", sheet]).is(
+            1,
+            "refused 6 line 0\n",
+            &format!("{sheet}: refused 6: the answer sheet is faulty\n"),
+        );
+    }
+    run("rope.rules", &["--sheet", "bad"]).is(
+        2,
+        "",
+        "spillfinch: bad:2: unknown word `succes`; an answer sheet has command, success, failure \
+         and output\n",
+    );
+    run("rope.rules", &["--sheet", "none"]).is(
+        2,
+        "",
+        "spillfinch: none: No such file or directory\n",
+    );
+}
+
+#[test]
 fn a_refused_run_writes_no_record() {
     let folder = folder("run_no_record");
     folder

@@ -18,9 +18,7 @@ fn faulty_lines_struck() {
     folder
         .file("site.rules", SITE)
         .file("b/well.rules", "TAG+=\"d\"\n# c");
-    folder
-        .run(&["strike", "site.rules"])
-        .is(0, LEFT, STRIKES);
+    folder.run(&["strike", "site.rules"]).is(0, LEFT, STRIKES);
     let both = format!("TAG+=\"d\"\n# c{LEFT}");
     folder
         .run(&["strike", "b", "site.rules"])
@@ -45,11 +43,7 @@ fn files_written_in_place() {
     let folder = Folder::new("strike_in_place");
     folder.file("site.rules", SITE).file("well.rules", LEFT);
     let said = folder.run(&["strike", "--in-place", "."]);
-    said.is(
-        0,
-        "written site.rules\n2 files, 2 lines struck\n",
-        STRIKES,
-    );
+    said.is(0, "written site.rules\n2 files, 2 lines struck\n", STRIKES);
     assert_eq!(folder.read("site.rules"), LEFT);
     let said = folder.run(&["strike", "--in-place", "."]);
     said.is(0, "2 files, 0 lines struck\n", "");

@@ -142,6 +142,33 @@ fn each_difference() {
         // Rules without effect.
         ("KERNEL==\"a\", SUBSYSTEM==\"b\"", "E23:1:1"),
         ("KERNEL==\"a\", LABEL=\"b\"", ""),
+        ("KERNEL==\"a\", PROGRAM=\"b\"", ""),
+        // Commands are no patterns, and have their templates.
+        ("PROGRAM==\"a\\*[^b]\", TAG+=\"t\"", ""),
+        ("PROGRAM=\"a %b\", TAG+=\"t\"", "E14:1:12"),
+        // The output of programs.
+        (
+            "PROGRAM==\"a\", RUN+=\"b %c\"\nPROGRAM==\"c\", TAG+=\"t\"",
+            "E12:1:23",
+        ),
+        ("PROGRAM==\"a\", RUN+=\"b $result\"", ""),
+        (
+            "PROGRAM==\"a\", TAG+=\"t\"\nPROGRAM==\"b\", TAG+=\"t\"\nRESULT==\"c\", TAG+=\"t\"",
+            "E24:3:1",
+        ),
+        ("PROGRAM==\"a\", TAG+=\"t\"\nRESULT==\"c\", RUN+=\"%c\"", ""),
+        (
+            "PROGRAM==\"a\", PROGRAM==\"b\", RESULT==\"c\", RUN+=\"%c\"",
+            "",
+        ),
+        (
+            "PROGRAM==\"a\", TAG+=\"t\"\nPROGRAM!=\"b\", RUN+=\"x$result\"",
+            "E24:2:22",
+        ),
+        ("PROGRAM==\"a\", RESULT==\"b;c\", TAG+=\"t\"", "E24:1:25"),
+        ("PROGRAM==\"a\", RESULT==\"[a-c]*|d,e\", TAG+=\"t\"", ""),
+        ("PROGRAM==\"a\", PROGRAM==\"b %c\", TAG+=\"t\"", "E24:1:27"),
+        ("PROGRAM==\"a\", SYMLINK+=\"b/%c\"", "E24:1:27"),
     ] {
         let found = warnings(&folder, text, &[]);
         assert_eq!(found, expected, "{text}");

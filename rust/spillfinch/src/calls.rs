@@ -32,6 +32,8 @@ extern "C" {
         device_length: usize,
         outcome: *const u8,
         outcome_length: usize,
+        sheet: *const u8,
+        sheet_length: usize,
         target: *mut u8,
         target_length: usize,
         answer: *mut Answer,
@@ -113,7 +115,14 @@ pub fn fresh(device: &[u8], target: &mut [u8], answer: &mut Answer) {
     }
 }
 
-pub fn run(text: &[u8], device: &[u8], outcome: &[u8], target: &mut [u8], answer: &mut Answer) {
+pub fn run(
+    text: &[u8],
+    device: &[u8],
+    outcome: &[u8],
+    sheet: &[u8],
+    target: &mut [u8],
+    answer: &mut Answer,
+) {
     unsafe {
         spillfinch_run(
             text.as_ptr(),
@@ -122,6 +131,8 @@ pub fn run(text: &[u8], device: &[u8], outcome: &[u8], target: &mut [u8], answer
             device.len(),
             outcome.as_ptr(),
             outcome.len(),
+            sheet.as_ptr(),
+            sheet.len(),
             target.as_mut_ptr(),
             target.len(),
             answer,

@@ -12,6 +12,9 @@ pub use refusal::{Refusal, Refused, RefusedSet};
 
 use calls::Answer;
 
+/// The packed answer sheet without replies.
+pub const EMPTY_SHEET: &[u8] = &[0];
+
 /// What a run leaves.
 #[derive(Clone, Debug, PartialEq, Eq)]
 pub struct Ran {
@@ -47,10 +50,11 @@ pub fn fresh(device: &[u8]) -> Result<Vec<u8>, Refused> {
     Ok(record)
 }
 
-/// Runs a rules text for a device, from an outcome record to the next one.
-pub fn run(text: &[u8], device: &[u8], outcome: &[u8]) -> Result<Ran, Refused> {
+/// Runs a rules text for a device, from an outcome record to the next one. What its PROGRAM keys
+/// ask is looked up on the answer sheet.
+pub fn run(text: &[u8], device: &[u8], outcome: &[u8], sheet: &[u8]) -> Result<Ran, Refused> {
     let (answer, record) = written(sizes::OUTCOME_ROOM, |target, answer| {
-        calls::run(text, device, outcome, target, answer);
+        calls::run(text, device, outcome, sheet, target, answer);
     })?;
     Ok(Ran {
         visited: answer[calls::VISITED],

@@ -11,6 +11,7 @@ pub enum Refusal {
     DeviceBad = 3,
     OutcomeBad = 4,
     TooNew = 5,
+    SheetBad = 6,
     SetBad = 7,
     LineBad = 10,
     KeyBad = 11,
@@ -28,18 +29,20 @@ pub enum Refusal {
     ListFull = 32,
     OwnerBad = 33,
     ModeBad = 34,
+    CommandMissing = 35,
     ModeShared = 36,
 }
 
 use Refusal::*;
 
 impl Refusal {
-    pub const ALL: [Refusal; 23] = [
+    pub const ALL: [Refusal; 25] = [
         TargetShort,
         TextLong,
         DeviceBad,
         OutcomeBad,
         TooNew,
+        SheetBad,
         SetBad,
         LineBad,
         KeyBad,
@@ -57,6 +60,7 @@ impl Refusal {
         ListFull,
         OwnerBad,
         ModeBad,
+        CommandMissing,
         ModeShared,
     ];
 
@@ -78,6 +82,7 @@ impl Refusal {
             DeviceBad => "the device record is faulty",
             OutcomeBad => "the outcome record is faulty",
             TooNew => "edition 1 has no room for an output, watch or nowatch",
+            SheetBad => "the answer sheet is faulty",
             SetBad => "the set has more than 64 records, or is not laid out as one",
             LineBad => "line longer than 1024 bytes, or with a NUL byte",
             KeyBad => "unknown or missing key",
@@ -97,6 +102,7 @@ impl Refusal {
             ListFull => "no room for one more link, tag, program or property",
             OwnerBad => "faulty owner or group",
             ModeBad => "faulty mode",
+            CommandMissing => "command that is not on the answer sheet",
             ModeShared => "mode that lets others write",
         }
     }

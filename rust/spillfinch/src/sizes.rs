@@ -10,6 +10,7 @@ pub const RUN_LIST_ROOM: usize = 8_225;
 pub const CONTEST_ROOM: usize = 134_144;
 
 pub const TEXT_MOST: usize = 32_768;
+pub const SHEET_MOST: usize = 32_768;
 /// Two numbers for each of the 16,384 lines that can be struck from a text.
 pub const STRIKES_ROOM: usize = 32_768;
 pub const LINE_MOST: usize = 1_024;

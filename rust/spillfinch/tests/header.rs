@@ -42,6 +42,7 @@ fn sizes_are_those_of_the_header() {
         ("CONTEST_ROOM", sizes::CONTEST_ROOM),
         ("RECORDS_MOST", sizes::RECORDS_MOST),
         ("TEXT_MOST", sizes::TEXT_MOST),
+        ("SHEET_MOST", sizes::SHEET_MOST),
         ("LINE_MOST", sizes::LINE_MOST),
         ("VALUE_MOST", sizes::VALUE_MOST),
         ("PAIRS_MOST", sizes::PAIRS_MOST),

@@ -2,7 +2,7 @@
 
 use spillfinch::{
     check, close, contest, fresh, newer, older, run, sizes, strike, write, Claimant, Held, Refusal,
-    Refused, RefusedSet, Struck,
+    Refused, RefusedSet, Struck, EMPTY_SHEET,
 };
 
 /// ttyUSB0 with one property and no parents.
@@ -28,7 +28,7 @@ fn checks() {
 fn runs_and_closes() {
     let start = fresh(DEVICE).expect("a sound device");
     assert_eq!(start[13..], *b"\x10\x07ID_MODELcounter");
-    let ran = run(RULES, DEVICE, &start).expect("an accepted run");
+    let ran = run(RULES, DEVICE, &start, EMPTY_SHEET).expect("an accepted run");
     assert_eq!(ran.visited, 1);
     assert_eq!(ran.record[13..22], *b"\x08counter0");
     let list = close(DEVICE, &ran.record).expect("an accepted close");
@@ -38,7 +38,7 @@ fn runs_and_closes() {
 #[test]
 fn converts() {
     let start = fresh(DEVICE).expect("a sound device");
-    let ran = run(RULES, DEVICE, &start).expect("an accepted run");
+    let ran = run(RULES, DEVICE, &start, EMPTY_SHEET).expect("an accepted run");
     let old = older(DEVICE, &ran.record).expect("nothing that edition 1 lacks");
     assert_eq!(old[0], ran.record[0] - 16);
     assert_eq!(old[11..], ran.record[13..]);
@@ -46,7 +46,8 @@ fn converts() {
     assert_eq!(newer(DEVICE, &ran.record), refused(Refusal::OutcomeBad, 0));
     assert_eq!(older(DEVICE, &old), refused(Refusal::OutcomeBad, 0));
     assert_eq!(close(DEVICE, &old), refused(Refusal::OutcomeBad, 0));
-    let watched = run(b"OPTIONS=\"watch\"", DEVICE, &start).expect("an accepted run");
+    let watched = run(b"OPTIONS=\"watch\"", DEVICE, &start, EMPTY_SHEET);
+    let watched = watched.expect("an accepted run");
     assert_eq!(older(DEVICE, &watched.record), refused(Refusal::TooNew, 0));
 }
 
@@ -54,7 +55,7 @@ fn converts() {
 fn contests() {
     let start = fresh(DEVICE).expect("a sound device");
     let ran = |rules: &str| {
-        let ran = run(rules.as_bytes(), DEVICE, &start).expect("an accepted run");
+        let ran = run(rules.as_bytes(), DEVICE, &start, EMPTY_SHEET).expect("an accepted run");
         ran.record
     };
     let low = ran("SYMLINK+=\"rope a\", OPTIONS=\"link_priority=-1\"");
@@ -160,7 +161,7 @@ fn fullest_records() {
     let output = [b'y'; 512];
     let new = [&header.to_be_bytes()[3..], &output, &parts].concat();
     assert_eq!(new.len(), sizes::OUTCOME_ROOM);
-    let ran = run(b"", DEVICE, &new).expect("the fullest record");
+    let ran = run(b"", DEVICE, &new, EMPTY_SHEET).expect("the fullest record");
     assert_eq!(ran.record, new);
     assert_eq!(older(DEVICE, &new), refused(Refusal::TooNew, 0));
 
@@ -262,7 +263,11 @@ fn strikes_the_most() {
 #[test]
 fn refuses() {
     assert_eq!(fresh(b""), refused(Refusal::DeviceBad, 0));
-    assert_eq!(run(RULES, DEVICE, b""), refused(Refusal::OutcomeBad, 0));
+    let empty = EMPTY_SHEET;
+    assert_eq!(
+        run(RULES, DEVICE, b"", empty),
+        refused(Refusal::OutcomeBad, 0)
+    );
     assert_eq!(close(DEVICE, b""), refused(Refusal::OutcomeBad, 0));
     assert_eq!(newer(b"", b""), refused(Refusal::DeviceBad, 0));
     assert_eq!(newer(DEVICE, b""), refused(Refusal::OutcomeBad, 0));
@@ -270,9 +275,60 @@ fn refuses() {
     assert_eq!(older(DEVICE, b""), refused(Refusal::OutcomeBad, 0));
     let start = fresh(DEVICE).expect("a sound device");
     assert_eq!(
-        run(b"SYMLINK=\"../x\"", DEVICE, &start),
+        run(b"SYMLINK=\"../x\"", DEVICE, &start, empty),
         refused(Refusal::LinkBad, 1)
     );
+}
+
+/// Success of `id ttyUSB0` with RC-7 and a newline, failure of `lamp`.
+const SHEET: &[u8] = b"\x02\x81\x40\x28id ttyUSB0RC-7\n\x00\x80\x00lamp";
+
+#[test]
+fn asks_a_sheet() {
+    let start = fresh(DEVICE).expect("a sound device");
+    let ask = |text: &[u8], sheet: &[u8]| run(text, DEVICE, &start, sheet);
+    let ran = ask(b"PROGRAM==\"id %k\", SYMLINK=\"a$result\"", SHEET).expect("an accepted run");
+    assert_eq!(ran.record[13..17], *b"RC-7");
+    assert_eq!(ran.record[17..23], *b"\x05aRC-7");
+    let none = b"PROGRAM!=\"lamp\", RESULT==\"\", PROGRAM==\"lamp\", SYMLINK=\"a\"";
+    assert_eq!(ask(none, SHEET).expect("an accepted run").record, start);
+    let asked = b"\n\nPROGRAM!=\"nothing\"";
+    assert_eq!(ask(asked, SHEET), refused(Refusal::CommandMissing, 3));
+    assert_eq!(ask(asked, EMPTY_SHEET), refused(Refusal::CommandMissing, 3));
+    for sheet in [&b""[..], b"\x41", &SHEET[..20], &[SHEET, b"x"].concat()] {
+        assert_eq!(ask(b"", sheet), refused(Refusal::SheetBad, 0), "{sheet:?}");
+    }
+}
+
+/// A sheet of as many replies, each of so many bytes.
+fn sheet(count: u8, length: usize) -> Vec<u8> {
+    let mut sheet = vec![count];
+    for command in names(count, length) {
+        let head = (length << 13) as u32;
+        sheet.extend(&head.to_be_bytes()[1..]);
+        sheet.extend(command);
+    }
+    sheet
+}
+
+#[test]
+fn fullest_sheets() {
+    let start = fresh(DEVICE).expect("a sound device");
+    let ask = |sheet: &[u8]| run(b"", DEVICE, &start, sheet);
+    let mut full = sheet(64, 508);
+    assert_eq!(full.len(), 32_705);
+    let output = [b'o'; 63];
+    full.extend(output);
+    full[63 * 511 + 1 + 1] |= (63 >> 5) as u8;
+    full[63 * 511 + 1 + 2] |= (63 << 3) as u8;
+    assert_eq!(full.len(), sizes::SHEET_MOST);
+    assert_eq!(ask(&full).expect("the fullest sheet").record, start);
+    let one_more = sheet(64, 509);
+    assert_eq!(one_more.len(), sizes::SHEET_MOST + 1);
+    assert_eq!(ask(&one_more), refused(Refusal::SheetBad, 0));
+    assert_eq!(ask(&sheet(65, 4)), refused(Refusal::SheetBad, 0));
+    assert!(ask(&sheet(1, 512)).is_ok());
+    assert_eq!(ask(&sheet(1, 513)), refused(Refusal::SheetBad, 0));
 }
 
 #[test]

@@ -1,11 +1,13 @@
-//! The text form of records, as `reference/README.md` describes it.
+//! The text form of records and answer sheets, as `reference/README.md` describes it.
 
 mod device;
 mod outcome;
+mod sheet;
 
 pub(crate) use device::is_parent;
 pub use device::{read_device, write_device};
 pub use outcome::{read_outcome, write_outcome};
+pub use sheet::{read_sheet, write_sheet};
 
 use std::fmt;
 use std::ops::RangeInclusive;

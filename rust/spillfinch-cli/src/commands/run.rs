@@ -8,7 +8,7 @@ use recordings::Action;
 
 use super::{device as device_argument, file, names, path, Done};
 use crate::report::{Failure, Report, Status};
-use crate::running::{head, Rules};
+use crate::running::{head, Beside, Rules};
 use crate::{device, files};
 
 pub fn command() -> Command {
@@ -42,6 +42,11 @@ pub fn command() -> Command {
                 .help("The outcome record to start from, packed or as text; else a fresh one"),
         )
         .arg(
+            file("sheet", "SHEET")
+                .long("sheet")
+                .help("The answer sheet that PROGRAM asks, packed or as text; else an empty one"),
+        )
+        .arg(
             file("record", "OUT")
                 .long("record")
                 .help("Write the packed outcome record to this file; for one device"),
@@ -54,7 +59,6 @@ pub fn command() -> Command {
 pub fn run(matches: &ArgMatches) -> Done {
     let rules = path(matches, "rules").expect("it is required");
     let devices = names(matches, "device");
-    let start = path(matches, "from");
     let record_file = path(matches, "record");
     if record_file.is_some() && devices.len() > 1 {
         return Err(Failure(String::from("--record takes one device")));
@@ -64,7 +68,11 @@ pub fn run(matches: &ArgMatches) -> Done {
     }
     let action = matches.get_one::<String>("action");
     let action = action.and_then(|name| Action::of_name(name.as_bytes()));
-    let rules = Rules::read(rules, start.map(PathBuf::as_path))?;
+    let beside = Beside {
+        start: path(matches, "from").map(PathBuf::as_path),
+        sheet: path(matches, "sheet").map(PathBuf::as_path),
+    };
+    let rules = Rules::read(rules, beside)?;
     let mut recorded = Vec::new();
     for name in &devices {
         recorded.push(device::read(name, &rules.text)?);

@@ -115,7 +115,11 @@ fn put_in_place(files: Vec<File>, report: &mut Report) -> Result<(), Failure> {
 
 fn closing(files: &[File]) -> String {
     let lines: usize = files.iter().map(|file| file.struck.strikes.len()).sum();
-    format!("{}, {} struck", counted(files.len(), "file"), counted(lines, "line"))
+    format!(
+        "{}, {} struck",
+        counted(files.len(), "file"),
+        counted(lines, "line")
+    )
 }
 
 /// `1 file`, `2 files`.
@@ -128,5 +132,9 @@ fn counted(count: usize, what: &str) -> String {
 
 fn explain(path: &Path, refused: &Refused) -> String {
     let number = refused.refusal.number();
-    format!("{}: refused {number}: {}", files::shown(path), refused.refusal)
+    format!(
+        "{}: refused {number}: {}",
+        files::shown(path),
+        refused.refusal
+    )
 }

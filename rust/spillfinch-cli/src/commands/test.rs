@@ -28,7 +28,8 @@ pub fn command() -> Command {
         .after_help(
             "A case is a folder with devices (*.device, *.umockdev), a rules file (*.rules, there or\n\
              in the nearest folder above it within DIR) and the file `expected`: what `spillfinch\n\
-             run` prints for them. A file `from` is the outcome record to start from.\n\n\
+             run` prints for them. A file `from` is the outcome record to start from, a file `sheet` the\n\
+             answer sheet that PROGRAM asks.\n\n\
              Example:\n  spillfinch test examples/cases",
         )
 }

@@ -26,14 +26,14 @@ const OPTIONS: [&str; 5] = [
 const UNREAD_OPTIONS: [&str; 4] = ["db_persist", "dump", "log_level=", "static_node="];
 
 pub fn fault(key: Key, operator: Operator, value: &[u8]) -> Option<ContentFault> {
+    if key.takes_template(operator) {
+        let template::TemplateFault { span, hint } = template::pieces(value).err()?;
+        return Some(ContentFault { span, hint });
+    }
     if operator.is_match() {
         return pattern_fault(value);
     }
     match key {
-        _ if key.takes_template() => {
-            let template::TemplateFault { span, hint } = template::pieces(value).err()?;
-            Some(ContentFault { span, hint })
-        }
         Key::Tag if value.len() > TAG_MOST => {
             let length = value.len();
             Some(whole(

@@ -13,6 +13,8 @@ pub enum Key {
     Attr,
     Attrs,
     Env,
+    Program,
+    Result,
     Symlink,
     Tag,
     Owner,
@@ -48,7 +50,7 @@ use Operator::{Add, Assign, AssignFinally, Equal, Remove, Unequal};
 const MATCHES: &[Operator] = &[Equal, Unequal];
 const SETS: &[Operator] = &[Assign, AssignFinally];
 
-const ROWS: [(Key, &str, Argument, &[Operator]); 20] = [
+const ROWS: [(Key, &str, Argument, &[Operator]); 22] = [
     (Key::Action, "ACTION", Argument::None, MATCHES),
     (Key::Devpath, "DEVPATH", Argument::None, MATCHES),
     (Key::Kernel, "KERNEL", Argument::None, MATCHES),
@@ -60,6 +62,13 @@ const ROWS: [(Key, &str, Argument, &[Operator]); 20] = [
     (Key::Attr, "ATTR", Argument::Name, MATCHES),
     (Key::Attrs, "ATTRS", Argument::Name, MATCHES),
     (Key::Env, "ENV", Argument::Name, &[Equal, Unequal, Assign]),
+    (
+        Key::Program,
+        "PROGRAM",
+        Argument::None,
+        &[Equal, Unequal, Assign, Add, AssignFinally],
+    ),
+    (Key::Result, "RESULT", Argument::None, MATCHES),
     (Key::Symlink, "SYMLINK", Argument::None, &Operator::ALL),
     (Key::Tag, "TAG", Argument::None, &Operator::ALL),
     (Key::Owner, "OWNER", Argument::None, SETS),
@@ -77,8 +86,8 @@ const ROWS: [(Key, &str, Argument, &[Operator]); 20] = [
 ];
 
 /// Keys of udev that the engine does not read.
-pub const UNREAD: [&str; 9] = [
-    "CONST", "IMPORT", "NAME", "PROGRAM", "RESULT", "SECLABEL", "SYSCTL", "TAGS", "TEST",
+pub const UNREAD: [&str; 7] = [
+    "CONST", "IMPORT", "NAME", "SECLABEL", "SYSCTL", "TAGS", "TEST",
 ];
 
 impl Key {
@@ -108,12 +117,18 @@ impl Key {
         self.row().3
     }
 
-    /// Whether what is assigned to it is a template.
-    pub fn takes_template(self) -> bool {
-        matches!(
-            self,
-            Key::Symlink | Key::Owner | Key::Group | Key::Mode | Key::Run
-        )
+    /// Whether it is judged with this operator, not assigned to; PROGRAM is with every one.
+    pub fn is_judged(self, operator: Operator) -> bool {
+        operator.is_match() || self == Key::Program
+    }
+
+    /// Whether its value with this operator is a template.
+    pub fn takes_template(self, operator: Operator) -> bool {
+        match self {
+            Key::Program => true,
+            Key::Symlink | Key::Owner | Key::Group | Key::Mode | Key::Run => !operator.is_match(),
+            _ => false,
+        }
     }
 
     /// Whether it is judged at each device of the chain.

@@ -18,13 +18,18 @@ pub struct Pair {
 }
 
 impl Pair {
-    pub fn assigns(&self, key: Key) -> bool {
-        self.key == key && !self.operator.is_match()
+    /// Whether it is judged, not assigned.
+    pub fn is_match(&self) -> bool {
+        self.key.is_judged(self.operator)
     }
 
-    /// The pieces of the template that it assigns, if it assigns one.
+    pub fn assigns(&self, key: Key) -> bool {
+        self.key == key && !self.is_match()
+    }
+
+    /// The pieces of its template, if its value is one.
     pub fn pieces(&self) -> Vec<Piece<'_>> {
-        if self.operator.is_match() || !self.key.takes_template() {
+        if !self.key.takes_template(self.operator) {
             return Vec::new();
         }
         template::pieces(&self.value.bytes).unwrap_or_default()

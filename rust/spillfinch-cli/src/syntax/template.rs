@@ -15,6 +15,8 @@ pub enum What {
     Env,
     Major,
     Minor,
+    /// The output that is stored.
+    Result,
 }
 
 #[derive(Clone, Debug, PartialEq, Eq)]
@@ -32,7 +34,7 @@ pub struct TemplateFault {
 }
 
 /// The names behind `$` and the letters behind `%`.
-const NAMES: [(&str, Option<u8>, What); 9] = [
+const NAMES: [(&str, Option<u8>, What); 10] = [
     ("kernel", Some(b'k'), What::Kernel),
     ("number", Some(b'n'), What::Number),
     ("devpath", Some(b'p'), What::Devpath),
@@ -42,11 +44,11 @@ const NAMES: [(&str, Option<u8>, What); 9] = [
     ("env", Some(b'E'), What::Env),
     ("major", Some(b'M'), What::Major),
     ("minor", Some(b'm'), What::Minor),
+    ("result", Some(b'c'), What::Result),
 ];
 
 /// Those of udev that the engine does not read.
-const UNREAD: [(&str, Option<u8>); 7] = [
-    ("result", Some(b'c')),
+const UNREAD: [(&str, Option<u8>); 6] = [
     ("name", None),
     ("links", None),
     ("root", Some(b'r')),
@@ -84,6 +86,15 @@ fn piece_at(template: &[u8], start: usize) -> Result<Piece<'_>, TemplateFault> {
         return Err(unknown(rest, start));
     };
     let end = start + 1 + length;
+    if what == What::Result && template.get(end) == Some(&b'{') {
+        let written = String::from_utf8_lossy(&template[start..end]);
+        return Err(TemplateFault {
+            span: start..end + 1,
+            hint: Some(format!(
+                "{written} inserts the whole output; its parts are not read here"
+            )),
+        });
+    }
     if !matches!(what, What::Attr | What::Env) {
         return Ok(Piece {
             what,

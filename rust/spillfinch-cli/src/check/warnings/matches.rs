@@ -16,7 +16,7 @@ pub const GIVEN: [&[u8]; 6] = [
 ];
 
 pub fn judge(rule: &Rule, pair: &Pair, found: &mut Found) {
-    if !pair.operator.is_match() {
+    if !pair.is_match() || pair.key == Key::Program {
         return;
     }
     let value = &pair.value.bytes;

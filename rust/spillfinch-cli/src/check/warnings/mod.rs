@@ -4,6 +4,7 @@
 mod links;
 mod matches;
 mod order;
+mod programs;
 mod templates;
 mod values;
 
@@ -11,8 +12,8 @@ use super::{Remark, Subject};
 use crate::syntax::{Pair, Rule, Span};
 
 /// The differences that are warned of.
-pub const NUMBERS: [u8; 20] = [
-    1, 2, 3, 4, 5, 6, 7, 8, 9, 10, 11, 12, 13, 14, 15, 16, 17, 19, 22, 23,
+pub const NUMBERS: [u8; 21] = [
+    1, 2, 3, 4, 5, 6, 7, 8, 9, 10, 11, 12, 13, 14, 15, 16, 17, 19, 22, 23, 24,
 ];
 
 /// The warnings about the rules of an accepted text.
@@ -21,6 +22,7 @@ pub fn of(rules: &[Rule]) -> Vec<Remark> {
     for (place, rule) in rules.iter().enumerate() {
         order::judge(rule, &mut found);
         templates::judge(rules, place, &mut found);
+        programs::judge(rules, place, &mut found);
         for pair in &rule.pairs {
             matches::judge(rule, pair, &mut found);
             values::judge(rule, pair, &mut found);

@@ -72,7 +72,9 @@ fn judge_builtin(rule: &Rule, pair: &Pair, before: &[Pair], found: &mut Found) {
 fn judge_skipped(rule: &Rule, found: &mut Found) {
     let is_for_node =
         |pair: &Pair| matches!(pair.key, Key::Symlink | Key::Owner | Key::Group | Key::Mode);
-    let mut others = rule.pairs.iter().filter(|pair| !pair.operator.is_match());
+    // A program's output stays, so a rule that asks one is kept.
+    let has_effect = |pair: &&Pair| !pair.is_match() || pair.key == Key::Program;
+    let mut others = rule.pairs.iter().filter(has_effect);
     let Some(first) = others.next() else {
         let span = rule.pairs[0].span.start..rule.pairs[rule.pairs.len() - 1].span.end;
         let text = "here the rule is visited and does nothing; udev drops it with a warning";

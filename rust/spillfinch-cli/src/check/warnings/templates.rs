@@ -18,7 +18,7 @@ pub fn judge(rules: &[Rule], place: usize, found: &mut Found) {
                 What::Env if GIVEN.contains(&piece.name) => {
                     found.add(5, rule, &span, given(piece.name));
                 }
-                What::Env if pair.key == Key::Run => {
+                What::Env | What::Result if pair.key == Key::Run => {
                     judge_later(rule, &rules[place + 1..], pair, &piece, found);
                 }
                 _ => {}
@@ -28,15 +28,21 @@ pub fn judge(rules: &[Rule], place: usize, found: &mut Found) {
     }
 }
 
-/// A property of a program that a later rule assigns again.
+/// A property of a program that a later rule assigns again, or an output that one may change.
 fn judge_later(rule: &Rule, later: &[Rule], pair: &Pair, piece: &Piece, found: &mut Found) {
-    let assigns = |pair: &Pair| pair.assigns(Key::Env) && pair.argument == piece.name;
+    let changes = |pair: &Pair| match piece.what {
+        What::Result => pair.key == Key::Program,
+        _ => pair.assigns(Key::Env) && pair.argument == piece.name,
+    };
     let mut later = later.iter();
-    if let Some(other) = later.find(|rule| rule.pairs.iter().any(assigns)) {
+    if let Some(other) = later.find(|rule| rule.pairs.iter().any(changes)) {
+        let inserted = match piece.what {
+            What::Result => String::from("the output"),
+            _ => format!("ENV{{{}}}", escape(piece.name)),
+        };
         let text = format!(
-            "here this is ENV{{{}}} behind all rules, line {} among them; \
+            "here this is {inserted} behind all rules, line {} among them; \
              udev takes it as it is when this rule runs",
-            escape(piece.name),
             other.line
         );
         found.add(12, rule, &pair.value.place(&piece.span), text);

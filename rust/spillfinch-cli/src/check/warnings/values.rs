@@ -41,7 +41,7 @@ const OWNER_MOST: usize = 32;
 const MODE_DIGITS_MOST: usize = 4;
 
 pub fn judge(rule: &Rule, pair: &Pair, found: &mut Found) {
-    if pair.operator.is_match() {
+    if pair.is_match() {
         return;
     }
     match pair.key {
