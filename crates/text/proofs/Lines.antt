@@ -10,10 +10,11 @@ use native.Mathlib.Omega.{arith}
 use lib.Dec.{eqb}
 use lib.ListN.{length}
 use Rattle.lists.specs.Lists.{pick, isEmpty, All}
+use Rattle.lists.specs.Bytes.{holds}
 use Rattle.lists.specs.Runs.{onto, splitStep}
 use Rattle.lists.specs.Checked.{Placed, line, lineOf, moved}
 use borrow.Author.Tests.{not-true}
-use Rattle.lists.proofs.Tests.{and-both, or-true}
+use Rattle.lists.proofs.Tests.{and-both, or-true, neither}
 use Rattle.lists.proofs.Lists.{All-map}
 use Rattle.lists.proofs.Runs.{Cons, step-cons, step-append}
 use Rattle.text.specs.Lines.{Stage, blank, comment, plain, slash, joined, isSlash, ends, next, stageOf, linesIn, numbered, lines, newlines, oneMore}
@@ -161,6 +162,17 @@ lines-seam s (b ∷ u) v h =
     rw (not-last u v)
     (ap (splitStep (eqb b 10 && not (isSlash s)) b) (lines-seam (next s b) u v h)
     ∙ step-append (eqb b 10 && not (isSlash s)) b (linesTo (next s b) u) (linesIn blank v) (linesTo-cons (next s b) u))
+
+-- bytes without a newline are one line, whatever the stage
+pub flat-line : (s : Stage) (l : List ℕ) → holds 10 l ≡ false → linesTo s l ≡ l ∷ []
+unfolding linesTo
+flat-line s [] h = refl
+flat-line s (b ∷ l) h = let (p, q) = neither (eqb b 10) (holds 10 l) h in rw (p, flat-line (next s b) l q)
+
+pub flat-newlines : (l : List ℕ) → holds 10 l ≡ false → newlines l ≡ 0
+unfolding newlines
+flat-newlines [] h = refl
+flat-newlines (b ∷ l) h = let (p, q) = neither (eqb b 10) (holds 10 l) h in rw (p, flat-newlines l q)
 
 pub linesTo-physical : (s : Stage) (u : List ℕ) → physical (linesTo s u) ≡ suc (newlines u)
 unfolding linesTo newlines physical

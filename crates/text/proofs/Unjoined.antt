@@ -1,6 +1,6 @@
 -- The bytes of a line without its joins (document 02, Item 10).
 -- Assumes nothing.
-use Prim.Native.Nat.{ℕ, suc, _≤_}
+use Prim.Native.Nat.{ℕ, suc, _+_, _≤_}
 use mathlib.Core.Path.{_≡_, refl, ap}
 use mathlib.Core.Bool.{Bool, true, false, _&&_, _||_}
 use mathlib.Core.List.{List, [], _∷_}
@@ -10,7 +10,7 @@ use lib.ListN.{length}
 use borrow.Author.Tests.{eqb-true}
 use Rattle.lists.specs.Bytes.{holds}
 use Rattle.lists.proofs.Tests.{and-both, neither}
-use Rattle.text.specs.Lines.{startsNewline, without, unjoined}
+use Rattle.text.specs.Lines.{oneMore, newlines, startsNewline, without, unjoined}
 
 -- no newline is left
 pub unjoined-flat : (l : List ℕ) → holds 10 (unjoined l) ≡ false
@@ -31,6 +31,17 @@ unjoined-size (b ∷ l) = at (eqb b 10 || (eqb b 92 && startsNewline l)) (unjoin
     at : (t : Bool) → length (unjoined l) ≤ length l → length (without t b (unjoined l)) ≤ suc (length l)
     at true h = omega arith
     at false h = omega arith
+
+-- each newline of its joins is gone
+pub unjoined-newlines : (l : List ℕ) → length (unjoined l) + newlines l ≤ length l
+unfolding unjoined newlines
+unjoined-newlines [] = omega arith
+unjoined-newlines (b ∷ l) = at (eqb b 10) (eqb b 92 && startsNewline l) (unjoined-newlines l)
+  where
+    at : (t u : Bool) → length (unjoined l) + newlines l ≤ length l → length (without (t || u) b (unjoined l)) + oneMore t (newlines l) ≤ suc (length l)
+    at true u h = omega arith
+    at false true h = omega arith
+    at false false h = omega arith
 
 -- without a newline nothing is joined
 pub unjoined-same : (l : List ℕ) → holds 10 l ≡ false → unjoined l ≡ l

@@ -1,5 +1,6 @@
 pub mod Values
 pub mod Pairs
 pub mod Lines
+pub mod Left
 pub mod Texts
 pub mod Examples

@@ -33,13 +33,21 @@ use Rattle.writing.proofs.Pairs.{unblank-none, unblank-fair, unblank-si
 
 -- ---- the pairs of a line
 
+-- pairs that a line may hold where k are still allowed: no LABEL behind a LABEL, no GOTO behind a GOTO
+abbrev pub Allowed : ℕ → Bool → Bool → List Pair → Type 0
+Allowed k label goto [] = Unit {0}
+Allowed zero label goto (p ∷ ps) = ⊥
+Allowed (suc k) label goto (p ∷ ps) =
+    Writable p × (not (again (p .key) label goto) ≡ true) × Allowed k (label || sameKey (p .key) LABEL) (goto || sameKey (p .key) GOTO) ps
+
 pub record Again (k : ℕ) (label goto : Bool) (n : ℕ) (ps : List Pair) : Type 0 where
   pub reads : readPairs k label goto (lineText ps) ≡ ok ps
   pub size : length (lineText ps) ≤ n
   pub writable : All Writable ps
+  pub allowed : Allowed k label goto ps
   pub some-pair : 1 ≤ length ps
 
-line-more : (p q : Pair) (ps : List Pair) → lineText (p ∷ q ∷ ps) ≡ pairText p ++ (44 ∷ lineText (q ∷ ps))
+pub line-more : (p q : Pair) (ps : List Pair) → lineText (p ∷ q ∷ ps) ≡ pairText p ++ (44 ∷ lineText (q ∷ ps))
 unfolding lineText
 line-more p q ps = refl
 
@@ -56,7 +64,7 @@ module _ (k : ℕ) (label goto : Bool) (n : ℕ) (p : Pair) (w : Writable p) (ne
   abbrev goto′ : Bool
   goto′ = goto || sameKey (p .key) GOTO
 
-  last-again : length (pairText p) ≤ n → Again (suc k) label goto n (p ∷ [])
+  pub last-again : length (pairText p) ≤ n → Again (suc k) label goto n (p ∷ [])
   unfolding lineText span
   last-again h =
       let e : readPair (pairText p) ≡ ok (record { value = p; rest = [] }) = rw (← (append-nil (pairText p))) (pair-again p w []) in
@@ -64,10 +72,11 @@ module _ (k : ℕ) (label goto : Bool) (n : ℕ) (p : Pair) (w : Writable p) (ne
         reads = pairs-by k label goto (pairText p) (record { value = p; rest = [] }) [] e new refl;
         size = h;
         writable = (w, tt);
+        allowed = (w, new, tt);
         some-pair = omega arith;
       }
 
-  more-again : (m : ℕ) (ps : List Pair) → Again k label′ goto′ m ps → length (pairText p) + suc m ≤ n → Again (suc k) label goto n (p ∷ ps)
+  pub more-again : (m : ℕ) (ps : List Pair) → Again k label′ goto′ m ps → length (pairText p) + suc m ≤ n → Again (suc k) label goto n (p ∷ ps)
   more-again m [] a h = absurd (omega (arith, a .some-pair))
   more-again m (q ∷ ps) a h =
       let rest : List ℕ = 44 ∷ lineText (q ∷ ps) in
@@ -76,6 +85,7 @@ module _ (k : ℕ) (label goto : Bool) (n : ℕ) (p : Pair) (w : Writable p) (ne
         reads = rw (line-more p q ps) (pairs-by k label goto (pairText p ++ rest) (record { value = p; rest = rest }) (q ∷ ps) e new (a .reads));
         size = rw (line-more p q ps) (omega (arith, length-append (pairText p) rest, a .size));
         writable = (w, a .writable);
+        allowed = (w, new, a .allowed);
         some-pair = omega arith;
       }
 
@@ -233,7 +243,7 @@ pair-start p w rest =
     rw (append-assoc (nameOf (p .key)) (argumentText (p .argument) ++ (opText (p .op) ++ valueText (p .value))) rest, e)
     (name-start (w .row .name) ((argumentText (p .argument) ++ (opText (p .op) ++ valueText (p .value))) ++ rest) (w .named .upper) (w .named .some-byte))
 
-line-start : (p : Pair) (ps : List Pair) → Writable p → Start (lineText (p ∷ ps))
+pub line-start : (p : Pair) (ps : List Pair) → Writable p → Start (lineText (p ∷ ps))
 unfolding lineText
 line-start p [] w = rw (← (append-nil (pairText p))) (pair-start p w [])
 line-start p (q ∷ ps) w = pair-start p w (44 ∷ lineText (q ∷ ps))
@@ -245,7 +255,7 @@ pub record RuleRead (l : List ℕ) (r : Rule) : Type 0 where
   pub sized : (leb (length l) mostLine && not (holds 0 l)) ≡ true
   pub pairs : readPairs mostPairs false false (unblank l) ≡ ok r
 
-rule-read : (l : List ℕ) (r : Rule) → readLine l ≡ text.rule r → RuleRead l r
+pub rule-read : (l : List ℕ) (r : Rule) → readLine l ≡ text.rule r → RuleRead l r
 unfolding readLine
 rule-read l r e = at (leb (length l) mostLine && not (holds 0 l)) refl e
   where
@@ -271,7 +281,7 @@ fair-nul (b ∷ v) h =
     let (p, q) = and-both (fair b) (all fair v) h in
     rw (not-true (eqb b 0) (and-both (not (eqb b 0)) (not (eqb b 10)) p .0)) (fair-nul v q)
 
-both-fair : (l : List ℕ) → clean l ≡ true → holds 10 l ≡ false → Fair l
+pub both-fair : (l : List ℕ) → clean l ≡ true → holds 10 l ≡ false → Fair l
 both-fair [] h k = refl
 both-fair (b ∷ l) h k =
     let (p, q) = and-both (not (eqb b 0)) (clean l) h in
@@ -285,7 +295,7 @@ pub record LineAgain (n : ℕ) (r : Rule) : Type 0 where
   pub fair-line : Fair (lineText r)
   pub closed : isSlash (stageOf blank (lineText r)) ≡ false
 
-line-by : (l : List ℕ) (r : Rule) → Start l → length l ≤ mostLine → Fair l → readPairs mostPairs false false l ≡ ok r → readLine l ≡ text.rule r
+pub line-by : (l : List ℕ) (r : Rule) → Start l → length l ≤ mostLine → Fair l → readPairs mostPairs false false l ≡ ok r → readLine l ≡ text.rule r
 unfolding readLine
 line-by l r s h f e =
     rw (le-leb (length l) mostLine h, fair-nul l f, s .is, unblank-none (s .first) (s .others) (s .no-blank), s .no-comment, ← (s .is), e)
