@@ -74,7 +74,6 @@ endsIn e [] = sameBytes e []
 endsIn e (b ∷ bs) = sameBytes e (b ∷ bs) || endsIn e bs
 
 abbrev pub isRules : File → Bool
-unfolding bytes
 isRules f = endsIn (bytes ".rules") (f .name)
 
 -- the second has the name of the first and a higher rank
