@@ -1,0 +1,4 @@
+pub mod Loading
+pub mod Turns
+pub mod Places
+pub mod Answers
