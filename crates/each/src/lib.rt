@@ -1,0 +1,1 @@
+// A text run over each record of a lent set; no code.

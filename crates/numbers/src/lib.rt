@@ -1,0 +1,1 @@
+// The numbers of an answer as a call writes them; no code.
