@@ -35,7 +35,7 @@ fn hash_of(name: &[u8]) -> usize
 // such a label, and for each such rule one more than the next, or 0.
 
 // Puts the label of a rule, if it has one, before those of the rules behind it.
-pub fn put_label(
+fn put_label(
     values: &[u8],
     rows: &[u16],
     labels: &[u16],
@@ -150,7 +150,7 @@ pub enum Jump {
 }
 
 // The jump of a rule, by the labels of the rules behind it.
-pub fn jump_of(
+fn jump_of(
     values: &[u8],
     rows: &[u16],
     rules: &[u16],

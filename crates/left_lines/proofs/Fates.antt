@@ -25,8 +25,8 @@ use Rattle.striking.proofs.Rules.{isKept, keptRules, rules-kept}
 use Rattle.pairs.specs.Answers.{part}
 use Rattle.table.specs.Table.{ruleAt, rulesFrom}
 use Rattle.table.proofs.Rules.{rules-step, rules-end}
-use Rattle.line_faults.specs.Notes.{noted}
-use Rattle.line_faults.proofs.Numbers.{number-small}
+use Rattle.reader.specs.Read.{noted}
+use Rattle.reader.proofs.Numbers.{number-small}
 use Rattle.lost_jumps.specs.Lost.{judgedRule, emptied}
 use Rattle.left_lines.specs.declared.Fate.{Fate}
 use Rattle.left_lines.specs.Left.{After, Unread, final, faultOf, FateIs}

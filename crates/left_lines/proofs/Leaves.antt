@@ -25,7 +25,7 @@ use Rattle.pairs.specs.Answers.{part}
 use Rattle.lines.specs.Ends.{endFrom}
 use Rattle.table.specs.Table.{rulesFrom}
 use Rattle.table.specs.Puts.{Added}
-use Rattle.line_faults.specs.Notes.{noted, counted}
+use Rattle.reader.specs.Read.{noted, counted}
 use Rattle.lost_jumps.specs.Lost.{emptied}
 use Rattle.left_lines.specs.declared.Fate.{Fate}
 use Rattle.left_lines.specs.declared.Left.{Left}

@@ -27,7 +27,7 @@ use Rattle.striking.specs.Striking.{strikesOf, leftOf, allLeft, together, laidO
 use Rattle.pairs.specs.Answers.{part}
 use Rattle.lines.specs.Ends.{endFrom}
 use Rattle.lines.proofs.Held.{end-within, newlines-size}
-use Rattle.line_faults.proofs.Numbers.{number-small}
+use Rattle.reader.proofs.Numbers.{number-small}
 use Rattle.table.specs.Puts.{Added}
 use Rattle.table.proofs.Pairs.{added-stored}
 use Rattle.left_lines.specs.Left.{faultOf, nextOf, leftBytes, strikeAt, Listed}

@@ -19,7 +19,7 @@ use Rattle.striking.specs.Striking.{strikesOf, allLeft, together, answeredBy, u
 use Rattle.pairs.specs.Answers.{part}
 use Rattle.table.specs.Table.{rulesFrom}
 use Rattle.table.specs.Puts.{Added}
-use Rattle.line_faults.specs.Notes.{noted}
+use Rattle.reader.specs.Read.{noted}
 use Rattle.lost_jumps.specs.Lost.{emptied}
 use Rattle.left_lines.specs.declared.Fate.{Fate}
 use Rattle.left_lines.specs.declared.Left.{Left}

@@ -13,7 +13,7 @@ ghost use Rattle.pairs.specs.Answers.{part};
 ghost use Rattle.lines.specs.Ends.{endFrom};
 ghost use Rattle.table.specs.Puts.{Added};
 ghost use Rattle.left_lines.specs.Left.{After, Unread, FateIs, nextOf, leftBytes, strikeAt, Listed, Leaves, LeftIs, AllLeft};
-use lines::LineFound;
+use lines::JoinedEnd;
 
 // ---- a line
 
@@ -23,17 +23,13 @@ pub struct Extent {
     pub newlines: usize,
 }
 
-fn extent_of(text: &[u8], at: usize, copy: &mut [u8]) -> Extent
-    requires { ⌜ (at ≤ length (now text)) × (length (now copy) ≡ 1024) ⌝ }
+fn extent_of(text: &[u8], at: usize) -> Extent
+    requires { ⌜ at ≤ length (now text) ⌝ }
     ensures { λ r. ⌜ (r .end ≡ endFrom (now (text .entry)) at) × (newlinesIn (part (now (text .entry)) at (r .end)) ≡ r .newlines) ⌝ }
 {
-    match lines::find_line(text, at, copy) {
-        LineFound::At(line) => Extent {
-            end: line.end,
-            newlines: line.newlines,
-        },
-        LineFound::Open(end, newlines) => Extent { end, newlines },
-        LineFound::Bad(end, newlines) => Extent { end, newlines },
+    match lines::joined_end(text, at) {
+        JoinedEnd::At(end, newlines) => Extent { end, newlines },
+        JoinedEnd::Open(end, newlines) => Extent { end, newlines },
     }
 }
 
@@ -137,7 +133,7 @@ fn put_strike(list: &mut [u16], used: usize, number: usize, fault: usize) -> usi
     if fault == 0 {
         return used;
     }
-    line_faults::put_note(list, used, number, fault)
+    reader::put_note(list, used, number, fault)
 }
 
 // ---- the lines of a text
@@ -154,18 +150,17 @@ pub struct Left {
 
 fn leave_line(
     text: &[u8],
-    copy: &mut [u8],
     rules: &[u16],
     list: &mut [u16],
     end: usize,
     target: &mut [u8],
     left: Left,
 ) -> Left
-    requires { ⌜ (left .at ≤ length (now text)) × (length (now copy) ≡ 1024) × Leaves (now text) (now rules) (now list) (now target) end left ⌝ }
+    requires { ⌜ (left .at ≤ length (now text)) × Leaves (now text) (now rules) (now list) (now target) end left ⌝ }
     ensures { λ r. ⌜ LeftIs (now (text .entry)) (left .at) (now (rules .entry)) (now (list .exit)) (now (target .exit)) end r ⌝ }
 {
     let at = left.at;
-    let line = extent_of(text, at, copy);
+    let line = extent_of(text, at);
     let fate = fate_of(list, left.read, end, rules, left.rule, left.number);
     let used = put_left(text, at, line, fate.fault, target, left.used);
     let listed = put_strike(list, left.listed, left.number, fate.fault);
@@ -190,7 +185,6 @@ pub fn leave_lines(
     requires { ⌜ Leaves (now text) (now rules) (now list) (now target) end (record { at = 0; number = 1; read = 0; rule = 0; used = 0; listed = 0 }) ⌝ }
     ensures { λ r. ⌜ AllLeft (now (text .entry)) (now (list .exit)) (now (target .exit)) r ⌝ }
 {
-    let mut copy = [0u8; 1024];
     let mut left = Left {
         at: 0,
         number: 1,
@@ -200,7 +194,7 @@ pub fn leave_lines(
         listed: 0,
     };
     while left.at <= text.len() {
-        left = leave_line(text, &mut copy, rules, list, end, target, left);
+        left = leave_line(text, rules, list, end, target, left);
     }
     left
 }

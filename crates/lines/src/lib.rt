@@ -73,7 +73,7 @@ pub enum JoinedEnd {
 }
 
 // Goes from one physical line to the next while they are joined; a comment joins nothing.
-fn joined_end(text: &[u8], at: usize) -> JoinedEnd
+pub fn joined_end(text: &[u8], at: usize) -> JoinedEnd
     requires { ⌜ at ≤ length (now text) ⌝ }
     ensures { λ r. ⌜ JoinedAt (now (text .entry)) at r ⌝ }
 {

@@ -15,7 +15,6 @@ use Rattle.lists.proofs.Moves.{ap-at}
 use Rattle.rules.specs.Pair.{Rule, valueOf}
 use Rattle.table.specs.Table.{pairsFrom, ruleAt, rulesFrom}
 use Rattle.table.specs.Rules.{valueIn, pairsOf, RuleIn, Rules}
-use Rattle.jumps.specs.Labels.{hashOf, nameAt, InList, NoneIn, First, NextIs, Labels, Before}
 use Rattle.lost_jumps.specs.Lost.{RuleGone}
 
 -- ---- five numbers
@@ -72,37 +71,6 @@ rule-gone i t l h k = record {
   label = getD-set-same l i 0 0 k;
   others = λ j q. getD-set-other l i j 0 0 q;
 }
-
--- ---- the labels behind a rule
-
--- lists of labels depend on the labels from their first rule on
-module _ (v r l l′ hashes heads later : List ℕ) (m n : ℕ) (same : (k : ℕ) → m ≤ k → getD l′ k 0 ≡ getD l k 0) where
-  in-to : (b k : ℕ) → m ≤ k → InList v r l b k → InList v r l′ b k
-  in-to b k h x = record { there = rw (same k h) (x .there); ends = rw (same k h) (x .ends) }
-
-  in-from : (b k : ℕ) → m ≤ k → InList v r l′ b k → InList v r l b k
-  in-from b k h x = record { there = rw (same k h) at (x .there); ends = rw (same k h) at (x .ends) }
-
-  next-same : (b i next : ℕ) → m ≤ i → NextIs v r l b i n next → NextIs v r l′ b i n next
-  next-same b i next h x = record {
-    none = λ e k a c y. x .none e k a c (in-from b k (omega arith) y);
-    some = λ e.
-        let f = x .some e in
-        record { from = f .from; within = f .within; has = in-to b (next - 1) (omega (arith, f .from)) (f .has); others = λ k a c y. f .others k a c (in-from b k (omega arith) y) };
-  }
-
-  pub labels-same : Labels v r l hashes heads later m n → Labels v r l′ hashes heads later m n
-  labels-same x = record {
-    few = x .few;
-    within = x .within;
-    hashes-room = x .hashes-room;
-    heads-room = x .heads-room;
-    later-room = x .later-room;
-    hashes-are = λ k a c d. rw (same k a) (x .hashes-are k a c (rw (same k a) at d));
-    heads-are = λ b h. next-same b m (getD heads b 0) (omega arith) (x .heads-are b h);
-    later-are = λ k a c d.
-        rw (same k a) (next-same (hashOf (nameAt v r l k) % 256) (k + 1) (getD later k 0) (omega arith) (x .later-are k a c (rw (same k a) at d)));
-  }
 
 -- ---- the rules
 

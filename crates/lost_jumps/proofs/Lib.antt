@@ -1,2 +1,3 @@
 pub mod Gone
 pub mod Judged
+pub mod Answered

@@ -11,7 +11,7 @@ use Rattle.rules.specs.Reading.{reader}
 use Rattle.striking.proofs.Rules.{isKept}
 use Rattle.table.specs.Table.{ruleAt, rulesFrom}
 use Rattle.table.specs.Rules.{Rules}
-use Rattle.jumps.specs.Labels.{Labels, Before}
+use Rattle.jumps.specs.Labels.{Before}
 
 -- a rule before others: it stays, or nothing of it is left
 abbrev pub judgedRule : Placed Rule → List (Placed Rule) → List (Placed Rule)
@@ -33,9 +33,8 @@ pub record RuleGone (i : ℕ) (t l t′ l′ : List ℕ) : Type 0 where
   pub label : getD l′ i 0 ≡ 0
   pub others : (k : ℕ) → (k ≡ i → ⊥) → getD l′ k 0 ≡ getD l k 0
 
--- the i-th rule is judged, beside the labels of those behind it
-pub record Judges (v r t l t′ l′ hashes heads later : List ℕ) (i m used count : ℕ) : Type 0 where
+-- the i-th rule is judged, beside those behind it
+pub record Judges (v r t t′ l′ : List ℕ) (i m used count : ℕ) : Type 0 where
   pub table : Rules v r t′ l′ m used count
-  pub labels : Labels v r l′ hashes heads later (i + 1) count
   pub rules : rulesFrom v r t′ i (count - i) ≡ judgedRule (ruleAt v r t i) (rulesFrom v r t (i + 1) (count - (i + 1)))
   pub before : Before (i * 4) t t′

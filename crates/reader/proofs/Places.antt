@@ -1,13 +1,14 @@
 -- A line that was found in a text, and what is known behind it.
 -- Assumes nothing.
 use Prim.Native.Nat.{ℕ, _+_, _-_, _≤_, _<_}
-use mathlib.Core.Path.{_≡_, sym, ap, _∙_}
+use mathlib.Core.Path.{_≡_, refl, sym, ap, _∙_}
+use mathlib.Core.Bool.{Bool, true, false}
 use mathlib.Core.Logic.{⊎-elim}
-use mathlib.Core.List.{List}
+use mathlib.Core.List.{List, [], _∷_}
 use native.Mathlib.Omega.{arith}
 use lib.ListN.{length}
 use Rattle.lists.specs.Checked.{refused, line}
-use Rattle.lists.specs.Refusal.{Refusal, line-bad, line-open, rule-extra}
+use Rattle.lists.specs.Refusal.{Refusal, number, line-bad, line-open, rule-extra}
 use Rattle.lists.specs.Sizes.{mostRules, mostText}
 use Rattle.lists.proofs.Moves.{length-part}
 use Rattle.text.specs.Engine as text
@@ -24,11 +25,19 @@ use Rattle.lines.proofs.Held.{end-within, newlines-size}
 use Rattle.rule_lines.specs.declared.Fill.{Fill}
 use Rattle.rule_lines.specs.Filling.{held, Room}
 use Rattle.rule_lines.specs.Answers.{Grown}
+use Rattle.table.specs.Puts.{Kept, Added}
 use Rattle.reader.specs.declared.Counts.{Counts}
+use Rattle.reader.specs.declared.Place.{Place}
+use Rattle.reader.specs.declared.Taken.{Taken}
 use Rattle.reader.specs.declared.Taken.the-variants as taken
-use Rattle.reader.specs.Read.{collected, start, UpTo, Fits, RulePut, Stands, Reads, TakenIs}
+use Rattle.reader.specs.Read.{collected, start, Fits, RulePut, NotedTo, RuleNoted, FaultTaken, Stands, Before, Reads, TakenIs}
 use Rattle.reader.proofs.Line.{nul-fault, line-long, lent-open, lent-joined, room-less, room-start}
-use Rattle.reader.proofs.Lines.{upto-skip, upto-fault, upto-extra, upto-rule}
+use Rattle.reader.proofs.Lines.{filled-more, upto-skip, upto-fault, upto-extra, upto-rule}
+use Rattle.reader.proofs.Notes.{note-room, noted-skip, noted-fault, noted-extra, noted-rule}
+use Rattle.reader.proofs.Kept.{noted-kept, room-kept}
+
+two-modes : {b : Bool} → b ≡ true → b ≡ false → ⊥
+two-modes p q = let z : _≡_ {A = ℕ} 0 1 = cc in omega arith
 
 -- the copy of a line may change
 pub stands-with : (x copy copy′ : List ℕ) (at number : ℕ) (v r : List ℕ) (c : Counts) → Stands x at number copy v r c → length copy′ ≡ length copy → Stands x at number copy′ v r c
@@ -81,49 +90,86 @@ module _ (x copy : List ℕ) (at number : ℕ) (v r : List ℕ) (c : Counts) (s 
 
 -- ---- what a line adds
 
-module _ (x copy : List ℕ) (at number : ℕ) (v r t l : List ℕ) (c : Counts) (s : Reads x at number copy v r t l c) where
-  -- ---- a line that is not read
+module _ (x copy v r t l s : List ℕ) (strict : Bool) (d : Place) (w : Reads x copy v r t l s strict d) (e k : ℕ) (q : e ≡ endFrom x (d .at)) (j : newlines (part x (d .at) e) ≡ k) where
+  abbrev here : text.LineRead Rule
+  here = readLent reader (part x (d .at) e)
 
-  pub taken-open : (e n : ℕ) → FoundIs x copy at (answer.Open e n) → collected x ≡ refused (line number line-open)
-  taken-open e n j = upto-fault x v r t l at e number c (s .upto) (s .stands .starts) (j .0) line-open (read-open x copy at e n j)
+  -- where the next line begins
+  abbrev behind : ℕ → Counts → Place
+  behind used c = record { at = e + 1; number = d .number + k + 1; counts = c; used = used }
 
-  pub taken-bad : (e n : ℕ) → FoundIs x copy at (answer.Bad e n) → collected x ≡ refused (line number line-bad)
-  taken-bad e n (j, b) = upto-fault x v r t l at e number c (s .upto) (s .stands .starts) (j .0) line-bad (read-bad x copy at e n (j, b))
+  pub bounds : (d .at ≤ e) × (e ≤ length x) × (d .number + k ≤ e + 1) × (d .number < 65536) × (e ≤ mostText)
+  bounds =
+      let m = w .stands in
+      let (from, to, small) = line-small x copy (d .at) (d .number) v r (d .counts) m e k q j in
+      (from, to, small, omega (arith, m .short, m .starts, m .number-at), omega (arith, m .short))
 
-  -- ---- one that is
+  pub room-here : (here ≡ text.skip → ⊥) → strict ≡ false → d .used + 2 ≤ length s
+  room-here y z = note-room x v r t l s d (w .before .noting z) (w .stands .starts) e q (w .stands .short) y
 
-  module _ (found : Line) (f : Found x copy at found) where
-    abbrev held-bytes : List ℕ
-    held-bytes = heldIn x copy at found
+  goes-on : (v′ r′ t′ l′ s′ : List ℕ) (used : ℕ) (c : Counts) → Before x v′ r′ t′ l′ s′ strict (behind used c) → Fits (length x - e) v′ r′ c
+      → TakenIs x d v′ r′ t′ l′ s′ strict (taken.Next (behind used c))
+  goes-on v′ r′ t′ l′ s′ used c before fits =
+      let (from, to, small, few, most) = bounds in
+      (omega arith, omega arith, omega arith, before, room-less _ _ v′ r′ (start (c .rows) (c .used)) (omega arith) fits)
 
-    abbrev Next : List ℕ → List ℕ → List ℕ → List ℕ → Counts → Type 0
-    Next v′ r′ t′ l′ c′ = TakenIs x at number v′ r′ t′ l′ (taken.Next (found .end + 1) (number + found .newlines + 1) c′)
+  stays : Fits (length x - e) v r (d .counts)
+  stays = let (from, to, small, few, most) = bounds in room-less _ _ v r (start (d .counts .rows) (d .counts .used)) (omega arith) (w .stands .fits)
 
-    next : (v′ r′ t′ l′ : List ℕ) (c′ : Counts) → UpTo x v′ r′ t′ l′ (found .end + 1) (number + newlines (part x at (found .end)) + 1) c′ → Fits (length x - found .end) v′ r′ c′ → Next v′ r′ t′ l′ c′
-    next v′ r′ t′ l′ c′ u fits =
-        let (from, to) = within x copy at number v r c (s .stands) found f in (
-          omega arith,
-          omega arith,
-          omega (arith, next-small x copy at number v r c (s .stands) found f .0),
-          rw (f .joined-at .1) at u,
-          room-less _ _ v′ r′ (start (c′ .rows) (c′ .used)) (omega arith) fits,
-        )
+  -- ---- skipped
 
-    pub taken-skip : readLine held-bytes ≡ text.skip → Next v r t l c
-    taken-skip y =
-        next v r t l c (upto-skip x v r t l at (found .end) number c (s .upto) (s .stands .starts) (f .joined-at .0) (reads-as x copy at found f ∙ y))
-        (room-less _ _ v r (start (c .rows) (c .used)) (let (from, to) = within x copy at number v r c (s .stands) found f in omega arith) (s .stands .fits))
+  pub taken-skip : here ≡ text.skip → TakenIs x d v r t l s strict (taken.Next (behind (d .used) (d .counts)))
+  taken-skip y =
+      goes-on v r t l s (d .used) (d .counts)
+      (record {
+        filled = w .before .filled;
+        strictly = λ z. rw j at (upto-skip x v r t l (d .at) e (d .number) (d .counts) (w .before .strictly z) (w .stands .starts) q y);
+        noting = λ z. rw j at (noted-skip x v r t l s d (w .before .noting z) (w .stands .starts) e q y);
+      })
+      stays
 
-    pub taken-fault : (g : Refusal) → readLine held-bytes ≡ text.fault g → collected x ≡ refused (line number g)
-    taken-fault g y = upto-fault x v r t l at (found .end) number c (s .upto) (s .stands .starts) (f .joined-at .0) g (reads-as x copy at found f ∙ y)
+  -- ---- struck, for a fault of reading or 18
 
-    pub taken-extra : (p : Rule) → readLine held-bytes ≡ text.rule p → mostRules ≤ c .rules → collected x ≡ refused (line number rule-extra)
-    taken-extra p y m = upto-extra x v r t l at (found .end) number c (s .upto) (s .stands .starts) (f .joined-at .0) p (reads-as x copy at found f ∙ y) m
+  module _ (v′ r′ s′ : List ℕ) (kept : Kept (d .counts .used) (d .counts .rows) v r v′ r′) where
+    struck : (f : Refusal) (o : Taken) → (strict ≡ true → collected x ≡ refused (line (d .number) f))
+        → (NotedTo x v′ r′ t l s d → Added (d .number ∷ number f ∷ []) (d .used) s s′
+        → NotedTo x v′ r′ t l s′ (record { at = e + 1; number = d .number + newlines (part x (d .at) e) + 1; counts = d .counts; used = d .used + 2 }))
+        → FaultTaken s s′ d e k f strict o → TakenIs x d v′ r′ t l s′ strict o
+    struck f (taken.Refused g) whole more (z, same) = (z, rw same (whole z))
+    struck f (taken.Next p) whole more (z, is, put) =
+        let notes = rw j at (more (noted-kept x v r v′ r′ t l s d (w .before .noting z) kept) put) in
+        rw is (goes-on v′ r′ t l s′ (d .used + 2) (d .counts)
+        (record { filled = notes .filled; strictly = λ y. absurd (two-modes y z); noting = λ y. notes })
+        (room-kept (length x - e) v r v′ r′ (d .counts) stays kept))
 
-    pub taken-rule : (v′ r′ t′ l′ : List ℕ) (fill : Fill) (m : ℕ) → Grown (c .rows) (start (c .rows) (c .used)) v r m fill v′ r′ (length x - found .end)
-        → readLine held-bytes ≡ text.rule (held v′ r′ (c .rows) fill) → RulePut (c .rules) number (c .rows) fill t l t′ l′ → c .rules < mostRules
-        → Next v′ r′ t′ l′ (record { rules = c .rules + 1; rows = fill .rows; used = fill .used })
-    taken-rule v′ r′ t′ l′ fill m g y put few =
-        next v′ r′ t′ l′ (record { rules = c .rules + 1; rows = fill .rows; used = fill .used })
-        (upto-rule x v r t l at (found .end) number c (s .upto) (s .stands .starts) (f .joined-at .0) v′ r′ t′ l′ fill m (length x - found .end) g (reads-as x copy at found f ∙ y) put few)
+    pub taken-fault : (f : Refusal) (o : Taken) → here ≡ text.fault f → FaultTaken s s′ d e k f strict o → TakenIs x d v′ r′ t l s′ strict o
+    taken-fault f o y =
+        struck f o (λ z. upto-fault x v r t l (d .at) e (d .number) (d .counts) (w .before .strictly z) (w .stands .starts) q f y)
+        (λ notes put. noted-fault x v′ r′ t l s d notes (w .stands .starts) e q s′ (number f) put f y refl)
+
+    pub taken-extra : (p : Rule) (o : Taken) → here ≡ text.rule p → mostRules ≤ d .counts .rules → FaultTaken s s′ d e k rule-extra strict o → TakenIs x d v′ r′ t l s′ strict o
+    taken-extra p o y m =
+        struck rule-extra o (λ z. upto-extra x v r t l (d .at) e (d .number) (d .counts) (w .before .strictly z) (w .stands .starts) q p y m)
+        (λ notes put. noted-extra x v′ r′ t l s d notes (w .stands .starts) e q s′ 18 put p y m refl)
+
+  -- ---- a rule
+
+  module _ (v′ r′ t′ l′ s′ : List ℕ) (fill : Fill) (m : ℕ) (g : Grown (d .counts .rows) (start (d .counts .rows) (d .counts .used)) v r m fill v′ r′ (length x - e))
+      (y : here ≡ text.rule (held v′ r′ (d .counts .rows) fill)) (put : RulePut (d .counts .rules) (d .number) (d .counts .rows) fill t l t′ l′) (few : d .counts .rules < mostRules) where
+    abbrev more : Counts
+    more = record { rules = d .counts .rules + 1; rows = fill .rows; used = fill .used }
+
+    noting-rule : (used : ℕ) (b : Bool) → b ≡ false → RuleNoted (d .number) (d .used) b s s′ used → NotedTo x v r t l s d → NotedTo x v′ r′ t′ l′ s′ (behind used more)
+    noting-rule used true z noted notes = absurd (two-modes refl z)
+    noting-rule used false z (is, note) notes =
+        rw (is, ← j) (noted-rule x v r t l s d notes (w .stands .starts) e q s′ 0 note v′ r′ t′ l′ fill m (length x - e) g y put few refl)
+
+    pub taken-rule : (used : ℕ) → RuleNoted (d .number) (d .used) strict s s′ used → TakenIs x d v′ r′ t′ l′ s′ strict (taken.Next (behind used more))
+    taken-rule used noted =
+        goes-on v′ r′ t′ l′ s′ used more
+        (record {
+          filled = filled-more v r t l v′ r′ t′ l′ (d .number) (d .counts) (w .before .filled) fill m (length x - e) g put few;
+          strictly = λ z. rw j at (upto-rule x v r t l (d .at) e (d .number) (d .counts) (w .before .strictly z) (w .stands .starts) q v′ r′ t′ l′ fill m (length x - e) g y put few);
+          noting = λ z. noting-rule used strict z noted (w .before .noting z);
+        })
         (room-start _ _ v′ r′ fill (omega arith) (g .room))

@@ -73,16 +73,15 @@ fn strike_lent(
     rows: &mut [u16],
     rules: &mut [u16],
     labels: &mut [u16],
-    later: &mut [u16],
     target: &mut [u8],
     list: &mut [u16],
 ) -> Struck
-    requires { ⌜ (length (now text) ≤ mostText) × (mostText ≤ length (now target)) × (mostStrikes * 2 ≤ length (now list)) × Lends (length (now text)) (now values) (now rows) × (length (now rules) ≡ mostRules * 4) × (length (now labels) ≡ mostRules) × (length (now later) ≡ mostRules) ⌝ }
+    requires { ⌜ (length (now text) ≤ mostText) × (mostText ≤ length (now target)) × (mostStrikes * 2 ≤ length (now list)) × Lends (length (now text)) (now values) (now rows) × (length (now rules) ≡ mostRules * 4) × (length (now labels) ≡ mostRules) ⌝ }
     ensures { λ r. ⌜ struckOf r (now (target .exit)) (now (list .exit)) ≡ strike-answer reader (now (text .entry)) (length (now (target .entry))) (length (now (list .entry))) ⌝ }
 {
-    let noted = line_faults::note_lines(text, values, rows, rules, labels, list);
+    let noted = reader::note_lines(text, values, rows, rules, labels, list);
     let counts = noted.counts;
-    lost_jumps::strike_jumps(values, rows, rules, labels, later, counts.rules);
+    lost_jumps::strike_jumps(values, rows, rules, labels, counts.rules);
     let left = left_lines::leave_lines(text, rules, list, noted.used, target);
     give_left(target, list, left)
 }
@@ -100,17 +99,7 @@ fn strike_in(
 {
     let mut rules = [0u16; 2048];
     let mut labels = [0u16; 512];
-    let mut later = [0u16; 512];
-    strike_lent(
-        text,
-        values,
-        rows,
-        &mut rules,
-        &mut labels,
-        &mut later,
-        target,
-        list,
-    )
+    strike_lent(text, values, rows, &mut rules, &mut labels, target, list)
 }
 
 // Room by the size of the text, as the run has it.

@@ -30,13 +30,7 @@ answered w o e beyond room =
     rw (← e) (w .read-pairs .ensures beyond (room-less _ _ (a .values .now) (a .rows .now) (start (a .n) (a .used)) (omega arith) room))
 
 -- src/lib.rt:28:9
-blank-end-requires : tie.Need-blank-end-requires
-blank-end-requires c κs = search needs
-
 -- src/lib.rt:29:9
-byte-at-requires : tie.Need-byte-at-requires
-byte-at-requires c κs = search needs
-
 -- src/lib.rt:31:9
 returns : tie.Need-returns
 returns c = λ beyond room. (line-long (c .before .before .before .before .before .before .args .line .now) (c .if1 .taken), kept-refl _ _ (c .before .before .before .before .before .before .args .values .now) (c .before .before .before .before .before .before .args .rows .now))
@@ -50,25 +44,10 @@ returns-3 : tie.Need-returns-3
 returns-3 c = λ beyond room. (line-comment (c .before .before .before .before .before .before .before .before .args .line .now) (omega arith) (c .before .before .before .before .before .before .before .before .pre .0) (c .before .before .before .before .blank-end .result) (c .before .before .before .before .blank-end .ensures .place) (c .before .if2 .left) (sym (c .before .before .before .byte-at .ensures) ∙ c .if3 .taken), refl, refl)
 
 -- src/lib.rt:39:11
-read-pairs-requires : tie.Need-read-pairs-requires
-read-pairs-requires c κs = search needs
-
 -- src/lib.rt:40:28
-enum-known-f : tie.Need-enum-known-f
-enum-known-f c = search needs
-
 -- src/lib.rt:41:25
-enum-known-fill : tie.Need-enum-known-fill
-enum-known-fill c = search needs
-
 -- src/lib.rt:24:1
-same-length : tie.Need-same-length
-same-length c = search needs
-
 -- src/lib.rt:24:1
-same-length-2 : tie.Need-same-length-2
-same-length-2 c = search needs
-
 -- src/lib.rt:24:1
 returns-4 : tie.Need-returns-4
 returns-4 c = λ beyond room.
@@ -76,13 +55,7 @@ returns-4 c = λ beyond room.
     (line-rule (c .before .before .before .before .before .before .before .before .before .before .before .before .before .before .before .before .before .before .args .line .now) (omega arith) (c .before .before .before .before .before .before .before .before .before .before .before .before .before .before .before .before .before .before .pre .0) (c .before .before .before .before .before .before .before .before .before .before .before .before .before .before .blank-end .result) (c .before .before .before .before .before .before .before .before .before .before .before .before .before .before .blank-end .ensures .place) (c .before .before .before .before .before .before .before .before .before .before .before .if2 .left) (λ e. c .before .before .before .before .before .before .before .before .before .before .if3 .left (c .before .before .before .before .before .before .before .before .before .before .before .before .before .byte-at .ensures ∙ e)) ∙ ap ruleRead (t .0), t .1)
 
 -- src/lib.rt:24:1
-same-length-3 : tie.Need-same-length-3
-same-length-3 c = search needs
-
 -- src/lib.rt:24:1
-same-length-4 : tie.Need-same-length-4
-same-length-4 c = search needs
-
 -- src/lib.rt:24:1
 returns-5 : tie.Need-returns-5
 returns-5 c = λ beyond room.
@@ -94,17 +67,17 @@ pub read-line-spec : {M : Type 1} → statement M
 read-line-spec =
     tie.close
     (tie.spec
-    blank-end-requires
-    byte-at-requires
+    (λ c κs. search needs)
+    (λ c κs. search needs)
     returns
     returns-2
     returns-3
-    read-pairs-requires
-    enum-known-f
-    enum-known-fill
-    same-length
-    same-length-2
+    (λ c κs. search needs)
+    (λ c. search needs)
+    (λ c. search needs)
+    (λ c. search needs)
+    (λ c. search needs)
     returns-4
-    same-length-3
-    same-length-4
+    (λ c. search needs)
+    (λ c. search needs)
     returns-5)

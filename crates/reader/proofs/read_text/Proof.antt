@@ -44,13 +44,7 @@ read-lines-requires : tie.Need-read-lines-requires
 read-lines-requires c κs = (c .before .before .before .before .if1 .left, c .before .before .before .before .before .before .before .before .before .before .before .pre .0 (c .before .before .before .before .if1 .left), c .before .before .before .before .before .before .before .before .before .before .before .pre .1, c .before .before .before .before .before .before .before .before .before .before .before .pre .2)
 
 -- src/lib.rt:142:28
-enum-known-f : tie.Need-enum-known-f
-enum-known-f c = search needs
-
 -- src/lib.rt:143:26
-enum-known-counts : tie.Need-enum-known-counts
-enum-known-counts c = search needs
-
 -- src/lib.rt:143:43
 settle-requires : tie.Need-settle-requires
 settle-requires c κs =
@@ -60,53 +54,20 @@ settle-requires c κs =
     (omega (arith, x .1), omega (arith, x .1, c .before .before .before .before .before .before .before .before .before .before .before .before .before .before .before .before .read-lines .kept .1 .1 .1 .1 .0, p .2), omega (arith, x .1, p .3), omega (arith, x .1, c .before .before .before .before .before .before .before .before .before .before .before .before .before .before .before .before .read-lines .kept .1 .1 .1 .0, p .1), (k .rows, (k .used, held (c .before .before .before .before .before .before))))
 
 -- src/lib.rt:144:29
-enum-told : tie.Need-enum-told
-enum-told c = search needs
-
 -- src/lib.rt:145:30
-enum-known-n : tie.Need-enum-known-n
-enum-known-n c = search needs
-
 -- src/lib.rt:127:1
-same-length : tie.Need-same-length
-same-length c = search needs
-
 -- src/lib.rt:127:1
-same-length-2 : tie.Need-same-length-2
-same-length-2 c = search needs
-
 -- src/lib.rt:127:1
-same-length-3 : tie.Need-same-length-3
-same-length-3 c = search needs
-
 -- src/lib.rt:127:1
-same-length-4 : tie.Need-same-length-4
-same-length-4 c = search needs
-
 -- src/lib.rt:127:1
 returns-2 : tie.Need-returns-2
 returns-2 c = let y = lines-are (c .before .before .before .before .before .before .before .before .before .before .before) (lines.Refused (c .before .f .given .0 .0) (c .before .f .given .0 .1 .0)) (c .before .f .given .1) in (y .0, text-refused (c .before .before .before .before .before .before .before .before .before .before .before .before .before .before .before .before .before .before .before .before .before .before .before .args .text .now) (c .before .before .before .before .before .before .before .before .before .before .before .before .before .before .before .before .if1 .left) _ _ (y .1))
 
 -- src/lib.rt:127:1
-same-length-5 : tie.Need-same-length-5
-same-length-5 c = search needs
-
 -- src/lib.rt:127:1
-same-length-6 : tie.Need-same-length-6
-same-length-6 c = search needs
-
 -- src/lib.rt:127:1
-same-length-7 : tie.Need-same-length-7
-same-length-7 c = search needs
-
 -- src/lib.rt:127:1
-same-length-8 : tie.Need-same-length-8
-same-length-8 c = search needs
-
 -- src/lib.rt:127:1
-same-length-9 : tie.Need-same-length-9
-same-length-9 c = search needs
-
 -- src/lib.rt:127:1
 returns-3 : tie.Need-returns-3
 returns-3 c =
@@ -114,25 +75,10 @@ returns-3 c =
     record { is = text-settled (c .before .before .before .before .before .before .before .before .before .before .before .before .before .before .before .before .before .before .before .before .before .before .before .before .before .before .before .before .before .before .before .before .before .args .text .now) (c .before .before .before .before .before .before .before .before .before .before .before .before .before .before .before .before .before .before .before .before .before .before .before .before .before .before .if1 .left) _ (rules (c .before .before .before .before .before .before .before .before .before .before .before) .0) (a .0); few = rules (c .before .before .before .before .before .before .before .before .before .before .before) .1; rules = held (c .before .before .before .before .before .before .before .before .before .before .before); jumps = a .1 }
 
 -- src/lib.rt:127:1
-same-length-10 : tie.Need-same-length-10
-same-length-10 c = search needs
-
 -- src/lib.rt:127:1
-same-length-11 : tie.Need-same-length-11
-same-length-11 c = search needs
-
 -- src/lib.rt:127:1
-same-length-12 : tie.Need-same-length-12
-same-length-12 c = search needs
-
 -- src/lib.rt:127:1
-same-length-13 : tie.Need-same-length-13
-same-length-13 c = search needs
-
 -- src/lib.rt:127:1
-same-length-14 : tie.Need-same-length-14
-same-length-14 c = search needs
-
 -- src/lib.rt:127:1
 returns-4 : tie.Need-returns-4
 returns-4 c = let y = answered (c .before .before .before .before .before) (settled.Missing (c .before .n .given .0 .0)) (c .before .n .given .1) in (y .0, text-unsettled (c .before .before .before .before .before .before .before .before .before .before .before .before .before .before .before .before .before .before .before .before .before .before .before .before .before .before .before .before .before .before .before .before .before .before .args .text .now) (c .before .before .before .before .before .before .before .before .before .before .before .before .before .before .before .before .before .before .before .before .before .before .before .before .before .before .before .if1 .left) _ (rules (c .before .before .before .before .before .before .before .before .before .before .before .before) .0) _ _ (y .1))
@@ -143,25 +89,25 @@ read-text-spec =
     (tie.spec
     returns
     read-lines-requires
-    enum-known-f
-    enum-known-counts
+    (λ c. search needs)
+    (λ c. search needs)
     settle-requires
-    enum-told
-    enum-known-n
-    same-length
-    same-length-2
-    same-length-3
-    same-length-4
+    (λ c. search needs)
+    (λ c. search needs)
+    (λ c. search needs)
+    (λ c. search needs)
+    (λ c. search needs)
+    (λ c. search needs)
     returns-2
-    same-length-5
-    same-length-6
-    same-length-7
-    same-length-8
-    same-length-9
+    (λ c. search needs)
+    (λ c. search needs)
+    (λ c. search needs)
+    (λ c. search needs)
+    (λ c. search needs)
     returns-3
-    same-length-10
-    same-length-11
-    same-length-12
-    same-length-13
-    same-length-14
+    (λ c. search needs)
+    (λ c. search needs)
+    (λ c. search needs)
+    (λ c. search needs)
+    (λ c. search needs)
     returns-4)

@@ -11,25 +11,19 @@ use Rattle.strike.proofs.strike_lent.Tie as tie
 
 strike-jumps-requires : tie.Need-strike-jumps-requires
 strike-jumps-requires c κs =
-    let earlier = c .before .before .before .before .before .before .before .before .before .before .before .before .before .before .before .before .before .before .before .before .before .before .before .before .before .before .before .before in
-    let entry = earlier .before .before in
-    let note-lines = c .before .before .before .before .before .before .before .before .before .before .before .before .before .before .before .before .note-lines in
+    let entry = c .before .before .before .before .before .before .before .before .before .before .before .before .before .before .before .before .before .before .before .before .before .before .before .before .before .before .before .before in
+    let note-lines = c .before .before .before .before .before .before .before .before .before .before .before .before .before .before .before .note-lines in
     let a = entry .args in
     let noting = note-lines in
-    let noted = noting .ensures in (
-      noted .few,
-      omega (arith, noted .few, noting .kept .1 .1 .1 .1 .0, entry .pre .5),
-      omega (arith, noted .few, entry .pre .6),
-      omega (arith, noted .few, noting .kept .1 .1 .1 .0, entry .pre .4),
-      (_, (_, noted .table)),
-    )
+    let noted = noting .ensures in
+    (noted .few, omega (arith, noted .few, noting .kept .1 .1 .1 .1 .0, entry .pre .5), omega (arith, noted .few, noting .kept .1 .1 .1 .0, entry .pre .4), (_, (_, noted .table)))
 
 leave-lines-requires : tie.Need-leave-lines-requires
 leave-lines-requires c κs =
     let earlier = c .before .before .before .before .before .before .before .before .before .before .before .before .before .before .before .before .before .before .before .before .before .before .before .before .before .before .before .before in
-    let entry = earlier .before .before .before .before .before .before .before .before .before .before .before .before in
-    let note-lines = c .before .before .before .before .before .before .before .before .before .before .before .before .before .before .before .before .before .before .before .before .before .before .before .before .before .before .note-lines in
-    let strike-jumps = c .before .before .before .before .before .before .before .before .before .strike-jumps in
+    let entry = earlier .before .before .before .before .before .before .before .before in
+    let note-lines = c .before .before .before .before .before .before .before .before .before .before .before .before .before .before .before .before .before .before .before .before .before .before .before .note-lines in
+    let strike-jumps = c .before .before .before .before .before .before .before .strike-jumps in
     let a = entry .args in
     let noting = note-lines in
     let noted = noting .ensures in
@@ -40,44 +34,44 @@ leave-lines-requires c κs =
 give-left-requires : tie.Need-give-left-requires
 give-left-requires c κs =
     let earlier = c .before .before .before .before .before .before .before .before .before .before .before .before .before .before .before .before .before .before .before .before .before .before .before .before .before .before .before .before in
-    let entry = earlier .before .before .before .before .before .before .before .before .before .before .before .before .before .before .before .before .before .before .before in
+    let entry = earlier .before .before .before .before .before .before .before .before .before .before .before .before .before .before .before in
     let leave-lines = c .before .before .before .before .before .before .leave-lines in
     (entry .args .text .now, entry .pre .0, leave-lines .ensures)
 
 same-length : tie.Need-same-length
 same-length c =
     let earlier = c .before .before .before .before .before .before .before .before .before .before .before .before .before .before .before .before .before .before .before .before .before .before .before .before .before .before .before .before in
-    let note-lines = earlier .before .before .before .before .before .before .before .before .before .before .note-lines in
+    let note-lines = earlier .before .before .before .before .before .before .before .note-lines in
     note-lines .kept .1 .0
 
 same-length-2 : tie.Need-same-length-2
 same-length-2 c =
     let earlier = c .before .before .before .before .before .before .before .before .before .before .before .before .before .before .before .before .before .before .before .before .before .before .before .before .before .before .before .before in
-    let note-lines = earlier .before .before .before .before .before .before .before .before .before .before .note-lines in
+    let note-lines = earlier .before .before .before .before .before .before .before .note-lines in
     note-lines .kept .1 .1 .0
 
 same-length-3 : tie.Need-same-length-3
 same-length-3 c =
     let earlier = c .before .before .before .before .before .before .before .before .before .before .before .before .before .before .before .before .before .before .before .before .before .before .before .before .before .before .before .before in
-    let strike-jumps = c .before .before .before .before .before .before .before .before .before .before .before .before .before .before .before .before .before .before .before .before .before .strike-jumps in
-    let note-lines = earlier .before .before .before .before .before .before .before .before .before .before .note-lines in
+    let strike-jumps = c .before .before .before .before .before .before .before .before .before .before .before .before .before .before .before .before .before .before .before .strike-jumps in
+    let note-lines = earlier .before .before .before .before .before .before .before .note-lines in
     strike-jumps .kept .1 .1 .0
     ∙ note-lines .kept .1 .1 .1 .0
 
 same-length-4 : tie.Need-same-length-4
 same-length-4 c =
     let earlier = c .before .before .before .before .before .before .before .before .before .before .before .before .before .before .before .before .before .before .before .before .before .before .before .before .before .before .before .before in
-    let strike-jumps = c .before .before .before .before .before .before .before .before .before .before .before .before .before .before .before .before .before .before .before .before .before .strike-jumps in
-    let note-lines = earlier .before .before .before .before .before .before .before .before .before .before .note-lines in
+    let strike-jumps = c .before .before .before .before .before .before .before .before .before .before .before .before .before .before .before .before .before .before .before .strike-jumps in
+    let note-lines = earlier .before .before .before .before .before .before .before .note-lines in
     strike-jumps .kept .1 .1 .1 .0
     ∙ note-lines .kept .1 .1 .1 .1 .0
 
-same-length-7 : tie.Need-same-length-7
-same-length-7 c =
+same-length-6 : tie.Need-same-length-6
+same-length-6 c =
     let earlier = c .before .before .before .before .before .before .before .before .before .before .before .before .before .before .before .before .before .before .before .before .before .before .before .before .before .before .before .before in
     let give-left = c .before .before .before .before .give-left in
     let leave-lines = c .before .before .before .before .before .before .before .before .before .before .before .leave-lines in
-    let note-lines = earlier .before .before .before .before .before .before .before .before .before .before .note-lines in
+    let note-lines = earlier .before .before .before .before .before .before .before .note-lines in
     give-left .kept .1 .0
     ∙ leave-lines .kept .1 .1 .0
     ∙ note-lines .kept .1 .1 .1 .1 .1 .0
@@ -85,10 +79,10 @@ same-length-7 c =
 returns : tie.Need-returns
 returns c =
     let earlier = c .before .before .before .before .before .before .before .before .before .before .before .before .before .before .before .before .before .before .before .before .before .before .before .before .before .before .before .before in
-    let entry = earlier .before .before .before .before .before .before .before .before .before .before .before .before .before .before .before .before .before .before .before .before .before .before .before .before in
+    let entry = earlier .before .before .before .before .before .before .before .before .before .before .before .before .before .before .before .before .before .before .before .before in
     let leave-lines = c .before .before .before .before .before .before .before .before .before .before .before .leave-lines in
     let give-left = c .before .before .before .before .give-left in
-    let note-lines = earlier .before .before .before .before .before .before .before .before .before .before .note-lines in
+    let note-lines = earlier .before .before .before .before .before .before .before .note-lines in
     let a = entry .args in
     let leaving = leave-lines in
     give-left .ensures (a .text .now) (length (a .target .now)) (length (a .list .now)) (entry .pre .0) (entry .pre .1) (entry .pre .2) (leaving .kept .1 .1 .1 .1 .0)
@@ -107,6 +101,5 @@ strike-lent-spec =
     same-length-3
     same-length-4
     (λ c. search needs)
-    (λ c. search needs)
-    same-length-7
+    same-length-6
     returns)

@@ -30,11 +30,11 @@ use Rattle.table.specs.Puts.{Added}
 use Rattle.rule_lines.specs.declared.Fill.{Fill}
 use Rattle.rule_lines.specs.Filling.{held}
 use Rattle.rule_lines.specs.Answers.{Grown}
 use Rattle.reader.specs.Read.{readsAt, start, RulePut}
 use Rattle.reader.specs.declared.Counts.{Counts}
 use Rattle.reader.proofs.Lines.{filled-none, filled-more, rules-more, reads-step}
-use Rattle.line_faults.specs.declared.Noted.{Noted}
-use Rattle.line_faults.specs.Notes.{noted, counted, countedAt, NotedTo, AllNoted}
+use Rattle.reader.specs.declared.Place.{Place}
+use Rattle.reader.specs.Read.{noted, counted, countedAt, NotedTo, AllNoted}
 
 abbrev Lines : Type 0
 Lines = List (Placed (LineRead Rule))
@@ -74,7 +74,7 @@ noted-start x v r t l s a b c = record {
   twice = refl;
 }
 
-pub noted-end : (x v r t l s : List ℕ) (d : Noted) → length x ≤ mostText → NotedTo x v r t l s d → length x < d .at → d .at ≤ length x + 1 → AllNoted x v r t l s d
+pub noted-end : (x v r t l s : List ℕ) (d : Place) → length x ≤ mostText → NotedTo x v r t l s d → length x < d .at → d .at ≤ length x + 1 → AllNoted x v r t l s d
 unfolding pastMost
 noted-end x v r t l s d short n h k =
     let is : counted x ≡ n .done = n .whole ∙ rw (lines-end x (d .at) (d .number) h, append-nil (n .done)) in
@@ -84,13 +84,11 @@ noted-end x v r t l s d short n h k =
       rules = ap rulesIn is ∙ n .rules;
       list = ap noted is ∙ n .list;
       within = omega (arith, n .small, n .twice, n .room);
-      half = n .half;
-      twice = n .twice;
     }
 
 -- ---- one line more
 
-module _ (x v r t l s : List ℕ) (d : Noted) (w : NotedTo x v r t l s d) (h : d .at ≤ length x) (end : ℕ) (e : end ≡ endFrom x (d .at)) where
+module _ (x v r t l s : List ℕ) (d : Place) (w : NotedTo x v r t l s d) (h : d .at ≤ length x) (end : ℕ) (e : end ≡ endFrom x (d .at)) where
   abbrev here : LineRead Rule
   here = readLent reader (part x (d .at) end)
 

@@ -1,6 +1,6 @@
--- `line_faults::put_note` meets its contract.
+-- `reader::put_note` meets its contract.
 -- Assumes nothing.
-use Rattle.line_faults.proofs.Numbers.{two-put, two-behind}
+use Rattle.reader.proofs.Numbers.{two-put, two-behind}
 use Rattle.table.specs.Puts.{Added}
 use lib.ListN.{set, length-set}
 use mathlib.Core.List.{[], _∷_}
@@ -8,8 +8,8 @@ use mathlib.Core.Path.{_≡_, refl, subst₂}
 use Prim.Native.Nat.{ℕ, _+_}
 use native.Mathlib.Omega.{arith}
 use borrow.Author.Needs.{needs}
-use Rattle.line_faults.proofs.put_note.Statement.{statement}
-use Rattle.line_faults.proofs.put_note.Tie as tie
+use Rattle.reader.proofs.put_note.Statement.{statement}
+use Rattle.reader.proofs.put_note.Tie as tie
 
 slice-write-list-2 : tie.Need-slice-write-list-2
 slice-write-list-2 c =

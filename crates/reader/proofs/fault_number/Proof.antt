@@ -1,12 +1,12 @@
--- `line_faults::fault_number` meets its contract.
+-- `reader::fault_number` meets its contract.
 -- Assumes nothing.
-use Rattle.line_faults.proofs.Numbers.{number-small}
+use Rattle.reader.proofs.Numbers.{number-small}
 use Rattle.refusals.specs.Refusals.{refusalOf}
 use mathlib.Core.Path.{_≡_}
 use native.Mathlib.Omega.{arith}
 use borrow.Author.Needs.{needs}
-use Rattle.line_faults.proofs.fault_number.Statement.{statement}
-use Rattle.line_faults.proofs.fault_number.Tie as tie
+use Rattle.reader.proofs.fault_number.Statement.{statement}
+use Rattle.reader.proofs.fault_number.Tie as tie
 
 returns : tie.Need-returns
 returns c =

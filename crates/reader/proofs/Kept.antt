@@ -5,19 +5,16 @@ use mathlib.Core.Path.{_≡_, refl, sym, ap, _∙_}
 use mathlib.Core.List.{List}
 use native.Mathlib.Omega.{arith}
 use lib.ListN.{length}
-use Rattle.lists.specs.Sizes.{mostText}
 use Rattle.pattern.specs.Pattern.{isPlain}
 use Rattle.rules.specs.Pair.{Pair}
 use Rattle.kinds.specs.Numbers.{plainWith}
 use Rattle.table.specs.Table.{rulesFrom, Rows}
 use Rattle.table.specs.Puts.{Kept}
 use Rattle.table.proofs.Pairs.{row-kept}
-use Rattle.rule_lines.specs.Filling.{Room}
 use Rattle.reader.specs.declared.Counts.{Counts}
-use Rattle.reader.specs.Read.{start, Filled, Stands}
+use Rattle.reader.specs.Read.{Filled, Fits, NotedTo}
 use Rattle.reader.proofs.Rules.{rules-kept, rule-in-kept}
-use Rattle.line_faults.specs.declared.Noted.{Noted}
-use Rattle.line_faults.specs.Notes.{NotedTo, Notes}
+use Rattle.reader.specs.declared.Place.{Place}
 
 module _ (v r v′ r′ : List ℕ) (n used : ℕ) (rs : Rows v r n used) (kept : Kept used n v r v′ r′) where
   pub rows-kept : Rows v′ r′ n used
@@ -50,32 +47,25 @@ module _ (v r v′ r′ t l : List ℕ) (c : Counts) (f : Filled v r t l c) (kep
   rules-same : rulesFrom v′ r′ t 0 (c .rules) ≡ rulesFrom v r t 0 (c .rules)
   rules-same = rules-kept v r v′ r′ (c .rows) (c .used) (f .rows) kept t l t l (c .rules) (λ k h. refl) (λ k h. refl) (f .rules)
 
-pub notes-kept : (x copy v r v′ r′ t l s : List ℕ) (d : Noted) → Notes x copy v r t l s d → Kept (d .counts .used) (d .counts .rows) v r v′ r′ → Notes x copy v′ r′ t l s d
-notes-kept x copy v r v′ r′ t l s d n kept =
-    let u = n .upto in
-    let m = n .stands in
-    record {
-      stands = record {
-        short = m .short;
-        starts = m .starts;
-        number-at = m .number-at;
-        copy-room = m .copy-room;
-        fits = record {
-          values = omega (arith, m .fits .values, kept .values-size);
-          small = omega (arith, m .fits .small, kept .values-size);
-          few = omega (arith, m .fits .few, kept .rows-size);
-          rows = omega (arith, m .fits .rows, kept .rows-size);
-        };
-      };
-      upto = record {
-        filled = filled-kept v r v′ r′ t l (d .counts) (u .filled) kept;
-        room = u .room;
-        done = u .done;
-        whole = u .whole;
-        rules = u .rules ∙ sym (rules-same v r v′ r′ t l (d .counts) (u .filled) kept);
-        list = u .list;
-        small = u .small;
-        half = u .half;
-        twice = u .twice;
-      };
-    }
+-- what is noted of the lines before
+pub noted-kept : (x v r v′ r′ t l s : List ℕ) (d : Place) → NotedTo x v r t l s d → Kept (d .counts .used) (d .counts .rows) v r v′ r′ → NotedTo x v′ r′ t l s d
+noted-kept x v r v′ r′ t l s d u kept = record {
+  filled = filled-kept v r v′ r′ t l (d .counts) (u .filled) kept;
+  room = u .room;
+  done = u .done;
+  whole = u .whole;
+  rules = u .rules ∙ sym (rules-same v r v′ r′ t l (d .counts) (u .filled) kept);
+  list = u .list;
+  small = u .small;
+  half = u .half;
+  twice = u .twice;
+}
+
+-- and what fits
+pub room-kept : (m : ℕ) (v r v′ r′ : List ℕ) (c : Counts) → Fits m v r c → Kept (c .used) (c .rows) v r v′ r′ → Fits m v′ r′ c
+room-kept m v r v′ r′ c fits kept = record {
+  values = omega (arith, fits .values, kept .values-size);
+  small = omega (arith, fits .small, kept .values-size);
+  few = omega (arith, fits .few, kept .rows-size);
+  rows = omega (arith, fits .rows, kept .rows-size);
+}

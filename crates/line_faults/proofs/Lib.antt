@@ -1,4 +1,0 @@
-pub mod Numbers
-pub mod Kept
-pub mod Notes
-pub mod Lines
