@@ -34,7 +34,7 @@ use Rattle.assignment.specs.Assignment.{Assignables, RuleRows, Readable,
 -- ---- one pair
 
 module _ (d : Device) (place : ℕ) (p : Pair) (w : assign.Work) where
-  pub pair-matches : isMatch (p .op) ≡ true → assignPair d place p w ≡ ok w
+  pair-matches : isMatch (p .op) ≡ true → assignPair d place p w ≡ ok w
   unfolding assignPair
   pair-matches e = rw (e, assignPair)
 
@@ -84,6 +84,18 @@ module _ (v r : List ℕ) (from to : ℕ) (t₀ dev : List ℕ) (places : Chain)
       all-next : (d : Device) (u : assign.Work) → assignAll d place (pairs i) u ≡ (assignPair d place (entryOf v e) u >>= λ u′. assignAll d place (pairs (i + 1)) u′)
       unfolding assignAll
       all-next d u = ap (λ (ps : List Pair). assignAll d place ps u) (rows-here v r i to e got h)
+
+      -- a match leaves all as it is
+      pub going-past : isMatch (entryOf v e .op) ≡ true → Going t w (i + 1)
+      going-past m = record {
+        room = g .room;
+        ordered = omega arith;
+        sound = sound-here .1;
+        going = λ d s₀ k.
+            let (s, z, b) = g .going d s₀ k in
+            let past = ap (λ (o : Checked refusal.Refusal assign.Work). o >>= λ u′. assignAll d place (pairs (i + 1)) u′) (pair-matches d place (entryOf v e) (workOf s (w .escape)) m) in
+            (s, z, sym (all-next d (workOf s (w .escape)) ∙ past) ∙ b);
+      }
 
       module _ (t′ : List ℕ) (x : Assigned) (c : PairAssigned v e dev places place t w t′ x) where
         says : (y : Assigned) → x ≡ y → (d : Device) (s : State) → Denotes dev places t (w .layout) d s → WorkSays (length (chain d)) t′ y (assignPair d place (entryOf v e) (workOf s (w .escape)))

@@ -1,5 +1,6 @@
 // The assignments of a rule that matched, from left to right.
 ghost use mathlib.Core.Path.{_≡_};
+ghost use mathlib.Core.Bool.{false};
 ghost use Prim.Native.Nat.{_≤_};
 ghost use Rattle.keys.specs.Table.{operatorOf};
 ghost use Rattle.rules.specs.Key as rules;
@@ -27,7 +28,7 @@ fn is_match(operator: Operator) -> bool
     }
 }
 
-// One row; a match asks nothing here.
+// One row that is an assignment.
 fn assign_pair(
     values: &[u8],
     entry: Entry,
@@ -37,7 +38,7 @@ fn assign_pair(
     chain: Chain,
     place: usize,
 ) -> Assigned
-    requires { ⌜ Readable (now values) entry × Ready (now dev) chain (now t) (work .layout) × (place ≤ chain .len) ⌝ }
+    requires { ⌜ Readable (now values) entry × (rules.isMatch (operatorOf (entry .operator)) ≡ false) × Ready (now dev) chain (now t) (work .layout) × (place ≤ chain .len) ⌝ }
     ensures { λ r. ⌜ PairAssigned (now (values .entry)) entry (now (dev .entry)) chain place (now (t .entry)) work (now (t .exit)) r ⌝ }
 {
     let key = entry.key;
@@ -45,9 +46,6 @@ fn assign_pair(
     let start = entry.start;
     let middle = entry.middle;
     let end = entry.end;
-    if is_match(operator) {
-        return Assigned::Left(work);
-    }
     assign_key::assign(
         t,
         work,
@@ -61,7 +59,7 @@ fn assign_pair(
     )
 }
 
-// The rows of a rule, from a place to another.
+// The rows of a rule, from a place to another; a match asks nothing here.
 pub fn assign_all(
     values: &[u8],
     rows: &[u16],
@@ -83,12 +81,17 @@ pub fn assign_all(
     let mut i = from;
     while i < to {
         let entry = table::pair_at(rows, i);
-        match assign_pair(values, entry, t, work, dev, chain, place) {
-            Assigned::Left(next) => {
-                work = next;
-                i += 1;
+        let operator = entry.operator;
+        if is_match(operator) {
+            i += 1;
+        } else {
+            match assign_pair(values, entry, t, work, dev, chain, place) {
+                Assigned::Left(next) => {
+                    work = next;
+                    i += 1;
+                }
+                Assigned::Refused(refusal) => return Change::Refused(refusal),
             }
-            Assigned::Refused(refusal) => return Change::Refused(refusal),
         }
     }
     let left = work.layout;
