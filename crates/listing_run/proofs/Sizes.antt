@@ -135,9 +135,32 @@ listing-size visited tried n s cs g m =
     let l = cat-size (λ x. lineOf (bytes "link") (escaped x)) okLink 518 link-size (s .links) (g .links .each) in
     let p = cat-size envLine okProp 1286 env-size (s .properties) (g .properties .each) in
     let t = cat-size (λ x. lineOf (bytes "tag") (escaped x)) okTag 261 tag-size (s .tags) (g .tags .each) in
-    let c = cat-size commandLine shortText 2057 command-size cs (m .each) in
+    let c =
+    cat-size commandLine shortText 2057 command-size cs (m .each) in
     simp length-append
-    (omega (arith, a, k, b, l, p, t, c, decimal-size visited, decimal-size tried, signed-size (toSigned (s .priority)), mode-size (s .mode), owner-size (bytes "owner") (s .owner) (g .owner), owner-size (bytes "group") (s .group) (g .group), watch-size (s .watch), g .links .few, g .properties .few, g .tags .few, g .runs .few, m .count))
+    (omega (
+      arith,
+      a,
+      k,
+      b,
+      l,
+      p,
+      t,
+      c,
+      decimal-size visited,
+      decimal-size tried,
+      signed-size (toSigned (s .priority)),
+      mode-size (s .mode),
+      owner-size (bytes "owner")
+          (s .owner) (g .owner),
+      owner-size (bytes "group") (s .group) (g .group),
+      watch-size (s .watch),
+      g .links .few,
+      g .properties .few,
+      g .tags .few,
+      g .runs .few,
+      m .count,
+    ))
 
 refusal-size : (n : ℕ) (f : Refusal) → length (printed (refused (line n f))) ≤ 35
 unfolding printed bytes

@@ -88,7 +88,9 @@ output-frame =
       same = λ s. refl;
       laid = λ s x. refl;
       counted = λ s x. refl;
-      moves = λ s x old new e. move-all (headerSize + length (s .output) + length (s .owner) + length (s .group)) (headerSize + length x + length (s .owner) + length (s .group)) (length (cat encText (s .links))) (length (cat encProp (s .properties))) (length (cat encText (s .tags))) (length (cat encRun (s .runs))) old new (omega arith);
+      moves = λ s x old new e. move-all (headerSize + length (s .output) + length (s .owner) + length (s .group))
+          (headerSize + length x + length (s .owner) + length (s .group)) (length (cat encText (s .links))) (length (cat encProp (s .properties)))
+          (length (cat encText (s .tags))) (length (cat encRun (s .runs))) old new (omega arith);
     }
 
 unfoldable pub owner-frame : Frame (List ℕ) 7 allMoved
@@ -105,7 +107,9 @@ owner-frame =
       same = λ s. refl;
       laid = λ s x. refl;
       counted = λ s x. refl;
-      moves = λ s x old new e. move-all (headerSize + length (s .output) + length (s .owner) + length (s .group)) (headerSize + length (s .output) + length x + length (s .group)) (length (cat encText (s .links))) (length (cat encProp (s .properties))) (length (cat encText (s .tags))) (length (cat encRun (s .runs))) old new (omega arith);
+      moves = λ s x old new e. move-all (headerSize + length (s .output) + length (s .owner) + length (s .group))
+          (headerSize + length (s .output) + length x + length (s .group)) (length (cat encText (s .links))) (length (cat encProp (s .properties)))
+          (length (cat encText (s .tags))) (length (cat encRun (s .runs))) old new (omega arith);
     }
 
 unfoldable pub group-frame : Frame (List ℕ) 8 allMoved
@@ -122,7 +126,9 @@ group-frame =
       same = λ s. refl;
       laid = λ s x. simp append-assoc;
       counted = λ s x. refl;
-      moves = λ s x old new e. move-all (headerSize + length (s .output) + length (s .owner) + length (s .group)) (headerSize + length (s .output) + length (s .owner) + length x) (length (cat encText (s .links))) (length (cat encProp (s .properties))) (length (cat encText (s .tags))) (length (cat encRun (s .runs))) old new (omega arith);
+      moves = λ s x old new e. move-all (headerSize + length (s .output) + length (s .owner) + length (s .group))
+          (headerSize + length (s .output) + length (s .owner) + length x) (length (cat encText (s .links))) (length (cat encProp (s .properties)))
+          (length (cat encText (s .tags))) (length (cat encRun (s .runs))) old new (omega arith);
     }
 
 unfoldable pub links-frame : Frame (List (List ℕ)) 12 (λ l old new. movedBy l section.Links old new)

@@ -24,7 +24,10 @@ enum-known-closable : tie.Need-enum-known-closable
 enum-known-closable c = search needs
 
 assign-closable-requires : tie.Need-assign-closable-requires
-assign-closable-requires c κs = (c .before .before .before .before .before .before .before .before .before .pre .0, c .before .before .before .before .before .before .before .before .before .pre .1, c .before .before .before .before .before .before .before .before .before .pre .2, c .before .before .before .before .before .before .before .before .before .pre .3, (subst (λ (a : Assignee). FitsTo a (c .before .before .before .before .before .before .before .before .before .args .argument .now) (c .before .before .before .before .before .before .before .before .before .args .value .now)) (sym (c .before .before .before .before .assignee-of .ensures) ∙ c .before .before .closable .given .1) (c .before .before .before .before .before .before .before .before .before .pre .4)))
+assign-closable-requires c κs =
+    let entry = c .before .before .before .before .before .before .before .before .before in
+    let x = entry .args in
+    (entry .pre .0, entry .pre .1, entry .pre .2, entry .pre .3, (subst (λ (a : Assignee). FitsTo a (x .argument .now) (x .value .now)) (sym (c .before .before .before .before .assignee-of .ensures) ∙ c .before .before .closable .given .1) (entry .pre .4)))
 
 went-requires : tie.Need-went-requires
 went-requires c κs = search needs
@@ -33,7 +36,10 @@ enum-told : tie.Need-enum-told
 enum-told c = search needs
 
 assign-property-requires : tie.Need-assign-property-requires
-assign-property-requires c κs = let (d, s, h) = c .before .before .before .before .before .before .before .before .before .pre .0 in (((length (chain d)), s, h .held), (subst (λ (a : Assignee). FitsTo a (c .before .before .before .before .before .before .before .before .before .args .argument .now) (c .before .before .before .before .before .before .before .before .before .args .value .now)) (sym (c .before .before .before .before .assignee-of .ensures) ∙ c .before .before .enum-told .given .1) (c .before .before .before .before .before .before .before .before .before .pre .4)), c .before .before .before .before .before .before .before .before .before .pre .2, c .before .before .before .before .before .before .before .before .before .pre .3)
+assign-property-requires c κs =
+    let entry = c .before .before .before .before .before .before .before .before .before in
+    let x = entry .args in
+    let (d, s, h) = entry .pre .0 in (((length (chain d)), s, h .held), (subst (λ (a : Assignee). FitsTo a (x .argument .now) (x .value .now)) (sym (c .before .before .before .before .assignee-of .ensures) ∙ c .before .before .enum-told .given .1) (entry .pre .4)), entry .pre .2, entry .pre .3)
 
 went-requires-2 : tie.Need-went-requires-2
 went-requires-2 c κs = search needs
@@ -51,22 +57,47 @@ same-length : tie.Need-same-length
 same-length c = search needs
 
 returns : tie.Need-returns
-returns c = λ p i d s h. went-says (length (chain d)) _ s (c .before .before .before .before .before .before .before .before .before .before .before .before .before .args .work .escape) (c .before .before .before .assign-closable .result) _ (c .before .before .before .assign-closable .ensures p i d s h) (c .went .result) (c .went .ensures) _ (assigned-to d (c .before .before .before .before .before .before .before .before .before .before .before .before .before .args .place) p (workOf s (c .before .before .before .before .before .before .before .before .before .before .before .before .before .args .work .escape)) (keyOf (c .before .before .before .before .before .before .before .before .before .before .before .before .before .args .key)) (Closes (c .before .before .before .before .before .before .closable .given .0 .0)) (c .before .before .before .before .before .before .before .before .assignee-of .result) (c .before .before .before .before .before .before .before .before .assignee-of .ensures) (c .before .before .before .before .before .before .closable .given .1))
+returns c =
+    let x = c .before .before .before .before .before .before .before .before .before .before .before .before .before .args in
+    λ p i d s h. went-says (length (chain d)) _ s (x .work .escape)
+    (c .before .before .before .assign-closable .result) _ (c .before .before .before .assign-closable .ensures p i d s h) (c .went .result)
+    (c .went .ensures) _ (assigned-to d (x .place) p (workOf s (x .work .escape)) (keyOf (x .key))
+    (Closes (c .before .before .before .before .before .before .closable .given .0 .0))
+    (c .before .before .before .before .before .before .before .before .assignee-of .result)
+    (c .before .before .before .before .before .before .before .before .assignee-of .ensures) (c .before .before .before .before .before .before .closable .given .1))
 
 same-length-2 : tie.Need-same-length-2
 same-length-2 c = search needs
 
 returns-2 : tie.Need-returns-2
-returns-2 c = λ p i d s h. went-says (length (chain d)) _ s (c .before .before .before .before .before .before .before .before .before .before .before .before .before .args .work .escape) (c .before .before .before .assign-property .result) _ (c .before .before .before .assign-property .ensures p (i .argument) (i .value) (length (chain d)) s (h .held)) (c .went2 .result) (c .went2 .ensures) _ (assigned-to d (c .before .before .before .before .before .before .before .before .before .before .before .before .before .args .place) p (workOf s (c .before .before .before .before .before .before .before .before .before .before .before .before .before .args .work .escape)) (keyOf (c .before .before .before .before .before .before .before .before .before .before .before .before .before .args .key)) Property (c .before .before .before .before .before .before .before .before .assignee-of .result) (c .before .before .before .before .before .before .before .before .assignee-of .ensures) (c .before .before .before .before .before .before .enum-told .given .1))
+returns-2 c =
+    let x = c .before .before .before .before .before .before .before .before .before .before .before .before .before .args in
+    λ p i d s h. went-says (length (chain d)) _ s (x .work .escape)
+    (c .before .before .before .assign-property .result) _ (c .before .before .before .assign-property .ensures p (i .argument) (i .value)
+    (length (chain d)) s (h .held)) (c .went2 .result) (c .went2 .ensures) _ (assigned-to d (x .place) p (workOf s (x .work .escape))
+    (keyOf (x .key)) Property (c .before .before .before .before .before .before .before .before .assignee-of .result)
+    (c .before .before .before .before .before .before .before .before .assignee-of .ensures) (c .before .before .before .before .before .before .enum-told .given .1))
 
 same-length-3 : tie.Need-same-length-3
 same-length-3 c = search needs
 
 returns-3 : tie.Need-returns-3
-returns-3 c = λ p i d s h. let (s′, e, z) = c .before .before .assign-option .ensures (length (chain d)) s (h .held) in (s′, assigned-to d (c .before .before .before .before .before .before .before .before .before .before .before .args .place) p (workOf s (c .before .before .before .before .before .before .before .before .before .before .before .args .work .escape)) (keyOf (c .before .before .before .before .before .before .before .before .before .before .before .args .key)) Option (c .before .before .before .before .before .before .assignee-of .result) (c .before .before .before .before .before .before .assignee-of .ensures) (c .before .before .before .before .enum-told2 .given .1) ∙ ap (λ (v : List ℕ). ok (setBy (settingOf v) (workOf s (c .before .before .before .before .before .before .before .before .before .before .before .args .work .escape)))) (i .value) ∙ ap ok e, z)
+returns-3 c =
+    let a = c .before .before .before .before .before .before .before .before .before .before .before .args in
+    let x = a in
+    λ p i d s h. let (s′, e, z) = c .before .before .assign-option .ensures (length (chain d)) s
+    (h .held) in (
+      s′,
+      assigned-to d (x .place) p (workOf s (x .work .escape)) (keyOf (x .key)) Option
+          (c .before .before .before .before .before .before .assignee-of .result) (c .before .before .before .before .before .before .assignee-of .ensures)
+          (c .before .before .before .before .enum-told2 .given .1) ∙ ap (λ (v : List ℕ). ok (setBy (settingOf v) (workOf s (x .work .escape)))) (i .value) ∙ ap ok e,
+      z,
+    )
 
 returns-4 : tie.Need-returns-4
-returns-4 c = λ p i d s h. (s, assigned-to d (c .before .before .before .before .before .before .before .args .place) p (workOf s (c .before .before .before .before .before .before .before .args .work .escape)) (keyOf (c .before .before .before .before .before .before .before .args .key)) Nothing (c .before .before .assignee-of .result) (c .before .before .assignee-of .ensures) (c .enum-told3 .given .1), h .held)
+returns-4 c =
+    let x = c .before .before .before .before .before .before .before .args in
+    λ p i d s h. (s, assigned-to d (x .place) p (workOf s (x .work .escape)) (keyOf (x .key)) Nothing (c .before .before .assignee-of .result) (c .before .before .assignee-of .ensures) (c .enum-told3 .given .1), h .held)
 
 pub assign-spec : {M : Type 1} → statement M
 assign-spec =

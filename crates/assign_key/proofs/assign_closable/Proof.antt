@@ -16,7 +16,9 @@ same-length : tie.Need-same-length
 same-length c = search needs
 
 returns : tie.Need-returns
-returns c = λ p i d s h. (s, skipped (c .before .before .before .before .before .before .before .before .args .key) d (c .before .before .before .before .before .before .before .before .args .place) p (workOf s (c .before .before .before .before .before .before .before .before .args .work .escape)) (c .before .before .is-closed .result) (c .before .before .is-closed .ensures (length (chain d)) (c .before .before .before .before .before .before .before .before .args .work .layout) s (h .held)) (c .before .if1 .taken), h .held)
+returns c =
+    let x = c .before .before .before .before .before .before .before .before .args in
+    λ p i d s h. (s, skipped (x .key) d (x .place) p (workOf s (x .work .escape)) (c .before .before .is-closed .result) (c .before .before .is-closed .ensures (length (chain d)) (x .work .layout) s (h .held)) (c .before .if1 .taken), h .held)
 
 change-closable-requires : tie.Need-change-closable-requires
 change-closable-requires c κs = search needs
@@ -25,7 +27,12 @@ same-length-2 : tie.Need-same-length-2
 same-length-2 c = search needs
 
 returns-2 : tie.Need-returns-2
-returns-2 c = λ p i d s h. says-same (length (chain d)) _ (c .before .before .change-closable .result) _ _ (not-skipped (c .before .before .before .before .before .before .before .before .before .before .before .args .key) d (c .before .before .before .before .before .before .before .before .before .before .before .args .place) p (workOf s (c .before .before .before .before .before .before .before .before .before .before .before .args .work .escape)) (c .before .before .before .before .before .is-closed .result) (c .before .before .before .before .before .is-closed .ensures (length (chain d)) (c .before .before .before .before .before .before .before .before .before .before .before .args .work .layout) s (h .held)) (c .before .before .before .before .if1 .left)) (c .before .before .change-closable .ensures p i d s h)
+returns-2 c =
+    let x = c .before .before .before .before .before .before .before .before .before .before .before .args in
+    λ p i d s h. says-same (length (chain d)) _ (c .before .before .change-closable .result) _ _ (not-skipped (x .key) d (x .place) p (workOf s (x .work .escape))
+    (c .before .before .before .before .before .is-closed .result)
+    (c .before .before .before .before .before .is-closed .ensures (length (chain d)) (x .work .layout) s (h .held)) (c .before .before .before .before .if1 .left))
+    (c .before .before .change-closable .ensures p i d s h)
 
 pub assign-closable-spec : {M : Type 1} → statement M
 assign-closable-spec =

@@ -16,13 +16,19 @@ enum-told : tie.Need-enum-told
 enum-told c = search needs
 
 assign-links-requires : tie.Need-assign-links-requires
-assign-links-requires c κs = (c .before .before .before .before .before .before .before .before .pre .0, c .before .before .before .before .before .before .before .before .pre .1, (subst (λ (k : Closable). Fits k (c .before .before .before .before .before .before .before .before .args .value .now)) (c .before .enum-told .given .1) (c .before .before .before .before .before .before .before .before .pre .4)), c .before .before .before .before .before .before .before .before .pre .2)
+assign-links-requires c κs =
+    let entry = c .before .before .before .before .before .before .before .before in
+    let x = entry .args in
+    (entry .pre .0, entry .pre .1, (subst (λ (k : Closable). Fits k (x .value .now)) (c .before .enum-told .given .1) (entry .pre .4)), entry .pre .2)
 
 enum-told-2 : tie.Need-enum-told-2
 enum-told-2 c = search needs
 
 assign-tag-requires : tie.Need-assign-tag-requires
-assign-tag-requires c κs = let (d, s, h) = c .before .before .before .before .before .before .before .before .pre .0 in ((length (chain d), s, h .held), c .before .before .before .before .before .before .before .before .pre .2, (subst (λ (k : Closable). Fits k (c .before .before .before .before .before .before .before .before .args .value .now)) (c .before .enum-told2 .given .1) (c .before .before .before .before .before .before .before .before .pre .4)))
+assign-tag-requires c κs =
+    let entry = c .before .before .before .before .before .before .before .before in
+    let x = entry .args in
+    let (d, s, h) = entry .pre .0 in ((length (chain d), s, h .held), entry .pre .2, (subst (λ (k : Closable). Fits k (x .value .now)) (c .before .enum-told2 .given .1) (entry .pre .4)))
 
 enum-told-3 : tie.Need-enum-told-3
 enum-told-3 c = search needs
@@ -31,25 +37,47 @@ is-builtin-requires : tie.Need-is-builtin-requires
 is-builtin-requires c κs = search needs
 
 assign-run-requires : tie.Need-assign-run-requires
-assign-run-requires c κs = let (d, s, h) = c .before .before .before .before .before .before .before .before .before .pre .0 in let w = h .chained .len in let z = c .before .before .before .before .before .before .before .before .before .pre .1 in ((length (chain d), s, h .held, omega arith), omega (arith, chain-few (c .before .before .before .before .before .before .before .before .before .args .dev .now) d (h .device)), c .before .before .before .before .before .before .before .before .before .pre .2, c .before .before .before .before .before .before .before .before .before .pre .3, (subst (λ (k : Closable). Fits k (c .before .before .before .before .before .before .before .before .before .args .value .now)) (c .before .before .enum-told3 .given .1) (c .before .before .before .before .before .before .before .before .before .pre .4)))
+assign-run-requires c κs =
+    let entry = c .before .before .before .before .before .before .before .before .before in
+    let x = entry .args in
+    let (d, s, h) = entry .pre .0 in let w = h .chained .len in let z = entry .pre .1 in (
+      (length (chain d), s, h .held, omega arith),
+      omega (
+        arith,
+        chain-few
+            (x .dev .now) d (h .device),
+      ),
+      entry .pre .2,
+      entry .pre .3,
+      (subst (λ (k : Closable). Fits k (x .value .now)) (c .before .before .enum-told3 .given .1) (entry .pre .4)),
+    )
 
 enum-told-4 : tie.Need-enum-told-4
 enum-told-4 c = search needs
 
 assign-single-requires : tie.Need-assign-single-requires
-assign-single-requires c κs = (c .before .before .before .before .before .before .before .before .pre .0, c .before .before .before .before .before .before .before .before .pre .1, (subst (λ (k : Closable). Fits k (c .before .before .before .before .before .before .before .before .args .value .now)) (c .before .enum-told4 .given .1) (c .before .before .before .before .before .before .before .before .pre .4)))
+assign-single-requires c κs =
+    let entry = c .before .before .before .before .before .before .before .before in
+    let x = entry .args in
+    (entry .pre .0, entry .pre .1, (subst (λ (k : Closable). Fits k (x .value .now)) (c .before .enum-told4 .given .1) (entry .pre .4)))
 
 enum-told-5 : tie.Need-enum-told-5
 enum-told-5 c = search needs
 
 assign-single-requires-2 : tie.Need-assign-single-requires-2
-assign-single-requires-2 c κs = (c .before .before .before .before .before .before .before .before .pre .0, c .before .before .before .before .before .before .before .before .pre .1, (subst (λ (k : Closable). Fits k (c .before .before .before .before .before .before .before .before .args .value .now)) (c .before .enum-told5 .given .1) (c .before .before .before .before .before .before .before .before .pre .4)))
+assign-single-requires-2 c κs =
+    let entry = c .before .before .before .before .before .before .before .before in
+    let x = entry .args in
+    (entry .pre .0, entry .pre .1, (subst (λ (k : Closable). Fits k (x .value .now)) (c .before .enum-told5 .given .1) (entry .pre .4)))
 
 enum-told-6 : tie.Need-enum-told-6
 enum-told-6 c = search needs
 
 assign-single-requires-3 : tie.Need-assign-single-requires-3
-assign-single-requires-3 c κs = (c .before .before .before .before .before .before .before .before .pre .0, c .before .before .before .before .before .before .before .before .pre .1, (subst (λ (k : Closable). Fits k (c .before .before .before .before .before .before .before .before .args .value .now)) (c .before .enum-told6 .given .1) (c .before .before .before .before .before .before .before .before .pre .4)))
+assign-single-requires-3 c κs =
+    let entry = c .before .before .before .before .before .before .before .before in
+    let x = entry .args in
+    (entry .pre .0, entry .pre .1, (subst (λ (k : Closable). Fits k (x .value .now)) (c .before .enum-told6 .given .1) (entry .pre .4)))
 
 same-length : tie.Need-same-length
 same-length c = search needs
@@ -67,7 +95,12 @@ same-length-3 : tie.Need-same-length-3
 same-length-3 c = search needs
 
 returns-3 : tie.Need-returns-3
-returns-3 c = rw (c .before .before .before .before .before .enum-told3 .given .1) (λ p i d s h. let w = h .chained .len in let z = c .before .before .before .before .before .before .before .before .before .before .before .before .pre .1 in c .before .before .assign-run .ensures p (i .op) (i .value) (builtin-is p (c .before .before .before .before .before .before .before .before .before .before .before .before .args .argument .now) (i .argument) ∙ sym (c .before .before .before .is-builtin .ensures)) (length (chain d)) s (h .held) (omega arith))
+returns-3 c =
+    let entry = c .before .before .before .before .before .before .before .before .before .before .before .before in
+    let x = entry .args in
+    rw (c .before .before .before .before .before .enum-told3 .given .1)
+    (λ p i d s h. let w = h .chained .len in let z = entry .pre .1 in c .before .before .assign-run .ensures p (i .op) (i .value)
+    (builtin-is p (x .argument .now) (i .argument) ∙ sym (c .before .before .before .is-builtin .ensures)) (length (chain d)) s (h .held) (omega arith))
 
 same-length-4 : tie.Need-same-length-4
 same-length-4 c = search needs

@@ -33,7 +33,15 @@ loop-less : tie.Need-loop-less Inv-loop μ-loop
 loop-less c = omega arith
 
 loop-again : tie.Need-loop-again Inv-loop μ-loop
-loop-again c = let a = c .before .before .args in let l = c .before .loop in (omega arith, simp length-set (omega arith), written-step (a .s .now) (a .first) (a .count) (a .w) (l .s) (l .i) (l .rest) (omega arith) (omega arith) (omega arith) (l .inv .2) (l .inv .3), written-rest (a .s .now) (a .first) (a .count) (a .w) (l .i) (l .rest) (omega arith) (omega arith) (l .inv .3))
+loop-again c =
+    let x = c .before .before .args in
+    let a = x in let l = c .before .loop in (
+      omega arith,
+      simp length-set (omega arith),
+      written-step (a .s .now) (a .first) (a .count) (a .w) (l .s) (l .i) (l .rest)
+          (omega arith) (omega arith) (omega arith) (l .inv .2) (l .inv .3),
+      written-rest (a .s .now) (a .first) (a .count) (a .w) (l .i) (l .rest) (omega arith) (omega arith) (l .inv .3),
+    )
 
 same-length : tie.Need-same-length Inv-loop μ-loop
 same-length c = c .before .loop .inv .1

@@ -43,10 +43,17 @@ loop-less : tie.Need-loop-less Inv-loop μ-loop
 loop-less c = omega arith
 
 loop-again : tie.Need-loop-again Inv-loop μ-loop
-loop-again c = let a = c .before .before .before .before .before .args in (omega arith, ap₂ (λ (x y : ℕ). x * 256 + y) (c .before .before .before .loop .inv .1) (c .wide .ensures .0) ∙ sym (number-step (a .s .now) (a .first) (c .before .before .before .loop .i) (λ i. c .before .before .before .before .shared-slice-known .given i .fits) (omega arith)))
+loop-again c =
+    let a = c .before .before .before .before .before .args in (
+      omega arith,
+      ap₂ (λ (x y : ℕ). x * 256 + y) (c .before .before .before .loop .inv .1)
+          (c .wide .ensures .0) ∙ sym (number-step (a .s .now) (a .first) (c .before .before .before .loop .i) (λ i. c .before .before .before .before .shared-slice-known .given i .fits) (omega arith)),
+    )
 
 returns : tie.Need-returns Inv-loop μ-loop
-returns c = let a = c .before .before .before .args in (c .before .loop .inv .1 ∙ ap-at (λ i. numberAt (a .s .now) (8 * a .first) (8 * i)) (c .before .loop .i) (a .count) (omega arith), omega (arith, c .before .loop .inv .1, number-room (a .s .now) (8 * a .first) (8 * c .before .loop .i) 40 (omega arith)))
+returns c =
+    let x = c .before .before .before .args in
+    let a = x in (c .before .loop .inv .1 ∙ ap-at (λ i. numberAt (a .s .now) (8 * a .first) (8 * i)) (c .before .loop .i) (a .count) (omega arith), omega (arith, c .before .loop .inv .1, number-room (a .s .now) (8 * a .first) (8 * c .before .loop .i) 40 (omega arith)))
 
 pub window-spec : {M : Type 1} → statement M
 window-spec =

@@ -57,10 +57,16 @@ loop-less c = omega arith
 
 loop-again : tie.Need-loop-again Inv-loop μ-loop
 loop-again c =
+    let given = c .before .before .before .before .before .before .before .before .before .args in
     let l = c .before .before .before .before .before .loop in
     let digit = c .digit in
-    let a = c .before .before .before .before .before .before .before .before .before .args in
-    (omega arith, l .inv .1, mode-room (l .mode) (digit .result - 48) (l .i) (l .inv .2) (omega arith), l .inv .3 ∙ mode-next (a .x .now) (l .mode) (l .i) (c .before .before .before .before .loop-test .taken) (c .before .before .if3 .left) (omega arith) ∙ ap (λ (d : ℕ). modeFrom (l .mode * 8 + (d - 48)) (drop (l .i + 1) (a .x .now))) (sym (digit .ensures)))
+    let a = given in (
+      omega arith,
+      l .inv .1,
+      mode-room (l .mode) (digit .result - 48) (l .i) (l .inv .2) (omega arith),
+      l .inv .3 ∙ mode-next (a .x .now) (l .mode) (l .i)
+          (c .before .before .before .before .loop-test .taken) (c .before .before .if3 .left) (omega arith) ∙ ap (λ (d : ℕ). modeFrom (l .mode * 8 + (d - 48)) (drop (l .i + 1) (a .x .now))) (sym (digit .ensures)),
+    )
 
 returns-5 : tie.Need-returns-5 Inv-loop μ-loop
 returns-5 c =

@@ -60,7 +60,9 @@ loop-again c =
     let entry = c .before .before .before .before .before .before .before .before .before .before .before .before .before .before in
     let at = c .before .before .before .before .before .before .before .before .before .before .before .loop in
     scan-next (entry .args .line .now) (entry .args .start) (entry .args .out .now) (at .out) (at .i) (at .len) (at .inv)
-    (c .before .before .before .before .before .before .before .taken-at .result) (omega arith) (c .before .before .before .before .before .before .before .before .if1 .left) (c .before .before .before .before .before .before .before .taken-at .ensures .0) (c .before .before .before .before .before .if2 .left) (c .before .before .before .put-at .last .0) (c .before .before .before .put-at .ensures)
+    (c .before .before .before .before .before .before .before .taken-at .result) (omega arith)
+    (c .before .before .before .before .before .before .before .before .if1 .left) (c .before .before .before .before .before .before .before .taken-at .ensures .0)
+    (c .before .before .before .before .before .if2 .left) (c .before .before .before .put-at .last .0) (c .before .before .before .put-at .ensures)
 
 same-length-3 : tie.Need-same-length-3 Inv-loop μ-loop
 same-length-3 c = c .before .loop .inv .kept

@@ -31,10 +31,12 @@ set-count-requires c κs = search needs
 
 store-requires : tie.Need-store-requires
 store-requires c κs =
-    let a = c .before .before .before .before .before .before .before .before .before .before .before .before .before .args in
-    let d = c .before .before .before .before .before .before .before .before .before .before .before .before .before .pre .0 .0 in
-    let e = c .before .before .before .before .before .before .before .before .before .before .before .before .before .pre .0 .1 in
-    let b : Bytes (a .device .now) = λ i. c .before .before .before .before .before .before .before .before .before .before .before .shared-slice-known .given i .fits in omega (arith, made-length d (c .before .before .before .before .before .before .before .before .before .properties .result .now) (c .before .before .before .before .before .before .before .before .before .properties .ensures d e), made-fits (a .device .now) d e, c .before .before .before .set-count .kept .0, c .before .before .before .before .before .before .before .put-field .kept .0, c .before .before .before .before .before .before .before .before .before .before .before .before .before .pre .1)
+    let entry = c .before .before .before .before .before .before .before .before .before .before .before .before .before in
+    let x = entry .args in
+    let a = x in
+    let d = entry .pre .0 .0 in
+    let e = entry .pre .0 .1 in
+    let b : Bytes (a .device .now) = λ i. c .before .before .before .before .before .before .before .before .before .before .before .shared-slice-known .given i .fits in omega (arith, made-length d (c .before .before .before .before .before .before .before .before .before .properties .result .now) (c .before .before .before .before .before .before .before .before .before .properties .ensures d e), made-fits (a .device .now) d e, c .before .before .before .set-count .kept .0, c .before .before .before .before .before .before .before .put-field .kept .0, entry .pre .1)
 
 add-result : tie.Need-add-result
 add-result c = search needs
@@ -44,9 +46,11 @@ same-length c = search needs
 
 returns : tie.Need-returns
 returns c =
-    let a = c .before .before .before .before .before .before .before .before .before .before .before .before .before .before .before .before .args in
+    let entry = c .before .before .before .before .before .before .before .before .before .before .before .before .before .before .before .before in
+    let x = entry .args in
+    let a = x in
     let b : Bytes (a .device .now) = λ i. c .before .before .before .before .before .before .before .before .before .before .before .before .before .before .shared-slice-known .given i .fits in
-    let k = c .before .before .store .kept .0 ∙ c .before .before .before .before .before .before .set-count .kept .0 ∙ c .before .before .before .before .before .before .before .before .before .before .put-field .kept .0 in λ d e. let g = c .before .before .before .before .before .before .before .before .before .before .before .before .properties .ensures d e in (made (length (a .t .now)) (a .t .now) (c .before .before .before .before .before .before .before .before .before .before .put-field .last .0) (c .before .before .before .before .before .before .set-count .last .0) (c .before .before .store .last .0) (omega (arith, c .before .before .before .before .before .before .before .before .before .before .before .before .before .before .before .before .pre .1)) (c .before .before .before .before .before .before .before .before .before .before .before .before .before .before .before .before .pre .2) (λ i. c .before .before .before .before .before .before .before .before .before .before .before .before .before .before .before .slice-known .given i .fits) (c .before .before .before .before .before .before .before .before .before .before .put-field .ensures) (λ i. c .before .before .before .before .before .before .before .before .slice-known2 .given i .fits) d (c .before .before .before .before .before .before .before .before .before .before .before .before .before .read-head .result .properties) (c .before .before .before .before .before .before .before .before .before .before .before .before .properties .result .now) (head-count (a .device .now) d (c .before .before .before .before .before .before .before .before .before .before .before .before .before .read-head .result) b e (record-head (a .device .now) d b e) (c .before .before .before .before .before .before .before .before .before .before .before .before .before .read-head .ensures)) g (c .before .before .before .before .before .before .set-count .ensures) (c .before .before .store .ensures) ∙ ap (λ (i : ℕ). padded i (encode (fresh d))) (sym k), made-length d (c .before .before .before .before .before .before .before .before .before .before .before .before .properties .result .now) g)
+    let k = c .before .before .store .kept .0 ∙ c .before .before .before .before .before .before .set-count .kept .0 ∙ c .before .before .before .before .before .before .before .before .before .before .put-field .kept .0 in λ d e. let g = c .before .before .before .before .before .before .before .before .before .before .before .before .properties .ensures d e in (made (length (a .t .now)) (a .t .now) (c .before .before .before .before .before .before .before .before .before .before .put-field .last .0) (c .before .before .before .before .before .before .set-count .last .0) (c .before .before .store .last .0) (omega (arith, entry .pre .1)) (entry .pre .2) (λ i. c .before .before .before .before .before .before .before .before .before .before .before .before .before .before .before .slice-known .given i .fits) (c .before .before .before .before .before .before .before .before .before .before .put-field .ensures) (λ i. c .before .before .before .before .before .before .before .before .slice-known2 .given i .fits) d (c .before .before .before .before .before .before .before .before .before .before .before .before .before .read-head .result .properties) (c .before .before .before .before .before .before .before .before .before .before .before .before .properties .result .now) (head-count (a .device .now) d (c .before .before .before .before .before .before .before .before .before .before .before .before .before .read-head .result) b e (record-head (a .device .now) d b e) (c .before .before .before .before .before .before .before .before .before .before .before .before .before .read-head .ensures)) g (c .before .before .before .before .before .before .set-count .ensures) (c .before .before .store .ensures) ∙ ap (λ (i : ℕ). padded i (encode (fresh d))) (sym k), made-length d (c .before .before .before .before .before .before .before .before .before .before .before .before .properties .result .now) g)
 
 pub write-record-spec : {M : Type 1} → statement M
 write-record-spec =

@@ -48,16 +48,18 @@ loop-less : tie.Need-loop-less Inv-loop μ-loop
 loop-less c = omega (arith, c .before .before .loop-test .taken)
 
 loop-again : tie.Need-loop-again Inv-loop μ-loop
-loop-again c = (
-  omega (arith, c .before .before .loop-test .taken),
-  simp length-set (c .before .before .before .loop .inv .1),
-  λ v s l m used x.
-      let n = none-is v s (c .before .before .before .before .before .before .args .rules .now) l m used (c .before .before .before .before .before .before .args .count) (c .before .before .before .loop .i) x (c .before .before .loop-test .taken) (sym (c .before .number-at .ensures .0) ∙ c .if1 .left) in
-      let u = c .before .before .before .loop .inv .2 v s l m used x in (
-        u .0 ∙ settle-on v s (c .before .before .before .before .before .before .args .rules .now) (c .before .before .before .loop .i) (c .before .before .before .before .before .before .args .count) (c .before .before .loop-test .taken) 0 n,
-        put v s (c .before .before .before .before .before .before .args .rules .now) (c .before .before .before .before .before .before .args .count) (c .before .before .before .loop .jumps) (c .before .before .before .loop .i) 0 (omega (arith, c .before .before .loop-test .taken, c .before .before .before .before .before .before .pre .1, c .before .before .before .loop .inv .1)) (u .1) n,
-      ),
-)
+loop-again c =
+    let entry = c .before .before .before .before .before .before in
+    let a = entry .args in (
+      omega (arith, c .before .before .loop-test .taken),
+      simp length-set (c .before .before .before .loop .inv .1),
+      λ v s l m used x.
+          let n = none-is v s (a .rules .now) l m used (a .count) (c .before .before .before .loop .i) x (c .before .before .loop-test .taken) (sym (c .before .number-at .ensures .0) ∙ c .if1 .left) in
+          let u = c .before .before .before .loop .inv .2 v s l m used x in (
+            u .0 ∙ settle-on v s (a .rules .now) (c .before .before .before .loop .i) (a .count) (c .before .before .loop-test .taken) 0 n,
+            put v s (a .rules .now) (a .count) (c .before .before .before .loop .jumps) (c .before .before .before .loop .i) 0 (omega (arith, c .before .before .loop-test .taken, entry .pre .1, c .before .before .before .loop .inv .1)) (u .1) n,
+          ),
+    )
 
 same-length-2 : tie.Need-same-length-2 Inv-loop μ-loop
 same-length-2 c = c .before .loop .inv .1

@@ -31,7 +31,13 @@ loop-less : tie.Need-loop-less Inv-loop μ-loop
 loop-less c = omega arith
 
 loop-again : tie.Need-loop-again Inv-loop μ-loop
-loop-again c = (omega arith, c .mix .ensures .1, ap (λ (h : ℕ). hashFrom h (drop (c .before .before .before .loop .i + 1) (c .before .before .before .before .before .args .name .now))) (c .mix .ensures .0) ∙ sym (hash-step (c .before .before .before .before .before .args .name .now) (c .before .before .before .loop .i) (c .before .before .before .loop .hash) (omega arith)) ∙ c .before .before .before .loop .inv .2)
+loop-again c =
+    let x = c .before .before .before .before .before .args in (
+      omega arith,
+      c .mix .ensures .1,
+      ap (λ (h : ℕ). hashFrom h (drop (c .before .before .before .loop .i + 1) (x .name .now)))
+          (c .mix .ensures .0) ∙ sym (hash-step (x .name .now) (c .before .before .before .loop .i) (c .before .before .before .loop .hash) (omega arith)) ∙ c .before .before .before .loop .inv .2,
+    )
 
 returns : tie.Need-returns Inv-loop μ-loop
 returns c = (sym (hash-end (c .before .before .before .args .name .now) (c .before .loop .i) (c .before .loop .hash) (omega arith)) ∙ c .before .loop .inv .2, c .before .loop .inv .1)

@@ -37,7 +37,10 @@ long-requires : tie.Need-long-requires
 long-requires c κs = search needs
 
 returns : tie.Need-returns
-returns c = λ t m used n h x e. label-apart (c .before .before .before .before .before .before .before .args .values .now) (c .before .before .before .before .before .before .before .args .rows .now) t (c .before .before .before .before .before .before .before .args .labels .now) m used n (c .before .before .before .before .before .before .before .args .i) x h _ (c .before .before .before .before .before .before .before .pre .3) (λ q. c .if1 .taken (c .before .long .ensures .0 ∙ e ∙ q ∙ sym (c .before .before .before .before .before .before .before .pre .0)))
+returns c =
+    let entry = c .before .before .before .before .before .before .before in
+    let a = entry .args in
+    λ t m used n h x e. label-apart (a .values .now) (a .rows .now) t (a .labels .now) m used n (a .i) x h _ (entry .pre .3) (λ q. c .if1 .taken (c .before .long .ensures .0 ∙ e ∙ q ∙ sym (entry .pre .0)))
 
 number-at-requires : tie.Need-number-at-requires
 number-at-requires c κs = search needs
@@ -73,10 +76,13 @@ same-long-requires : tie.Need-same-long-requires
 same-long-requires c κs = search needs
 
 returns-2 : tie.Need-returns-2
-returns-2 c = λ t m used n h x e.
-    let named : ℕ → ℕ → Bool = λ s f. sameBytes (c .before .before .before .before .before .before .before .before .before .before .before .before .args .name .now) (part (c .before .before .before .before .before .before .before .before .before .before .before .before .args .values .now) s f) in
+returns-2 c =
+    let entry = c .before .before .before .before .before .before .before .before .before .before .before .before in
+    let a = entry .args in
+    λ t m used n h x e.
+    let named : ℕ → ℕ → Bool = λ s f. sameBytes (a .name .now) (part (a .values .now) s f) in
     c .same-long .ensures ∙ ap₂ named (start-is (c .before .before .before)) (end-is (c .before .before))
-    ∙ label-same (c .before .before .before .before .before .before .before .before .before .before .before .before .args .values .now) (c .before .before .before .before .before .before .before .before .before .before .before .before .args .rows .now) t (c .before .before .before .before .before .before .before .before .before .before .before .before .args .labels .now) m used n (c .before .before .before .before .before .before .before .before .before .before .before .before .args .i) x h _ (c .before .before .before .before .before .before .before .before .before .before .before .before .pre .3)
+    ∙ label-same (a .values .now) (a .rows .now) t (a .labels .now) m used n (a .i) x h _ (entry .pre .3)
 
 pub is-label-spec : {M : Type 1} → statement M
 is-label-spec =

@@ -19,10 +19,20 @@ there w e = w .if1 .left (w .before .number-at .ensures .0 ∙ e)
 abbrev rowOf : (w : tie.Start) → ℕ
 rowOf w = getD (w .args .rules .now) (w .args .i * 4 + 3) 0 - 1
 
-places : (w : tie.Else1) → (getD (w .before .before .before .before .before .before .before .args .rows .now) (rowOf (w .before .before .before .before .before .before .before) * 4 + 2) 0 ≤ getD (w .before .before .before .before .before .before .before .args .rows .now) (rowOf (w .before .before .before .before .before .before .before) * 4 + 3) 0) × (getD (w .before .before .before .before .before .before .before .args .rows .now) (rowOf (w .before .before .before .before .before .before .before) * 4 + 3) 0 ≤ length (w .before .before .before .before .before .before .before .args .values .now)) × (rowOf (w .before .before .before .before .before .before .before) * 4 + 4 ≤ length (w .before .before .before .before .before .before .before .args .rows .now))
+places : (w : tie.Else1) → (getD (w .before .before .before .before .before .before .before .args .rows .now)
+    (rowOf (w .before .before .before .before .before .before .before) * 4 + 2) 0 ≤ getD (w .before .before .before .before .before .before .before .args .rows .now)
+    (rowOf (w .before .before .before .before .before .before .before) * 4 + 3) 0) × (getD (w .before .before .before .before .before .before .before .args .rows .now)
+    (rowOf (w .before .before .before .before .before .before .before) * 4 + 3) 0 ≤ length
+    (w .before .before .before .before .before .before .before .args .values .now)) × (rowOf (w .before .before .before .before .before .before .before) * 4 + 4 ≤ length
+    (w .before .before .before .before .before .before .before .args .rows .now))
 places w =
-    let (m, (used, x)) = w .before .before .before .before .before .before .before .pre .3 in
-    goto-places (w .before .before .before .before .before .before .before .args .values .now) (w .before .before .before .before .before .before .before .args .rows .now) (w .before .before .before .before .before .before .before .args .rules .now) (w .before .before .before .before .before .before .before .args .labels .now) m used (w .before .before .before .before .before .before .before .args .count) (w .before .before .before .before .before .before .before .args .i) x (w .before .before .before .before .before .before .before .pre .0) (there w)
+    let entry = w .before .before .before .before .before .before .before in
+    let a = entry .args in
+    let (m, (used, x)) = entry .pre .3 in
+    goto-places (a .values .now)
+    (a .rows .now) (a .rules .now)
+    (a .labels .now) m used (a .count)
+    (a .i) x (entry .pre .0) (there w)
 
 start-is : (w : tie.After-number-at2) → w .number-at2 .result ≡ getD (w .before .before .before .before .before .before .before .before .args .rows .now) (rowOf (w .before .before .before .before .before .before .before .before) * 4 + 2) 0
 start-is w = rw (w .before .before .number-at .ensures .0) at (w .number-at2 .ensures .0)
@@ -31,8 +41,17 @@ end-is : (w : tie.After-number-at3) → w .number-at3 .result ≡ getD (w .befor
 end-is w = rw (w .before .before .before .number-at .ensures .0) at (w .number-at3 .ensures .0)
 
 found : (w : tie.After-find-label) (m used : ℕ) → Rules (w .before .before .before .before .before .before .before .before .before .before .before .before .args .values .now) (w .before .before .before .before .before .before .before .before .before .before .before .before .args .rows .now) (w .before .before .before .before .before .before .before .before .before .before .before .before .args .rules .now) (w .before .before .before .before .before .before .before .before .before .before .before .before .args .labels .now) m used (w .before .before .before .before .before .before .before .before .before .before .before .before .args .count)
-    → FoundIs (w .before .before .before .before .before .before .before .before .before .before .before .before .args .values .now) (w .before .before .before .before .before .before .before .before .before .before .before .before .args .rows .now) (w .before .before .before .before .before .before .before .before .before .before .before .before .args .rules .now) (part (w .before .before .before .before .before .before .before .before .before .before .before .before .args .values .now) (w .before .before .before .before .number-at2 .result) (w .before .before .before .number-at3 .result)) (w .before .before .before .before .before .before .before .before .before .before .before .before .args .i + 1) (w .before .before .before .before .before .before .before .before .before .before .before .before .args .count) (w .find-label .result)
-found w m used x = w .find-label .ensures (w .before .before .before .before .before .before .before .before .before .before .before .before .args .rules .now) m used (w .before .before .before .before .before .before .before .before .before .before .before .before .args .i + 1) (w .before .before .before .before .before .before .before .before .before .before .before .before .args .count) x (w .before .before .before .before .before .before .before .before .before .before .before .before .pre .4)
+    → FoundIs (w .before .before .before .before .before .before .before .before .before .before .before .before .args .values .now)
+    (w .before .before .before .before .before .before .before .before .before .before .before .before .args .rows .now)
+    (w .before .before .before .before .before .before .before .before .before .before .before .before .args .rules .now)
+    (part (w .before .before .before .before .before .before .before .before .before .before .before .before .args .values .now)
+    (w .before .before .before .before .number-at2 .result) (w .before .before .before .number-at3 .result))
+    (w .before .before .before .before .before .before .before .before .before .before .before .before .args .i + 1)
+    (w .before .before .before .before .before .before .before .before .before .before .before .before .args .count) (w .find-label .result)
+found w m used x =
+    let entry = w .before .before .before .before .before .before .before .before .before .before .before .before in
+    let a = entry .args in
+    w .find-label .ensures (a .rules .now) m used (a .i + 1) (a .count) x (entry .pre .4)
 
 mul-number-at : tie.Need-mul-number-at
 mul-number-at c = search needs
@@ -44,7 +63,10 @@ number-at-requires : tie.Need-number-at-requires
 number-at-requires c κs = search needs
 
 returns : tie.Need-returns
-returns c = λ m used x. (none-is (c .before .before .before .before .before .before .before .args .values .now) (c .before .before .before .before .before .before .before .args .rows .now) (c .before .before .before .before .before .before .before .args .rules .now) (c .before .before .before .before .before .before .before .args .labels .now) m used (c .before .before .before .before .before .before .before .args .count) (c .before .before .before .before .before .before .before .args .i) x (c .before .before .before .before .before .before .before .pre .0) (sym (c .before .number-at .ensures .0) ∙ c .if1 .taken), omega arith)
+returns c =
+    let entry = c .before .before .before .before .before .before .before in
+    let a = entry .args in
+    λ m used x. (none-is (a .values .now) (a .rows .now) (a .rules .now) (a .labels .now) m used (a .count) (a .i) x (entry .pre .0) (sym (c .before .number-at .ensures .0) ∙ c .if1 .taken), omega arith)
 
 sub-at : tie.Need-sub-at
 sub-at c = search needs
@@ -77,14 +99,28 @@ hash-of-requires : tie.Need-hash-of-requires
 hash-of-requires c κs = search needs
 
 find-label-requires : tie.Need-find-label-requires
-find-label-requires c κs = let (m, (used, x)) = c .before .before .before .before .before .before .before .before .before .before .before .pre .3 in
-    (c .hash-of .ensures .0, (c .before .before .before .before .before .before .before .before .before .before .before .args .rules .now, (m, (used, (c .before .before .before .before .before .before .before .before .before .before .before .args .i + 1, (c .before .before .before .before .before .before .before .before .before .before .before .args .count, c .before .before .before .before .before .before .before .before .before .before .before .pre .1, x, c .before .before .before .before .before .before .before .before .before .before .before .pre .4))))))
+find-label-requires c κs =
+    let entry = c .before .before .before .before .before .before .before .before .before .before .before in
+    let a = entry .args in
+    let (m, (used, x)) = entry .pre .3 in
+    (c .hash-of .ensures .0, (a .rules .now, (m, (used, (a .i + 1, (a .count, entry .pre .1, x, entry .pre .4))))))
 
 returns-2 : tie.Need-returns-2
-returns-2 c = λ m used x. nowhere-is (c .before .before .before .before .before .before .before .before .before .before .before .before .before .args .values .now) (c .before .before .before .before .before .before .before .before .before .before .before .before .before .args .rows .now) (c .before .before .before .before .before .before .before .before .before .before .before .before .before .args .rules .now) (c .before .before .before .before .before .before .before .before .before .before .before .before .before .args .labels .now) m used (c .before .before .before .before .before .before .before .before .before .before .before .before .before .args .count) (c .before .before .before .before .before .before .before .before .before .before .before .before .before .args .i) x (c .before .before .before .before .before .before .before .before .before .before .before .before .before .pre .0) (there (c .before .before .before .before .before .before)) (c .before .before .before .before .before .number-at2 .result) (c .before .before .before .before .number-at3 .result) (start-is (c .before .before .before .before .before)) (end-is (c .before .before .before .before)) (found (c .before) m used x .none (c .if2 .taken))
+returns-2 c =
+    let entry = c .before .before .before .before .before .before .before .before .before .before .before .before .before in
+    let a = entry .args in
+    λ m used x. nowhere-is (a .values .now) (a .rows .now) (a .rules .now) (a .labels .now) m used (a .count) (a .i) x (entry .pre .0)
+    (there (c .before .before .before .before .before .before)) (c .before .before .before .before .before .number-at2 .result)
+    (c .before .before .before .before .number-at3 .result) (start-is (c .before .before .before .before .before)) (end-is (c .before .before .before .before)) (found (c .before) m used x .none (c .if2 .taken))
 
 returns-3 : tie.Need-returns-3
-returns-3 c = λ m used x. some-is (c .before .before .before .before .before .before .before .before .before .before .before .before .before .args .values .now) (c .before .before .before .before .before .before .before .before .before .before .before .before .before .args .rows .now) (c .before .before .before .before .before .before .before .before .before .before .before .before .before .args .rules .now) (c .before .before .before .before .before .before .before .before .before .before .before .before .before .args .labels .now) m used (c .before .before .before .before .before .before .before .before .before .before .before .before .before .args .count) (c .before .before .before .before .before .before .before .before .before .before .before .before .before .args .i) x (c .before .before .before .before .before .before .before .before .before .before .before .before .before .pre .0) (there (c .before .before .before .before .before .before)) (c .before .before .before .before .before .number-at2 .result) (c .before .before .before .before .number-at3 .result) (start-is (c .before .before .before .before .before)) (end-is (c .before .before .before .before)) (c .before .find-label .result) (c .if2 .left) (found (c .before) m used x .some (c .if2 .left))
+returns-3 c =
+    let entry = c .before .before .before .before .before .before .before .before .before .before .before .before .before in
+    let a = entry .args in
+    λ m used x. some-is (a .values .now) (a .rows .now) (a .rules .now) (a .labels .now) m used (a .count) (a .i) x (entry .pre .0)
+    (there (c .before .before .before .before .before .before)) (c .before .before .before .before .before .number-at2 .result)
+    (c .before .before .before .before .number-at3 .result) (start-is (c .before .before .before .before .before)) (end-is (c .before .before .before .before))
+    (c .before .find-label .result) (c .if2 .left) (found (c .before) m used x .some (c .if2 .left))
 
 pub jump-of-spec : {M : Type 1} → statement M
 jump-of-spec =

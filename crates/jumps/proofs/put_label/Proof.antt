@@ -19,10 +19,17 @@ there w = omega (arith, w .if1 .left, w .before .number-at .ensures .0)
 abbrev rowOf : (w : tie.Start) → ℕ
 rowOf w = getD (w .args .labels .now) (w .args .i) 0 - 1
 
-places : (w : tie.Else1) → (getD (w .before .before .before .before .before .before .args .rows .now) (rowOf (w .before .before .before .before .before .before) * 4 + 2) 0 ≤ getD (w .before .before .before .before .before .before .args .rows .now) (rowOf (w .before .before .before .before .before .before) * 4 + 3) 0) × (getD (w .before .before .before .before .before .before .args .rows .now) (rowOf (w .before .before .before .before .before .before) * 4 + 3) 0 ≤ length (w .before .before .before .before .before .before .args .values .now)) × (rowOf (w .before .before .before .before .before .before) * 4 + 4 ≤ length (w .before .before .before .before .before .before .args .rows .now))
+places : (w : tie.Else1) → (getD (w .before .before .before .before .before .before .args .rows .now)
+    (rowOf (w .before .before .before .before .before .before) * 4 + 2) 0 ≤ getD (w .before .before .before .before .before .before .args .rows .now)
+    (rowOf (w .before .before .before .before .before .before) * 4 + 3) 0) × (getD (w .before .before .before .before .before .before .args .rows .now)
+    (rowOf (w .before .before .before .before .before .before) * 4 + 3) 0 ≤ length (w .before .before .before .before .before .before .args .values .now)) × (rowOf
+    (w .before .before .before .before .before .before) * 4 + 4 ≤ length (w .before .before .before .before .before .before .args .rows .now))
 places w =
-    let (t, (m, (used, (n, x, ls)))) = w .before .before .before .before .before .before .pre .1 in
-    name-places (w .before .before .before .before .before .before .args .values .now) (w .before .before .before .before .before .before .args .rows .now) t (w .before .before .before .before .before .before .args .labels .now) m used n (w .before .before .before .before .before .before .args .i) x (omega (arith, ls .within)) (w .before .before .before .before .before .before .args .labels .now) (there w)
+    let entry = w .before .before .before .before .before .before in
+    let a = entry .args in
+    let (t, (m, (used, (n, x, ls)))) = entry .pre .1 in
+    name-places (a .values .now)
+    (a .rows .now) t (a .labels .now) m used n (a .i) x (omega (arith, ls .within)) (a .labels .now) (there w)
 
 start-is : (w : tie.After-number-at2) → w .number-at2 .result ≡ getD (w .before .before .before .before .before .before .before .args .rows .now) (rowOf (w .before .before .before .before .before .before .before) * 4 + 2) 0
 start-is w = rw (w .before .before .number-at .ensures .0) at (w .number-at2 .ensures .0)
@@ -30,14 +37,21 @@ start-is w = rw (w .before .before .number-at .ensures .0) at (w .number-at2 .en
 end-is : (w : tie.After-number-at3) → w .number-at3 .result ≡ getD (w .before .before .before .before .before .before .before .before .args .rows .now) (rowOf (w .before .before .before .before .before .before .before .before) * 4 + 3) 0
 end-is w = rw (w .before .before .before .number-at .ensures .0) at (w .number-at3 .ensures .0)
 
-hash-is : (w : tie.After-hash-of) → w .hash-of .result ≡ hashOf (nameAt (w .before .before .before .before .before .before .before .before .before .before .args .values .now) (w .before .before .before .before .before .before .before .before .before .before .args .rows .now) (w .before .before .before .before .before .before .before .before .before .before .args .labels .now) (w .before .before .before .before .before .before .before .before .before .before .args .i))
-hash-is w = w .hash-of .ensures .0 ∙ ap₂ (λ (s e : ℕ). hashOf (part (w .before .before .before .before .before .before .before .before .before .before .args .values .now) s e)) (start-is (w .before .before .before)) (end-is (w .before .before))
+hash-is : (w : tie.After-hash-of) → w .hash-of .result ≡ hashOf
+    (nameAt (w .before .before .before .before .before .before .before .before .before .before .args .values .now)
+    (w .before .before .before .before .before .before .before .before .before .before .args .rows .now)
+    (w .before .before .before .before .before .before .before .before .before .before .args .labels .now) (w .before .before .before .before .before .before .before .before .before .before .args .i))
+hash-is w =
+    let x = w .before .before .before .before .before .before .before .before .before .before .args in
+    w .hash-of .ensures .0 ∙ ap₂ (λ (s e : ℕ). hashOf (part (x .values .now) s e)) (start-is (w .before .before .before)) (end-is (w .before .before))
 
 number-at-requires : tie.Need-number-at-requires
 number-at-requires c κs = search needs
 
 returns : tie.Need-returns
-returns c = (λ n ls. put-nothing (c .before .before .before .before .before .before .args .values .now) (c .before .before .before .before .before .before .args .rows .now) (c .before .before .before .before .before .before .args .labels .now) (c .before .before .before .before .before .before .args .hashes .now) (c .before .before .before .before .before .before .args .heads .now) (c .before .before .before .before .before .before .args .later .now) (c .before .before .before .before .before .before .args .i) n ls (sym (c .before .number-at .ensures .0) ∙ c .if1 .taken), λ k h. refl)
+returns c =
+    let x = c .before .before .before .before .before .before .args in
+    (λ n ls. put-nothing (x .values .now) (x .rows .now) (x .labels .now) (x .hashes .now) (x .heads .now) (x .later .now) (x .i) n ls (sym (c .before .number-at .ensures .0) ∙ c .if1 .taken), λ k h. refl)
 
 sub-at : tie.Need-sub-at
 sub-at c = search needs
@@ -106,7 +120,14 @@ same-length : tie.Need-same-length
 same-length c = search needs
 
 returns-2 : tie.Need-returns-2
-returns-2 c = (λ n ls. rw (c .before .before .short .ensures, c .short2 .ensures) (put-front (c .before .before .before .before .before .before .before .before .before .before .before .before .before .args .values .now) (c .before .before .before .before .before .before .before .before .before .before .before .before .before .args .rows .now) (c .before .before .before .before .before .before .before .before .before .before .before .before .before .args .labels .now) (c .before .before .before .before .before .before .before .before .before .before .before .before .before .args .hashes .now) (c .before .before .before .before .before .before .before .before .before .before .before .before .before .args .heads .now) (c .before .before .before .before .before .before .before .before .before .before .before .before .before .args .later .now) (c .before .before .before .before .before .before .before .before .before .before .before .before .before .args .i) n ls (there (c .before .before .before .before .before .before .before)) (c .before .before .before .hash-of .result) (hash-is (c .before .before .before))), λ k h. getD-set-other (c .before .before .before .before .before .before .before .before .before .before .before .before .before .args .later .now) (c .before .before .before .before .before .before .before .before .before .before .before .before .before .args .i) k _ 0 (λ o. omega arith))
+returns-2 c =
+    let x = c .before .before .before .before .before .before .before .before .before .before .before .before .before .args in (
+      λ n ls. rw (c .before .before .short .ensures, c .short2 .ensures)
+          (put-front (x .values .now) (x .rows .now) (x .labels .now) (x .hashes .now) (x .heads .now) (x .later .now)
+          (x .i) n ls (there (c .before .before .before .before .before .before .before)) (c .before .before .before .hash-of .result)
+          (hash-is (c .before .before .before))),
+      λ k h. getD-set-other (x .later .now) (x .i) k _ 0 (λ o. omega arith),
+    )
 
 pub put-label-spec : {M : Type 1} → statement M
 put-label-spec =

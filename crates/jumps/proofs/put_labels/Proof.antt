@@ -21,16 +21,22 @@ sub-i : tie.Need-sub-i Inv-loop μ-loop
 sub-i c = omega (arith, c .loop-test .taken)
 
 put-label-requires : tie.Need-put-label-requires Inv-loop μ-loop
-put-label-requires c κs = let (t, (m, (used, x))) = c .before .before .before .before .before .before .before .before .before .pre .2 in
+put-label-requires c κs =
+    let entry = c .before .before .before .before .before .before .before .before .before in
+    let a = entry .args in
+    let (t, (m, (used, x))) = entry .pre .2 in
     let q : c .before .before .before .before .loop .i - 1 + 1 ≡ c .before .before .before .before .loop .i = omega (arith, c .before .before .before .loop-test .taken) in
-    (omega (arith, c .before .before .before .loop-test .taken, c .before .before .before .before .loop .inv .1, c .before .before .before .before .before .before .before .before .before .pre .1), (t, (m, (used, (c .before .before .before .before .before .before .before .before .before .args .count, x, rw q (c .before .before .before .before .loop .inv .3))))))
+    (omega (arith, c .before .before .before .loop-test .taken, c .before .before .before .before .loop .inv .1, entry .pre .1), (t, (m, (used, (a .count, x, rw q (c .before .before .before .before .loop .inv .3))))))
 
 loop-less : tie.Need-loop-less Inv-loop μ-loop
 loop-less c = omega (arith, c .before .before .before .before .before .before .loop-test .taken)
 
 loop-again : tie.Need-loop-again Inv-loop μ-loop
-loop-again c = let q : c .before .before .before .before .before .before .before .loop .i - 1 + 1 ≡ c .before .before .before .before .before .before .before .loop .i = omega (arith, c .before .before .before .before .before .before .loop-test .taken) in
-    (omega (arith, c .before .before .before .before .before .before .loop-test .taken), omega (arith, c .before .before .before .before .before .before .loop-test .taken, c .before .before .before .before .before .before .before .loop .inv .1), c .before .before .put-label .kept .1 .1 .1 .1 .1 .1 .0 ∙ c .before .before .before .before .before .before .before .loop .inv .2, c .before .before .put-label .ensures .0 (c .before .before .before .before .before .before .before .before .before .before .before .before .args .count) (rw q (c .before .before .before .before .before .before .before .loop .inv .3)), λ k h. c .before .before .put-label .ensures .1 k h ∙ c .before .before .before .before .before .before .before .loop .inv .4 k (omega arith))
+loop-again c =
+    let a = c .before .before .before .before .before .before .before .before .before .before .before .before .args in
+    let x = a in
+    let q : c .before .before .before .before .before .before .before .loop .i - 1 + 1 ≡ c .before .before .before .before .before .before .before .loop .i = omega (arith, c .before .before .before .before .before .before .loop-test .taken) in
+    (omega (arith, c .before .before .before .before .before .before .loop-test .taken), omega (arith, c .before .before .before .before .before .before .loop-test .taken, c .before .before .before .before .before .before .before .loop .inv .1), c .before .before .put-label .kept .1 .1 .1 .1 .1 .1 .0 ∙ c .before .before .before .before .before .before .before .loop .inv .2, c .before .before .put-label .ensures .0 (x .count) (rw q (c .before .before .before .before .before .before .before .loop .inv .3)), λ k h. c .before .before .put-label .ensures .1 k h ∙ c .before .before .before .before .before .before .before .loop .inv .4 k (omega arith))
 
 same-length : tie.Need-same-length Inv-loop μ-loop
 same-length c = c .before .loop .inv .2

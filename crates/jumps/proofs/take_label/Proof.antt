@@ -11,7 +11,9 @@ number-at-requires : tie.Need-number-at-requires
 number-at-requires c κs = search needs
 
 returns : tie.Need-returns
-returns c = λ v r n h ls. take-nothing v r (c .before .before .before .before .args .labels .now) (c .before .before .before .before .args .hashes .now) (c .before .before .before .before .args .heads .now) (c .before .before .before .before .args .later .now) (c .before .before .before .before .args .i) n ls h (sym (c .before .number-at .ensures .0) ∙ c .if1 .taken)
+returns c =
+    let x = c .before .before .before .before .args in
+    λ v r n h ls. take-nothing v r (x .labels .now) (x .hashes .now) (x .heads .now) (x .later .now) (x .i) n ls h (sym (c .before .number-at .ensures .0) ∙ c .if1 .taken)
 
 mul-long : tie.Need-mul-long
 mul-long c = search needs
@@ -35,7 +37,9 @@ element-write-heads : tie.Need-element-write-heads
 element-write-heads c = search needs
 
 returns-2 : tie.Need-returns-2
-returns-2 c = λ v r n h ls. rw (c .before .long .ensures .0) (take-front v r (c .before .before .before .before .before .before .before .args .labels .now) (c .before .before .before .before .before .before .before .args .hashes .now) (c .before .before .before .before .before .before .before .args .heads .now) (c .before .before .before .before .before .before .before .args .later .now) (c .before .before .before .before .before .before .before .args .i) n ls h (omega (arith, c .before .before .before .if1 .left, c .before .before .before .before .number-at .ensures .0)))
+returns-2 c =
+    let x = c .before .before .before .before .before .before .before .args in
+    λ v r n h ls. rw (c .before .long .ensures .0) (take-front v r (x .labels .now) (x .hashes .now) (x .heads .now) (x .later .now) (x .i) n ls h (omega (arith, c .before .before .before .if1 .left, c .before .before .before .before .number-at .ensures .0)))
 
 pub take-label-spec : {M : Type 1} → statement M
 take-label-spec =

@@ -31,7 +31,16 @@ same-length c = search needs
 
 returns : tie.Need-returns
 unfolding bytes
-returns c = (c .before .before .put-texts2 .ensures .0, λ n s h. (behind-both (textLines (bytes "link") (s .links)) (propertyLines (bytes "env") (s .properties) ++ (textLines (bytes "tag") (s .tags))) (c .before .before .before .before .before .before .before .before .before .before .before .before .before .before .before .before .before .args .out .now) (c .before .before .before .before .before .before .before .before .before .before .before .before .put-texts .last .0) (c .before .before .put-texts2 .last .0) (c .before .before .before .before .before .before .before .before .before .before .before .before .before .before .before .before .before .args .front) (c .before .before .before .before .before .before .before .before .before .before .before .before .put-texts .result) (c .before .before .put-texts2 .result) (c .before .before .before .before .before .before .before .before .before .before .before .before .put-texts .ensures .1 n s h) (behind-both (propertyLines (bytes "env") (s .properties)) (textLines (bytes "tag") (s .tags)) (c .before .before .before .before .before .before .before .before .before .before .before .before .put-texts .last .0) (c .before .before .before .before .before .before .before .put-properties .last .0) (c .before .before .put-texts2 .last .0) (c .before .before .before .before .before .before .before .before .before .before .before .before .put-texts .result) (c .before .before .before .before .before .before .before .put-properties .result) (c .before .before .put-texts2 .result) (c .before .before .before .before .before .before .before .put-properties .ensures .1 n s h) (c .before .before .put-texts2 .ensures .1 n s h))))
+returns c =
+    let a = c .before .before .before .before .before .before .before .before .before .before .before .before .before .before .before .before .before .args in
+    let x = a in (
+      c .before .before .put-texts2 .ensures .0,
+      λ n s h. (behind-both (textLines (bytes "link") (s .links))
+          (propertyLines (bytes "env") (s .properties) ++ (textLines (bytes "tag") (s .tags))) (x .out .now)
+          (c .before .before .before .before .before .before .before .before .before .before .before .before .put-texts .last .0) (c .before .before .put-texts2 .last .0)
+          (x .front) (c .before .before .before .before .before .before .before .before .before .before .before .before .put-texts .result)
+          (c .before .before .put-texts2 .result) (c .before .before .before .before .before .before .before .before .before .before .before .before .put-texts .ensures .1 n s h) (behind-both (propertyLines (bytes "env") (s .properties)) (textLines (bytes "tag") (s .tags)) (c .before .before .before .before .before .before .before .before .before .before .before .before .put-texts .last .0) (c .before .before .before .before .before .before .before .put-properties .last .0) (c .before .before .put-texts2 .last .0) (c .before .before .before .before .before .before .before .before .before .before .before .before .put-texts .result) (c .before .before .before .before .before .before .before .put-properties .result) (c .before .before .put-texts2 .result) (c .before .before .before .before .before .before .before .put-properties .ensures .1 n s h) (c .before .before .put-texts2 .ensures .1 n s h))),
+    )
 
 pub put-lists-spec : {M : Type 1} → statement M
 put-lists-spec =

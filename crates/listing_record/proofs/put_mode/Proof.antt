@@ -13,7 +13,10 @@ field-requires : tie.Need-field-requires
 field-requires c κs = search needs
 
 returns : tie.Need-returns
-returns c = (c .before .before .before .before .pre .0, λ n s h. behind-is [] (modeLine (s .mode)) (c .before .before .before .before .args .out .now) (c .before .before .before .before .args .out .now) (c .before .before .before .before .args .front) (c .before .before .before .before .args .front) (mode-unset (s .mode) (c .before .field .result) (c .before .field .ensures .0 ∙ mode-flag n (c .before .before .before .before .args .t .now) (c .before .before .before .before .args .layout) s h) (c .if1 .taken)) (behind-none (c .before .before .before .before .args .out .now) (c .before .before .before .before .args .front)))
+returns c =
+    let entry = c .before .before .before .before in
+    let x = entry .args in
+    (entry .pre .0, λ n s h. behind-is [] (modeLine (s .mode)) (x .out .now) (x .out .now) (x .front) (x .front) (mode-unset (s .mode) (c .before .field .result) (c .before .field .ensures .0 ∙ mode-flag n (x .t .now) (x .layout) s h) (c .if1 .taken)) (behind-none (x .out .now) (x .front)))
 
 field-requires-2 : tie.Need-field-requires-2
 field-requires-2 c κs = search needs
@@ -31,7 +34,15 @@ same-length : tie.Need-same-length
 same-length c = search needs
 
 returns-2 : tie.Need-returns-2
-returns-2 c = (c .before .before .put-mode-line .ensures .0, λ n s h. behind-is _ (modeLine (s .mode)) (c .before .before .before .before .before .before .before .before .before .before .args .out .now) (c .before .before .put-mode-line .last .0) (c .before .before .before .before .before .before .before .before .before .before .args .front) (c .before .before .put-mode-line .result) (mode-set (s .mode) (c .before .before .before .before .before .before .before .field .result) (c .before .before .before .before .before .field2 .result) (c .before .before .before .before .before .before .before .field .ensures .0 ∙ mode-flag n (c .before .before .before .before .before .before .before .before .before .before .args .t .now) (c .before .before .before .before .before .before .before .before .before .before .args .layout) s h) (c .before .before .before .before .before .before .if1 .left) (c .before .before .before .before .before .field2 .ensures .0 ∙ mode-bits n (c .before .before .before .before .before .before .before .before .before .before .args .t .now) (c .before .before .before .before .before .before .before .before .before .before .args .layout) s h)) (c .before .before .put-mode-line .ensures .1))
+returns-2 c =
+    let x = c .before .before .before .before .before .before .before .before .before .before .args in (
+      c .before .before .put-mode-line .ensures .0,
+      λ n s h. behind-is _ (modeLine (s .mode)) (x .out .now) (c .before .before .put-mode-line .last .0) (x .front)
+          (c .before .before .put-mode-line .result) (mode-set (s .mode) (c .before .before .before .before .before .before .before .field .result)
+          (c .before .before .before .before .before .field2 .result) (c .before .before .before .before .before .before .before .field .ensures .0 ∙ mode-flag n (x .t .now)
+          (x .layout) s h) (c .before .before .before .before .before .before .if1 .left)
+          (c .before .before .before .before .before .field2 .ensures .0 ∙ mode-bits n (x .t .now) (x .layout) s h)) (c .before .before .put-mode-line .ensures .1),
+    )
 
 pub put-mode-spec : {M : Type 1} → statement M
 put-mode-spec =

@@ -21,7 +21,17 @@ same-length : tie.Need-same-length
 same-length c = search needs
 
 returns : tie.Need-returns
-returns c = (c .before .before .put-entries .ensures .0, λ n s h. let w = c .before .before .before .before .row-of .ensures n s h in behind-is (entryLines kind.Property (c .before .before .before .before .before .before .before .before .args .word .now) (c .before .before .before .before .row-of .result .count) (drop (c .before .before .before .before .row-of .result .at) (c .before .before .before .before .before .before .before .before .args .t .now))) (propertyLines (c .before .before .before .before .before .before .before .before .args .word .now) (s .properties)) (c .before .before .before .before .before .before .before .before .args .out .now) (c .before .before .put-entries .last .0) (c .before .before .before .before .before .before .before .before .args .front) (c .before .before .put-entries .result) (property-lines (c .before .before .before .before .before .before .before .before .args .word .now) (c .before .before .before .before .row-of .result .count) (drop (c .before .before .before .before .row-of .result .at) (c .before .before .before .before .before .before .before .before .args .t .now)) (s .properties) (w .read .0) (w .read .1)) (c .before .before .put-entries .ensures .1))
+returns c =
+    let a = c .before .before .before .before .before .before .before .before .args in
+    let x = a in (
+      c .before .before .put-entries .ensures .0,
+      λ n s h. let w = c .before .before .before .before .row-of .ensures n s h in behind-is
+          (entryLines kind.Property (x .word .now) (c .before .before .before .before .row-of .result .count)
+          (drop (c .before .before .before .before .row-of .result .at) (x .t .now))) (propertyLines (x .word .now) (s .properties)) (x .out .now)
+          (c .before .before .put-entries .last .0) (x .front) (c .before .before .put-entries .result)
+          (property-lines (x .word .now) (c .before .before .before .before .row-of .result .count) (drop (c .before .before .before .before .row-of .result .at) (x .t .now))
+          (s .properties) (w .read .0) (w .read .1)) (c .before .before .put-entries .ensures .1),
+    )
 
 pub put-properties-spec : {M : Type 1} → statement M
 put-properties-spec = tie.close (tie.spec row-of-requires put-entries-requires same-length returns)

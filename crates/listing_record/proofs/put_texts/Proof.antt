@@ -21,13 +21,26 @@ row-of-requires : tie.Need-row-of-requires
 row-of-requires c κs = search needs
 
 put-entries-requires : tie.Need-put-entries-requires
-put-entries-requires c κs = let (f, (n, s, h)) = c .before .before .before .before .before .before .pre in let w = text-row (c .before .before .before .before .before .before .args .list) (c .before .before .section-of .result) (c .before .before .section-of .ensures) n (c .before .before .before .before .before .before .args .t .now) s (c .before .row-of .result) (c .before .row-of .ensures n s h) in (f, w .within, w .row)
+put-entries-requires c κs =
+    let entry = c .before .before .before .before .before .before in
+    let x = entry .args in
+    let (f, (n, s, h)) = entry .pre in let w = text-row (x .list) (c .before .before .section-of .result) (c .before .before .section-of .ensures) n (x .t .now) s (c .before .row-of .result) (c .before .row-of .ensures n s h) in (f, w .within, w .row)
 
 same-length : tie.Need-same-length
 same-length c = search needs
 
 returns : tie.Need-returns
-returns c = (c .before .before .put-entries .ensures .0, λ n s h. let w = text-row (c .before .before .before .before .before .before .before .before .before .args .list) (c .before .before .before .before .before .section-of .result) (c .before .before .before .before .before .section-of .ensures) n (c .before .before .before .before .before .before .before .before .before .args .t .now) s (c .before .before .before .before .row-of .result) (c .before .before .before .before .row-of .ensures n s h) in behind-is (entryLines kind.Text (c .before .before .before .before .before .before .before .before .before .args .word .now) (c .before .before .before .before .row-of .result .count) (drop (c .before .before .before .before .row-of .result .at) (c .before .before .before .before .before .before .before .before .before .args .t .now))) (textLines (c .before .before .before .before .before .before .before .before .before .args .word .now) (textsIn (c .before .before .before .before .before .before .before .before .before .args .list) s)) (c .before .before .before .before .before .before .before .before .before .args .out .now) (c .before .before .put-entries .last .0) (c .before .before .before .before .before .before .before .before .before .args .front) (c .before .before .put-entries .result) (text-lines (c .before .before .before .before .before .before .before .before .before .args .word .now) (c .before .before .before .before .row-of .result .count) (drop (c .before .before .before .before .row-of .result .at) (c .before .before .before .before .before .before .before .before .before .args .t .now)) ∙ ap (textLines (c .before .before .before .before .before .before .before .before .before .args .word .now)) (w .named)) (c .before .before .put-entries .ensures .1))
+returns c =
+    let x = c .before .before .before .before .before .before .before .before .before .args in (
+      c .before .before .put-entries .ensures .0,
+      λ n s h. let w = text-row (x .list) (c .before .before .before .before .before .section-of .result)
+          (c .before .before .before .before .before .section-of .ensures) n (x .t .now) s (c .before .before .before .before .row-of .result)
+          (c .before .before .before .before .row-of .ensures n s h) in behind-is (entryLines kind.Text (x .word .now)
+          (c .before .before .before .before .row-of .result .count) (drop (c .before .before .before .before .row-of .result .at) (x .t .now)))
+          (textLines (x .word .now) (textsIn (x .list) s)) (x .out .now) (c .before .before .put-entries .last .0) (x .front) (c .before .before .put-entries .result)
+          (text-lines (x .word .now) (c .before .before .before .before .row-of .result .count)
+          (drop (c .before .before .before .before .row-of .result .at) (x .t .now)) ∙ ap (textLines (x .word .now)) (w .named)) (c .before .before .put-entries .ensures .1),
+    )
 
 pub put-texts-spec : {M : Type 1} → statement M
 put-texts-spec =

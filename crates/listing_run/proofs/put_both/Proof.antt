@@ -26,7 +26,19 @@ same-length : tie.Need-same-length
 same-length c = search needs
 
 returns : tie.Need-returns
-returns c = λ n s h cs m. let e = list-lines cs (m .few) (m .short) (m .rest) in let lines : entryLines (numberAt (c .before .before .before .before .before .before .before .before .before .before .before .args .list .now) 0 5) (drop 1 (c .before .before .before .before .before .before .before .before .before .before .before .args .list .now)) ≡ cat commandLine cs = rw (m .bytes) e in appended-is (recordLines (c .before .before .before .before .before .before .before .before .before .before .before .args .visited) (c .before .before .before .before .before .before .before .before .before .before .before .args .tried) s ++ cat commandLine cs) (listingOf (c .before .before .before .before .before .before .before .before .before .before .before .args .visited) (c .before .before .before .before .before .before .before .before .before .before .before .args .tried) s cs) (c .before .before .before .before .before .before .before .before .before .before .before .args .out .now) (c .before .before .put-commands .last .0) (c .before .before .put-commands .result) (listing-parts (c .before .before .before .before .before .before .before .before .before .before .before .args .visited) (c .before .before .before .before .before .before .before .before .before .before .before .args .tried) s cs) (from-start (recordLines (c .before .before .before .before .before .before .before .before .before .before .before .args .visited) (c .before .before .before .before .before .before .before .before .before .before .before .args .tried) s ++ cat commandLine cs) (c .before .before .before .before .before .before .before .before .before .before .before .args .out .now) (c .before .before .put-commands .last .0) (c .before .before .put-commands .result) (behind-both (recordLines (c .before .before .before .before .before .before .before .before .before .before .before .args .visited) (c .before .before .before .before .before .before .before .before .before .before .before .args .tried) s) (cat commandLine cs) (c .before .before .before .before .before .before .before .before .before .before .before .args .out .now) (c .before .before .before .before .before .before .put-record .last .0) (c .before .before .put-commands .last .0) (Done 0) (c .before .before .before .before .before .before .put-record .result) (c .before .before .put-commands .result) (c .before .before .before .before .before .before .put-record .ensures .1 n s h) (behind-is (entryLines (numberAt (c .before .before .before .before .before .before .before .before .before .before .before .args .list .now) 0 5) (drop 1 (c .before .before .before .before .before .before .before .before .before .before .before .args .list .now))) (cat commandLine cs) (c .before .before .before .before .before .before .put-record .last .0) (c .before .before .put-commands .last .0) (c .before .before .before .before .before .before .put-record .result) (c .before .before .put-commands .result) lines (c .before .before .put-commands .ensures .1))))
+returns c =
+    let x = c .before .before .before .before .before .before .before .before .before .before .before .args in
+    λ n s h cs m. let e = list-lines cs (m .few) (m .short) (m .rest) in let lines : entryLines (numberAt (x .list .now) 0 5)
+    (drop 1 (x .list .now)) ≡ cat commandLine cs = rw (m .bytes) e in appended-is (recordLines (x .visited) (x .tried) s ++ cat commandLine cs)
+    (listingOf (x .visited) (x .tried) s cs) (x .out .now) (c .before .before .put-commands .last .0) (c .before .before .put-commands .result)
+    (listing-parts (x .visited) (x .tried) s cs) (from-start (recordLines (x .visited) (x .tried) s ++ cat commandLine cs) (x .out .now)
+    (c .before .before .put-commands .last .0) (c .before .before .put-commands .result)
+    (behind-both (recordLines (x .visited) (x .tried) s) (cat commandLine cs) (x .out .now) (c .before .before .before .before .before .before .put-record .last .0)
+    (c .before .before .put-commands .last .0) (Done 0) (c .before .before .before .before .before .before .put-record .result)
+    (c .before .before .put-commands .result) (c .before .before .before .before .before .before .put-record .ensures .1 n s h)
+    (behind-is (entryLines (numberAt (x .list .now) 0 5) (drop 1 (x .list .now))) (cat commandLine cs)
+    (c .before .before .before .before .before .before .put-record .last .0) (c .before .before .put-commands .last .0)
+    (c .before .before .before .before .before .before .put-record .result) (c .before .before .put-commands .result) lines (c .before .before .put-commands .ensures .1))))
 
 pub put-both-spec : {M : Type 1} → statement M
 put-both-spec = tie.close (tie.spec put-record-requires put-commands-requires same-length returns)

@@ -25,7 +25,9 @@ action-holds-requires c κs = search needs
 
 returns : tie.Need-returns
 unfolding actionOf
-returns c = λ d e. c .action-holds .ensures ∙ ap (λ (i : ℕ). judged (operatorOf (c .before .before .before .before .args .operator)) (matches (c .before .before .before .before .args .pattern .now) (orEmpty (nth i actionNames)))) (c .before .take .ensures .value ∙ action-is (c .before .before .before .before .args .dev .now) d (λ i. c .before .before .shared-slice-known2 .given i .fits) e)
+returns c =
+    let x = c .before .before .before .before .args in
+    λ d e. c .action-holds .ensures ∙ ap (λ (i : ℕ). judged (operatorOf (x .operator)) (matches (x .pattern .now) (orEmpty (nth i actionNames)))) (c .before .take .ensures .value ∙ action-is (x .dev .now) d (λ i. c .before .before .shared-slice-known2 .given i .fits) e)
 
 pub action-holds-spec : {M : Type 1} → statement M
 action-holds-spec = tie.close (tie.spec take-requires action-holds-requires returns)

@@ -93,7 +93,13 @@ returns-7 c = rw (c .before .before .match .keys7) (c .value-holds7 .ensures)
 
 returns-8 : tie.Need-returns-8
 unfolding bytes actionNames
-returns-8 c = let n = c .before .before .before .before .args .action in let e : n ≡ 7 = last-action n (c .before .before .before .before .pre .0) (past-three n (c .before .before .match .rest .0 .0 .0 .0 .0 .0 .1) (c .before .before .match .rest .0 .0 .0 .0 .0 .1) (c .before .before .match .rest .0 .0 .0 .0 .1)) (c .before .before .match .rest .0 .0 .0 .1) (c .before .before .match .rest .0 .0 .1) (c .before .before .match .rest .0 .1) (c .before .before .match .rest .1) in rw e (c .value-holds8 .ensures)
+returns-8 c =
+    let entry = c .before .before .before .before in
+    let x = entry .args in
+    let n = x .action in let e : n ≡ 7 = last-action n (entry .pre .0)
+    (past-three n (c .before .before .match .rest .0 .0 .0 .0 .0 .0 .1) (c .before .before .match .rest .0 .0 .0 .0 .0 .1)
+    (c .before .before .match .rest .0 .0 .0 .0 .1)) (c .before .before .match .rest .0 .0 .0 .1) (c .before .before .match .rest .0 .0 .1)
+    (c .before .before .match .rest .0 .1) (c .before .before .match .rest .1) in rw e (c .value-holds8 .ensures)
 
 pub action-holds-spec : {M : Type 1} → statement M
 action-holds-spec =

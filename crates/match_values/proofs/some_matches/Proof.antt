@@ -39,7 +39,11 @@ text-matches-requires : tie.Need-text-matches-requires Inv-loop μ-loop
 text-matches-requires c κs = c .before .before .before .before .before .before .pre .2
 
 returns : tie.Need-returns Inv-loop μ-loop
-returns c = sym (c .before .before .before .before .before .loop .inv .2 ∙ some-here Text (c .before .before .before .before .before .before .before .before .args .pattern .now) (c .before .before .before .before .before .before .before .before .args .rec .now) (c .before .before .before .before .before .loop .p) (c .before .before .before .before .before .loop .left) (c .before .before .before .parts-at .result) (c .before .before .before .parts-at .ensures) (c .before .before .before .before .loop-test .taken) (sym (c .before .text-matches .ensures) ∙ c .if1 .taken))
+returns c =
+    let x = c .before .before .before .before .before .before .before .before .args in
+    sym (c .before .before .before .before .before .loop .inv .2 ∙ some-here Text (x .pattern .now) (x .rec .now) (c .before .before .before .before .before .loop .p)
+    (c .before .before .before .before .before .loop .left) (c .before .before .before .parts-at .result) (c .before .before .before .parts-at .ensures)
+    (c .before .before .before .before .loop-test .taken) (sym (c .before .text-matches .ensures) ∙ c .if1 .taken))
 
 sub-left : tie.Need-sub-left Inv-loop μ-loop
 sub-left c = omega arith
@@ -48,7 +52,17 @@ loop-less : tie.Need-loop-less Inv-loop μ-loop
 loop-less c = omega arith
 
 loop-again : tie.Need-loop-again Inv-loop μ-loop
-loop-again c = (c .before .before .before .parts-at .ensures .within, row-turn Text (c .before .before .before .before .before .before .before .before .args .rec .now) (c .before .before .before .before .before .loop .p) (c .before .before .before .before .before .loop .left) (c .before .before .before .parts-at .result) (c .before .before .before .parts-at .ensures) (c .before .before .before .before .loop-test .taken) (c .before .before .before .before .before .loop .inv .1), c .before .before .before .before .before .loop .inv .2 ∙ some-next Text (c .before .before .before .before .before .before .before .before .args .pattern .now) (c .before .before .before .before .before .before .before .before .args .rec .now) (c .before .before .before .before .before .loop .p) (c .before .before .before .before .before .loop .left) (c .before .before .before .parts-at .result) (c .before .before .before .parts-at .ensures) (c .before .before .before .before .loop-test .taken) (sym (c .before .text-matches .ensures) ∙ c .if1 .left))
+loop-again c =
+    let a = c .before .before .before .before .before .before .before .before .args in
+    let x = a in (
+      c .before .before .before .parts-at .ensures .within,
+      row-turn Text (x .rec .now) (c .before .before .before .before .before .loop .p)
+          (c .before .before .before .before .before .loop .left) (c .before .before .before .parts-at .result) (c .before .before .before .parts-at .ensures)
+          (c .before .before .before .before .loop-test .taken) (c .before .before .before .before .before .loop .inv .1),
+      c .before .before .before .before .before .loop .inv .2 ∙ some-next Text (x .pattern .now) (x .rec .now) (c .before .before .before .before .before .loop .p)
+          (c .before .before .before .before .before .loop .left) (c .before .before .before .parts-at .result) (c .before .before .before .parts-at .ensures)
+          (c .before .before .before .before .loop-test .taken) (sym (c .before .text-matches .ensures) ∙ c .if1 .left),
+    )
 
 returns-2 : tie.Need-returns-2 Inv-loop μ-loop
 returns-2 c = sym (c .before .loop .inv .2 ∙ ap-at (λ i. someMatches (c .before .before .before .before .args .pattern .now) (names Text i (drop (c .before .loop .p) (c .before .before .before .before .args .rec .now)))) (c .before .loop .left) 0 (omega arith))

@@ -121,7 +121,9 @@ loop-again c =
       omega arith,
       λ m f.
           c .before .before .before .before .before .before .loop .inv .1 m f
-          ∙ all-next (a .values .now) (a .rows .now) (c .before .before .before .before .before .before .loop .i) (a .to) (c .before .before .before .before .pair-at .result) (c .before .before .before .before .pair-at .ensures) (c .before .before .before .before .before .if2 .left) (parentTest m) (judged (c .before) (s .pre .2) m f ∙ not-false _ (c .if3 .left)),
+          ∙ all-next (a .values .now) (a .rows .now) (c .before .before .before .before .before .before .loop .i) (a .to)
+          (c .before .before .before .before .pair-at .result) (c .before .before .before .before .pair-at .ensures)
+          (c .before .before .before .before .before .if2 .left) (parentTest m) (judged (c .before) (s .pre .2) m f ∙ not-false _ (c .if3 .left)),
     )
 
 add-k : tie.Need-add-k Inv-loop μ-loop Inv-search μ-search
@@ -132,17 +134,20 @@ search-less c = omega arith
 
 search-again : tie.Need-search-again Inv-loop μ-loop Inv-search μ-search
 unfolding parentsHold
-search-again c = (
-  omega arith,
-  λ x.
-      let a = c .before .before .before .before .before .before .before .before .before .before .before .before .before .before .args in
-      let q = c .before .before .before .before .before .before .before .before .search in
-      let n = device (c .before .before .before .before .before .before .before) x in
-      let f = judged (c .before) x (n .member) (n .lies) ∙ not-true _ (c .if3 .taken) in
-      q .inv .1 x
-      ∙ near-later (chain (x .device)) (q .k) (pairsFrom (a .values .now) (a .rows .now) (a .from) (a .to - a .from)) (n .member) (n .nth)
-      (c .before .before .before .before .before .before .loop .inv .1 (n .member) (n .lies) ∙ all-fails (a .values .now) (a .rows .now) (c .before .before .before .before .before .before .loop .i) (a .to) (c .before .before .before .before .pair-at .result) (c .before .before .before .before .pair-at .ensures) (c .before .before .before .before .before .if2 .left) (parentTest (n .member)) f),
-)
+search-again c =
+    let given = c .before .before .before .before .before .before .before .before .before .before .before .before .before .before .args in (
+      omega arith,
+      λ x.
+          let a = given in
+          let q = c .before .before .before .before .before .before .before .before .search in
+          let n = device (c .before .before .before .before .before .before .before) x in
+          let f = judged (c .before) x (n .member) (n .lies) ∙ not-true _ (c .if3 .taken) in
+          q .inv .1 x
+          ∙ near-later (chain (x .device)) (q .k) (pairsFrom (a .values .now) (a .rows .now) (a .from) (a .to - a .from)) (n .member) (n .nth)
+          (c .before .before .before .before .before .before .loop .inv .1 (n .member) (n .lies) ∙ all-fails (a .values .now) (a .rows .now)
+          (c .before .before .before .before .before .before .loop .i) (a .to) (c .before .before .before .before .pair-at .result)
+          (c .before .before .before .before .pair-at .ensures) (c .before .before .before .before .before .if2 .left) (parentTest (n .member)) f),
+    )
 
 returns : tie.Need-returns Inv-loop μ-loop Inv-search μ-search
 returns c =

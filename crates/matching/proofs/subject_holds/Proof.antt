@@ -61,7 +61,9 @@ returns-3 : tie.Need-returns-3
 returns-3 c = λ x. rw (c .enum-told2 .given .1)
 
 returns-4 : tie.Need-returns-4
-returns-4 c = λ x. rw (c .before .before .enum-told3 .given .1) (c .value-holds .ensures ∙ ap (λ (v : List ℕ). judged (operatorOf (c .before .before .before .before .before .before .before .before .args .operator)) (matches (c .before .before .before .before .before .before .before .before .args .pattern .now) v)) (c .before .property .ensures (x .n) (x .state) (x .held)))
+returns-4 c =
+    let a = c .before .before .before .before .before .before .before .before .args in
+    λ x. rw (c .before .before .enum-told3 .given .1) (c .value-holds .ensures ∙ ap (λ (v : List ℕ). judged (operatorOf (a .operator)) (matches (a .pattern .now) v)) (c .before .property .ensures (x .n) (x .state) (x .held)))
 
 returns-5 : tie.Need-returns-5
 returns-5 c = λ x. rw (c .before .before .subject2 .given .1) (c .list-holds .ensures (x .n) (x .state) (x .held))

@@ -11,7 +11,9 @@ use Rattle.outcome_check.proofs.check.Statement.{statement}
 use Rattle.outcome_check.proofs.check.Tie as tie
 
 -- what was read
-read : (w : tie.After-known-told) → PartsAre (w .before .before .before .before .before .before .before .before .before .before .args .chain) (w .before .before .before .before .before .before .before .before .before .before .args .rec .now) (w .before .before .before .before .before .before .counts-in .result) (Read (w .before .layout .given .0 .0))
+read : (w : tie.After-known-told) → PartsAre (w .before .before .before .before .before .before .before .before .before .before .args .chain)
+    (w .before .before .before .before .before .before .before .before .before .before .args .rec .now)
+    (w .before .before .before .before .before .before .counts-in .result) (Read (w .before .layout .given .0 .0))
 read w = rw (w .before .layout .given .1) at (w .before .before .before .check-parts .ensures)
 
 returns : tie.Need-returns
@@ -49,24 +51,32 @@ enum-told c = search needs
 
 returns-3 : tie.Need-returns-3
 returns-3 c =
-    let a = c .before .before .before .before .before .before .before .before .before .args in
+    let x = c .before .before .before .before .before .before .before .before .before .args in
+    let a = x in
     let counts-in = c .before .before .before .before .before .counts-in in
-    sym (ap checkedOf (from-header (a .chain) (a .rec .now) (c .before .before .before .before .before .before .before .if1 .left) (counts-in .result) (counts-in .ensures) (sym (c .before .before .before .before .ok-counts .ensures) ∙ not-false _ (c .before .before .before .if2 .left)) ∙ (rw (c .enum-told .given .1) at (c .before .before .check-parts .ensures))))
+    sym (ap checkedOf (from-header (a .chain) (a .rec .now) (c .before .before .before .before .before .before .before .if1 .left) (counts-in .result)
+    (counts-in .ensures) (sym (c .before .before .before .before .ok-counts .ensures) ∙ not-false _ (c .before .before .before .if2 .left)) ∙ (rw (c .enum-told .given .1) at (c .before .before .check-parts .ensures))))
 
 entries-apart-requires : tie.Need-entries-apart-requires
 entries-apart-requires c κs = read c .3
 
 returns-4 : tie.Need-returns-4
 returns-4 c =
-    let a = c .before .before .before .before .before .before .before .before .before .before .before .before .args in
+    let x = c .before .before .before .before .before .before .before .before .before .before .before .before .args in
+    let a = x in
     let counts-in = c .before .before .before .before .before .before .before .before .counts-in in
-    let r = read (c .before .before) in sym (ap checkedOf (from-header (a .chain) (a .rec .now) (c .before .before .before .before .before .before .before .before .before .before .if1 .left) (counts-in .result) (counts-in .ensures) (sym (c .before .before .before .before .before .before .before .ok-counts .ensures) ∙ not-false _ (c .before .before .before .before .before .before .if2 .left)) ∙ ended-twice _ (r .0) (r .1) (sym (r .4) ∙ sym (c .before .entries-apart .ensures) ∙ not-true _ (c .if3 .taken))))
+    let r = read (c .before .before) in sym (ap checkedOf (from-header (a .chain) (a .rec .now)
+    (c .before .before .before .before .before .before .before .before .before .before .if1 .left) (counts-in .result) (counts-in .ensures)
+    (sym (c .before .before .before .before .before .before .before .ok-counts .ensures) ∙ not-false _ (c .before .before .before .before .before .before .if2 .left)) ∙ ended-twice _ (r .0) (r .1) (sym (r .4) ∙ sym (c .before .entries-apart .ensures) ∙ not-true _ (c .if3 .taken))))
 
 returns-5 : tie.Need-returns-5
 returns-5 c =
-    let a = c .before .before .before .before .before .before .before .before .before .before .before .before .args in
+    let x = c .before .before .before .before .before .before .before .before .before .before .before .before .args in
+    let a = x in
     let counts-in = c .before .before .before .before .before .before .before .before .counts-in in
-    let r = read (c .before .before) in ap Sound (r .2) ∙ sym (ap checkedOf (from-header (a .chain) (a .rec .now) (c .before .before .before .before .before .before .before .before .before .before .if1 .left) (counts-in .result) (counts-in .ensures) (sym (c .before .before .before .before .before .before .before .ok-counts .ensures) ∙ not-false _ (c .before .before .before .before .before .before .if2 .left)) ∙ ended-sound _ (r .0) (r .1) (sym (r .4) ∙ sym (c .before .entries-apart .ensures) ∙ not-false _ (c .if3 .left))))
+    let r = read (c .before .before) in ap Sound (r .2) ∙ sym (ap checkedOf (from-header (a .chain) (a .rec .now)
+    (c .before .before .before .before .before .before .before .before .before .before .if1 .left) (counts-in .result) (counts-in .ensures)
+    (sym (c .before .before .before .before .before .before .before .ok-counts .ensures) ∙ not-false _ (c .before .before .before .before .before .before .if2 .left)) ∙ ended-sound _ (r .0) (r .1) (sym (r .4) ∙ sym (c .before .entries-apart .ensures) ∙ not-false _ (c .if3 .left))))
 
 pub check-spec : {M : Type 1} → statement M
 check-spec =

@@ -64,13 +64,19 @@ part-ok-run-end-2 : tie.Need-part-ok-run-end-2 Inv-loop μ-loop
 part-ok-run-end-2 c = let w = inside (c .before) in omega arith
 
 ok-run-requires : tie.Need-ok-run-requires Inv-loop μ-loop
-ok-run-requires c κs = let w = inside (c .before .before) in omega (arith, length-part (c .before .before .before .before .before .before .before .before .before .args .rec .now) (c .before .before .before .before .before .before .before .loop .p) (c .before .before .before .entry .given .0 .0 .name) (omega arith))
+ok-run-requires c κs =
+    let x = c .before .before .before .before .before .before .before .before .before .args in
+    let w = inside (c .before .before) in omega (arith, length-part (x .rec .now) (c .before .before .before .before .before .before .before .loop .p) (c .before .before .before .entry .given .0 .0 .name) (omega arith))
 
 returns-2 : tie.Need-returns-2 Inv-loop μ-loop
 returns-2 c =
+    let x = c .before .before .before .before .before .before .before .before .before .before .before .args in
     let l = c .before .before .before .before .before .before .before .before .before .loop in
-    let a = c .before .before .before .before .before .before .before .before .before .before .before .args in
-    sym (l .inv .1 ∙ check-faulty (run-reads (a .chain)) (a .rec .now) (l .p) (l .left) (c .before .before .before .before .before .before .before .before .loop-test .taken) (sym (run-ok (a .chain) (a .rec .now) (l .p) (c .before .before .before .before .before .entry .given .0 .0) (inside (c .before .before .before .before))) ∙ sym (c .before .ok-run .ensures) ∙ not-true _ (c .if1 .taken)))
+    let a = x in
+    sym (l .inv .1 ∙ check-faulty (run-reads (a .chain)) (a .rec .now) (l .p) (l .left)
+    (c .before .before .before .before .before .before .before .before .loop-test .taken)
+    (sym (run-ok (a .chain) (a .rec .now) (l .p) (c .before .before .before .before .before .entry .given .0 .0)
+    (inside (c .before .before .before .before))) ∙ sym (c .before .ok-run .ensures) ∙ not-true _ (c .if1 .taken)))
 
 sub-left : tie.Need-sub-left Inv-loop μ-loop
 sub-left c = omega arith
@@ -80,10 +86,15 @@ loop-less c = omega arith
 
 loop-again : tie.Need-loop-again Inv-loop μ-loop
 loop-again c =
+    let x = c .before .before .before .before .before .before .before .before .before .before .before .args in
     let l = c .before .before .before .before .before .before .before .before .before .loop in
-    let a = c .before .before .before .before .before .before .before .before .before .before .before .args in
-    let entry = c .before .before .before .before .before .entry in
-    (inside (c .before .before .before .before) .within, l .inv .1 ∙ check-next (run-reads (a .chain)) (a .rec .now) (l .p) (l .left) (c .before .before .before .before .before .before .before .before .loop-test .taken) (entry .given .0 .0) (inside (c .before .before .before .before)) (sym (run-ok (a .chain) (a .rec .now) (l .p) (entry .given .0 .0) (inside (c .before .before .before .before))) ∙ sym (c .before .ok-run .ensures) ∙ not-false _ (c .if1 .left)))
+    let a = x in
+    let entry = c .before .before .before .before .before .entry in (
+      inside (c .before .before .before .before) .within,
+      l .inv .1 ∙ check-next (run-reads (a .chain)) (a .rec .now) (l .p) (l .left)
+          (c .before .before .before .before .before .before .before .before .loop-test .taken) (entry .given .0 .0) (inside (c .before .before .before .before))
+          (sym (run-ok (a .chain) (a .rec .now) (l .p) (entry .given .0 .0) (inside (c .before .before .before .before))) ∙ sym (c .before .ok-run .ensures) ∙ not-false _ (c .if1 .left)),
+    )
 
 returns-3 : tie.Need-returns-3 Inv-loop μ-loop
 returns-3 c =

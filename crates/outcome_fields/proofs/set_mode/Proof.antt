@@ -17,10 +17,14 @@ same-length c = search needs
 
 returns : tie.Need-returns
 returns c =
-    let a = c .before .before .before .before .before .before .before .before .before .args in
+    let entry = c .before .before .before .before .before .before .before .before .before in
+    let x = entry .args in
+    let a = x in
     let put-field = c .before .before .before .before .before .before .put-field in
     let put-field2 = c .before .before .put-field2 in
-    λ n lay s w. mode-put n (a .t .now) lay s w (a .mode) (c .before .before .before .before .before .before .before .before .before .pre .1) (put-field .last .0) (put-field2 .last .0) (λ i. c .before .before .before .before .before .before .before .before .slice-known .given i .fits) (put-field .ensures) (λ i. c .before .before .before .before .slice-known2 .given i .fits) (put-field2 .ensures) (put-field2 .kept .0 ∙ put-field .kept .0)
+    λ n lay s w. mode-put n (a .t .now) lay s w (a .mode) (entry .pre .1) (put-field .last .0) (put-field2 .last .0)
+    (λ i. c .before .before .before .before .before .before .before .before .slice-known .given i .fits) (put-field .ensures)
+    (λ i. c .before .before .before .before .slice-known2 .given i .fits) (put-field2 .ensures) (put-field2 .kept .0 ∙ put-field .kept .0)
 
 pub set-mode-spec : {M : Type 1} → statement M
 set-mode-spec = tie.close (tie.spec put-field-requires put-field-requires-2 same-length returns)

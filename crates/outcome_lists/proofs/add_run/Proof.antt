@@ -21,9 +21,11 @@ bit-of-requires c κs = search needs
 
 append-run-requires : tie.Need-append-run-requires
 append-run-requires c κs =
-    let a = c .before .before .before .before .before .before .before .args in
+    let entry = c .before .before .before .before .before .before .before in
+    let x = entry .args in
+    let a = x in
     let k = c .before .before .before .count-of in
-    let h = run-room (c .before .before .before .before .before .before .before .pre .0) (a .t .now) (a .layout) (c .before .before .before .before .before .before .before .pre .1) (c .before .before .before .before .before .before .before .pre .2) (a .builtin) (a .place) (a .template .now) (c .before .before .before .before .before .before .before .pre .3) (omega (arith, k .ensures .0, row-count runs-row (c .before .before .before .before .before .before .before .pre .0) (a .t .now) (a .layout) (c .before .before .before .before .before .before .before .pre .1) (c .before .before .before .before .before .before .before .pre .2))) in
+    let h = run-room (entry .pre .0) (a .t .now) (a .layout) (entry .pre .1) (entry .pre .2) (a .builtin) (a .place) (a .template .now) (entry .pre .3) (omega (arith, k .ensures .0, row-count runs-row (entry .pre .0) (a .t .now) (a .layout) (entry .pre .1) (entry .pre .2))) in
     let z = run-size (bit (a .builtin)) (a .place) (a .template .now) in (h .rising, omega (arith, z, h .fits), omega arith, omega (arith, z, h .most))
 
 same-length : tie.Need-same-length
@@ -31,8 +33,23 @@ same-length c = search needs
 
 returns : tie.Need-returns
 returns c =
-    let a = c .before .before .before .before .before .before .before .before .before .before .args in
-    let k = c .before .before .before .before .before .before .count-of in λ n s w o. let i : length (s .runs) < 16 = omega (arith, k .ensures .0, row-count runs-row n (a .t .now) (a .layout) s w) in (s .runs ++ (runOf (a .builtin) (a .place) (a .template .now) ∷ []), append-last 16 (runOf (a .builtin) (a .place) (a .template .now)) (s .runs) i, run-grown n (a .t .now) (a .layout) s w (a .builtin) (a .place) (a .template .now) o (k .result) (c .before .before .before .bit-of .result) (k .ensures .0) i (c .before .before .before .bit-of .ensures) (c .before .before .append-run .last .0) (c .before .before .append-run .result) (c .before .before .append-run .kept .0) (c .before .before .append-run .ensures))
+    let given = c .before .before .before .before .before .before .before .before .before .before .args in
+    let x = given in
+    let a = x in
+    let k = c .before .before .before .before .before .before .count-of in λ n s w o. let i : length
+    (s .runs) < 16 = omega (
+      arith,
+      k .ensures .0,
+      row-count runs-row n (a .t .now)
+          (a .layout) s w,
+    ) in (
+      s .runs ++ (runOf (a .builtin) (a .place) (a .template .now) ∷ []),
+      append-last 16 (runOf (a .builtin) (a .place) (a .template .now))
+          (s .runs) i,
+      run-grown n (a .t .now) (a .layout) s w (a .builtin) (a .place) (a .template .now) o (k .result) (c .before .before .before .bit-of .result)
+          (k .ensures .0) i (c .before .before .before .bit-of .ensures) (c .before .before .append-run .last .0) (c .before .before .append-run .result)
+          (c .before .before .append-run .kept .0) (c .before .before .append-run .ensures),
+    )
 
 same-length-2 : tie.Need-same-length-2
 same-length-2 c = search needs

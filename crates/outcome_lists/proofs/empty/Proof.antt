@@ -18,18 +18,29 @@ end-of-requires c κs = search needs
 
 sub-cut : tie.Need-sub-cut
 sub-cut c =
-    let h = whole (c .before .before .before .before .pre .0) (c .before .before .before .before .args .t .now) (c .before .before .before .before .args .layout) (c .before .before .before .before .pre .1) (c .before .before .before .before .pre .2) (c .before .before .before .before .args .section) in omega (arith, c .before .before .start-of .ensures, c .before .end-of .ensures)
+    let entry = c .before .before .before .before in
+    let x = entry .args in
+    let h = whole (entry .pre .0) (x .t .now) (x .layout) (entry .pre .1) (entry .pre .2) (x .section) in omega (arith, c .before .before .start-of .ensures, c .before .end-of .ensures)
 
 cut-requires : tie.Need-cut-requires
 cut-requires c κs =
-    let h = whole (c .before .before .before .before .pre .0) (c .before .before .before .before .args .t .now) (c .before .before .before .before .args .layout) (c .before .before .before .before .pre .1) (c .before .before .before .before .pre .2) (c .before .before .before .before .args .section) in (h .rising, omega (arith, c .before .before .start-of .ensures, c .before .end-of .ensures), h .end, h .most)
+    let entry = c .before .before .before .before in
+    let x = entry .args in
+    let h = whole (entry .pre .0) (x .t .now) (x .layout) (entry .pre .1) (entry .pre .2) (x .section) in (h .rising, omega (arith, c .before .before .start-of .ensures, c .before .end-of .ensures), h .end, h .most)
 
 same-length : tie.Need-same-length
 same-length c = search needs
 
 returns : tie.Need-returns
 returns c =
-    let a = c .before .before .before .before .before .before .before .args in λ n s w. section-emptied n (a .t .now) (a .layout) s w (a .section) (c .before .before .cut .last .0) (c .before .before .cut .result) (c .before .before .cut .kept .0) (subst (λ (i : ℕ). Cut (a .t .now) (a .layout) (a .section) i (endOf (a .layout) (a .section) - i) 0 (c .before .before .cut .last .0) (c .before .before .cut .result)) (c .before .before .before .before .before .start-of .ensures) (subst (λ (i : ℕ). Cut (a .t .now) (a .layout) (a .section) (c .before .before .before .before .before .start-of .result) (i - c .before .before .before .before .before .start-of .result) 0 (c .before .before .cut .last .0) (c .before .before .cut .result)) (c .before .before .before .before .end-of .ensures) (c .before .before .cut .ensures)))
+    let x = c .before .before .before .before .before .before .before .args in
+    let a = x in λ n s w. section-emptied n (a .t .now) (a .layout) s w (a .section) (c .before .before .cut .last .0) (c .before .before .cut .result)
+    (c .before .before .cut .kept .0) (subst (λ (i : ℕ). Cut (a .t .now) (a .layout)
+    (a .section) i (endOf (a .layout) (a .section) - i) 0 (c .before .before .cut .last .0) (c .before .before .cut .result))
+    (c .before .before .before .before .before .start-of .ensures)
+    (subst (λ (i : ℕ). Cut (a .t .now) (a .layout) (a .section) (c .before .before .before .before .before .start-of .result)
+    (i - c .before .before .before .before .before .start-of .result) 0 (c .before .before .cut .last .0) (c .before .before .cut .result))
+    (c .before .before .before .before .end-of .ensures) (c .before .before .cut .ensures)))
 
 pub empty-spec : {M : Type 1} → statement M
 empty-spec =

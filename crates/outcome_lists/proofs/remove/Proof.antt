@@ -26,22 +26,26 @@ count-of-requires c κs = search needs
 
 find-requires : tie.Need-find-requires
 find-requires c κs =
-    let a = c .before .before .before .before .before .before .before .args in
+    let entry = c .before .before .before .before .before .before .before in
+    let x = entry .args in
+    let a = x in
     let sec = c .before .before .before .before .section-of in
     let st = c .before .before .before .start-of in
     let k = c .before .count-of in
-    let h = texts-read (a .list) (sec .result) (sec .ensures) (c .before .before .before .before .before .before .before .pre .0) (a .t .now) (a .layout) (c .before .before .before .before .before .before .before .pre .1) (c .before .before .before .before .before .before .before .pre .2) (st .result) (k .result) (st .ensures) (k .ensures .0) in (h .within, h .row)
+    let h = texts-read (a .list) (sec .result) (sec .ensures) (entry .pre .0) (a .t .now) (a .layout) (entry .pre .1) (entry .pre .2) (st .result) (k .result) (st .ensures) (k .ensures .0) in (h .within, h .row)
 
 enum-known-p : tie.Need-enum-known-p
 enum-known-p c = search needs
 
 add-cut : tie.Need-add-cut
 add-cut c =
+    let x = c .before .before .before .before .before .before .before .before .before .before .before .before .args in
     let u = c .before .before .before .before .find .ensures .1 in
-    let q : Within (At (c .before .before .p .given .0 .0) (c .before .before .p .given .0 .1 .0) (c .before .before .p .given .0 .1 .1 .0)) (length (c .before .before .before .before .before .before .before .before .before .before .before .before .args .t .now)) = rw (c .before .before .p .given .1) at u in omega arith
+    let q : Within (At (c .before .before .p .given .0 .0) (c .before .before .p .given .0 .1 .0) (c .before .before .p .given .0 .1 .1 .0)) (length (x .t .now)) = rw (c .before .before .p .given .1) at u in omega arith
 
 sub-cut : tie.Need-sub-cut
 sub-cut c =
+    let entry = c .before .before .before .before .before .before .before .before .before .before .before .before in
     let a = c .before .before .before .before .before .before .before .before .before .before .before .before .args in
     let sec = c .before .before .before .before .before .before .before .before .before .section-of in
     let st = c .before .before .before .before .before .before .before .before .start-of in
@@ -49,10 +53,14 @@ sub-cut c =
     let p = c .before .before .p .given .0 .0 in
     let v = c .before .before .p .given .0 .1 .0 in
     let z = c .before .before .p .given .0 .1 .1 .0 in
-    let h = found-cuts (texts-at (a .list) (sec .result) (sec .ensures)) (text-written (okOf (a .list))) (c .before .before .before .before .before .before .before .before .before .before .before .before .pre .0) (a .t .now) (a .layout) (c .before .before .before .before .before .before .before .before .before .before .before .before .pre .1) (c .before .before .before .before .before .before .before .before .before .before .before .before .pre .2) (texts-sound (a .list) (c .before .before .before .before .before .before .before .before .before .before .before .before .pre .0) (c .before .before .before .before .before .before .before .before .before .before .before .before .pre .1) ((c .before .before .before .before .before .before .before .before .before .before .before .before .pre .2) .good) .each) (text-apart (a .list) (sec .result) (sec .ensures) (c .before .before .before .before .before .before .before .before .before .before .before .before .pre .0) (a .t .now) (a .layout) (c .before .before .before .before .before .before .before .before .before .before .before .before .pre .1) (c .before .before .before .before .before .before .before .before .before .before .before .before .pre .2) (a .x .now)) (a .x .now) (st .result) (k .result) (st .ensures) (k .ensures .0) p v z (sym (c .before .before .before .before .find .ensures .0) ∙ c .before .before .p .given .1) in omega (arith, h .over)
+    let h = found-cuts (texts-at (a .list) (sec .result) (sec .ensures)) (text-written (okOf (a .list))) (entry .pre .0) (a .t .now) (a .layout) (entry .pre .1)
+    (entry .pre .2) (texts-sound (a .list) (entry .pre .0) (entry .pre .1) ((entry .pre .2) .good) .each)
+    (text-apart (a .list) (sec .result) (sec .ensures) (entry .pre .0) (a .t .now) (a .layout) (entry .pre .1) (entry .pre .2) (a .x .now)) (a .x .now) (st .result)
+    (k .result) (st .ensures) (k .ensures .0) p v z (sym (c .before .before .before .before .find .ensures .0) ∙ c .before .before .p .given .1) in omega (arith, h .over)
 
 sub-cut-2 : tie.Need-sub-cut-2
 sub-cut-2 c =
+    let entry = c .before .before .before .before .before .before .before .before .before .before .before .before in
     let a = c .before .before .before .before .before .before .before .before .before .before .before .before .args in
     let sec = c .before .before .before .before .before .before .before .before .before .section-of in
     let st = c .before .before .before .before .before .before .before .before .start-of in
@@ -60,10 +68,14 @@ sub-cut-2 c =
     let p = c .before .before .p .given .0 .0 in
     let v = c .before .before .p .given .0 .1 .0 in
     let z = c .before .before .p .given .0 .1 .1 .0 in
-    let h = found-more (texts-at (a .list) (sec .result) (sec .ensures)) (text-written (okOf (a .list))) (c .before .before .before .before .before .before .before .before .before .before .before .before .pre .0) (a .t .now) (a .layout) (c .before .before .before .before .before .before .before .before .before .before .before .before .pre .1) (c .before .before .before .before .before .before .before .before .before .before .before .before .pre .2) (texts-sound (a .list) (c .before .before .before .before .before .before .before .before .before .before .before .before .pre .0) (c .before .before .before .before .before .before .before .before .before .before .before .before .pre .1) ((c .before .before .before .before .before .before .before .before .before .before .before .before .pre .2) .good) .each) (text-apart (a .list) (sec .result) (sec .ensures) (c .before .before .before .before .before .before .before .before .before .before .before .before .pre .0) (a .t .now) (a .layout) (c .before .before .before .before .before .before .before .before .before .before .before .before .pre .1) (c .before .before .before .before .before .before .before .before .before .before .before .before .pre .2) (a .x .now)) (a .x .now) (st .result) (k .result) (st .ensures) (k .ensures .0) p v z (sym (c .before .before .before .before .find .ensures .0) ∙ c .before .before .p .given .1) in omega (arith, h)
+    let h = found-more (texts-at (a .list) (sec .result) (sec .ensures)) (text-written (okOf (a .list))) (entry .pre .0) (a .t .now) (a .layout) (entry .pre .1)
+    (entry .pre .2) (texts-sound (a .list) (entry .pre .0) (entry .pre .1) ((entry .pre .2) .good) .each)
+    (text-apart (a .list) (sec .result) (sec .ensures) (entry .pre .0) (a .t .now) (a .layout) (entry .pre .1) (entry .pre .2) (a .x .now)) (a .x .now) (st .result)
+    (k .result) (st .ensures) (k .ensures .0) p v z (sym (c .before .before .before .before .find .ensures .0) ∙ c .before .before .p .given .1) in omega (arith, h)
 
 cut-requires : tie.Need-cut-requires
 cut-requires c κs =
+    let entry = c .before .before .before .before .before .before .before .before .before .before .before .before in
     let a = c .before .before .before .before .before .before .before .before .before .before .before .before .args in
     let sec = c .before .before .before .before .before .before .before .before .before .section-of in
     let st = c .before .before .before .before .before .before .before .before .start-of in
@@ -71,7 +83,10 @@ cut-requires c κs =
     let p = c .before .before .p .given .0 .0 in
     let v = c .before .before .p .given .0 .1 .0 in
     let z = c .before .before .p .given .0 .1 .1 .0 in
-    let h = found-cuts (texts-at (a .list) (sec .result) (sec .ensures)) (text-written (okOf (a .list))) (c .before .before .before .before .before .before .before .before .before .before .before .before .pre .0) (a .t .now) (a .layout) (c .before .before .before .before .before .before .before .before .before .before .before .before .pre .1) (c .before .before .before .before .before .before .before .before .before .before .before .before .pre .2) (texts-sound (a .list) (c .before .before .before .before .before .before .before .before .before .before .before .before .pre .0) (c .before .before .before .before .before .before .before .before .before .before .before .before .pre .1) ((c .before .before .before .before .before .before .before .before .before .before .before .before .pre .2) .good) .each) (text-apart (a .list) (sec .result) (sec .ensures) (c .before .before .before .before .before .before .before .before .before .before .before .before .pre .0) (a .t .now) (a .layout) (c .before .before .before .before .before .before .before .before .before .before .before .before .pre .1) (c .before .before .before .before .before .before .before .before .before .before .before .before .pre .2) (a .x .now)) (a .x .now) (st .result) (k .result) (st .ensures) (k .ensures .0) p v z (sym (c .before .before .before .before .find .ensures .0) ∙ c .before .before .p .given .1) in (h .rising, h .within, h .end, h .most)
+    let h = found-cuts (texts-at (a .list) (sec .result) (sec .ensures)) (text-written (okOf (a .list))) (entry .pre .0) (a .t .now) (a .layout) (entry .pre .1)
+    (entry .pre .2) (texts-sound (a .list) (entry .pre .0) (entry .pre .1) ((entry .pre .2) .good) .each)
+    (text-apart (a .list) (sec .result) (sec .ensures) (entry .pre .0) (a .t .now) (a .layout) (entry .pre .1) (entry .pre .2) (a .x .now)) (a .x .now) (st .result)
+    (k .result) (st .ensures) (k .ensures .0) p v z (sym (c .before .before .before .before .find .ensures .0) ∙ c .before .before .p .given .1) in (h .rising, h .within, h .end, h .most)
 
 enum-told : tie.Need-enum-told
 enum-told c = search needs
@@ -87,7 +102,12 @@ returns c =
     let k = c .before .before .before .before .before .before .before .before .before .count-of in
     let p = c .before .before .before .before .before .p .given .0 .0 in
     let v = c .before .before .before .before .before .p .given .0 .1 .0 in
-    let z = c .before .before .before .before .before .p .given .0 .1 .1 .0 in λ n s w. found-held (texts-at (a .list) (sec .result) (sec .ensures)) (text-written (okOf (a .list))) n (a .t .now) (a .layout) s w (texts-sound (a .list) n s (w .good) .each) (text-apart (a .list) (sec .result) (sec .ensures) n (a .t .now) (a .layout) s w (a .x .now)) (a .x .now) (st .result) (k .result) (st .ensures) (k .ensures .0) p v z (sym (c .before .before .before .before .before .before .before .find .ensures .0) ∙ c .before .before .before .before .before .p .given .1) (c .before .before .cut .last .0) (c .before .before .cut .result) (c .before .before .cut .kept .0) (c .before .before .cut .ensures) (text-less (a .list) (sec .result) (sec .ensures) n (a .t .now) (a .layout) s w (a .x .now))
+    let z = c .before .before .before .before .before .p .given .0 .1 .1 .0 in λ n s w. found-held (texts-at (a .list) (sec .result) (sec .ensures))
+    (text-written (okOf (a .list))) n (a .t .now) (a .layout) s w (texts-sound (a .list) n s (w .good) .each)
+    (text-apart (a .list) (sec .result) (sec .ensures) n (a .t .now) (a .layout) s w (a .x .now)) (a .x .now) (st .result) (k .result) (st .ensures)
+    (k .ensures .0) p v z (sym (c .before .before .before .before .before .before .before .find .ensures .0) ∙ c .before .before .before .before .before .p .given .1)
+    (c .before .before .cut .last .0) (c .before .before .cut .result) (c .before .before .cut .kept .0) (c .before .before .cut .ensures)
+    (text-less (a .list) (sec .result) (sec .ensures) n (a .t .now) (a .layout) s w (a .x .now))
 
 same-length-2 : tie.Need-same-length-2
 same-length-2 c = search needs
@@ -97,7 +117,11 @@ returns-2 c =
     let a = c .before .before .before .before .before .before .before .before .before .before .args in
     let sec = c .before .before .before .before .before .before .before .section-of in
     let st = c .before .before .before .before .before .before .start-of in
-    let k = c .before .before .before .before .count-of in λ n s w. subst (Held n (a .t .now) (a .layout)) (sym (texts-same (a .list) s) ∙ ap (withTexts (a .list) s) (missing-kept (texts-at (a .list) (sec .result) (sec .ensures)) (text-written (okOf (a .list))) n (a .t .now) (a .layout) s w (texts-sound (a .list) n s (w .good) .each) (text-apart (a .list) (sec .result) (sec .ensures) n (a .t .now) (a .layout) s w (a .x .now)) (a .x .now) (st .result) (k .result) (st .ensures) (k .ensures .0) (c .enum-told .given .0 .0) (sym (c .before .before .find .ensures .0) ∙ c .enum-told .given .1))) w
+    let k = c .before .before .before .before .count-of in λ n s w. subst (Held n (a .t .now) (a .layout))
+    (sym (texts-same (a .list) s) ∙ ap (withTexts (a .list) s)
+    (missing-kept (texts-at (a .list) (sec .result) (sec .ensures)) (text-written (okOf (a .list))) n (a .t .now)
+    (a .layout) s w (texts-sound (a .list) n s (w .good) .each) (text-apart (a .list) (sec .result) (sec .ensures) n (a .t .now) (a .layout) s w (a .x .now))
+    (a .x .now) (st .result) (k .result) (st .ensures) (k .ensures .0) (c .enum-told .given .0 .0) (sym (c .before .before .find .ensures .0) ∙ c .enum-told .given .1))) w
 
 pub remove-spec : {M : Type 1} → statement M
 remove-spec =

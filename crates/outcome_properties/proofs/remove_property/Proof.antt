@@ -31,35 +31,48 @@ enum-known-p c = search needs
 
 add-cut : tie.Need-add-cut
 add-cut c =
+    let x = c .before .before .before .before .before .before .before .before .before .before .args in
     let u = c .before .before .before .before .find .ensures .1 in
-    let q : Within (At (c .before .before .p .given .0 .0) (c .before .before .p .given .0 .1 .0) (c .before .before .p .given .0 .1 .1 .0)) (length (c .before .before .before .before .before .before .before .before .before .before .args .t .now)) = rw (c .before .before .p .given .1) at u in omega arith
+    let q : Within (At (c .before .before .p .given .0 .0) (c .before .before .p .given .0 .1 .0) (c .before .before .p .given .0 .1 .1 .0)) (length (x .t .now)) = rw (c .before .before .p .given .1) at u in omega arith
 
 sub-cut : tie.Need-sub-cut
 sub-cut c =
-    let a = c .before .before .before .before .before .before .before .before .before .before .args in
+    let entry = c .before .before .before .before .before .before .before .before .before .before in
+    let x = entry .args in
+    let a = x in
     let k = c .before .before .before .before .before .before .count-of in
     let p = c .before .before .p .given .0 .0 in
     let v = c .before .before .p .given .0 .1 .0 in
     let z = c .before .before .p .given .0 .1 .1 .0 in
-    let h = found-cuts properties-row property-written (c .before .before .before .before .before .before .before .before .before .before .pre .0) (a .t .now) (a .layout) (c .before .before .before .before .before .before .before .before .before .before .pre .1) (c .before .before .before .before .before .before .before .before .before .before .pre .2) ((c .before .before .before .before .before .before .before .before .before .before .pre .2) .good .properties .each) ((c .before .before .before .before .before .before .before .before .before .before .pre .2) .good .properties .apart) (a .key .now) (a .layout .properties) (k .result) refl (k .ensures .0) p v z (sym (c .before .before .before .before .find .ensures .0) ∙ c .before .before .p .given .1) in omega (arith, h .over)
+    let h = found-cuts properties-row property-written (entry .pre .0) (a .t .now) (a .layout) (entry .pre .1) (entry .pre .2) ((entry .pre .2) .good .properties .each)
+    ((entry .pre .2) .good .properties .apart) (a .key .now) (a .layout .properties)
+    (k .result) refl (k .ensures .0) p v z (sym (c .before .before .before .before .find .ensures .0) ∙ c .before .before .p .given .1) in omega (arith, h .over)
 
 sub-cut-2 : tie.Need-sub-cut-2
 sub-cut-2 c =
-    let a = c .before .before .before .before .before .before .before .before .before .before .args in
+    let entry = c .before .before .before .before .before .before .before .before .before .before in
+    let x = entry .args in
+    let a = x in
     let k = c .before .before .before .before .before .before .count-of in
     let p = c .before .before .p .given .0 .0 in
     let v = c .before .before .p .given .0 .1 .0 in
     let z = c .before .before .p .given .0 .1 .1 .0 in
-    let h = found-more properties-row property-written (c .before .before .before .before .before .before .before .before .before .before .pre .0) (a .t .now) (a .layout) (c .before .before .before .before .before .before .before .before .before .before .pre .1) (c .before .before .before .before .before .before .before .before .before .before .pre .2) ((c .before .before .before .before .before .before .before .before .before .before .pre .2) .good .properties .each) ((c .before .before .before .before .before .before .before .before .before .before .pre .2) .good .properties .apart) (a .key .now) (a .layout .properties) (k .result) refl (k .ensures .0) p v z (sym (c .before .before .before .before .find .ensures .0) ∙ c .before .before .p .given .1) in omega (arith, h)
+    let h = found-more properties-row property-written (entry .pre .0) (a .t .now) (a .layout) (entry .pre .1) (entry .pre .2) ((entry .pre .2) .good .properties .each)
+    ((entry .pre .2) .good .properties .apart) (a .key .now) (a .layout .properties)
+    (k .result) refl (k .ensures .0) p v z (sym (c .before .before .before .before .find .ensures .0) ∙ c .before .before .p .given .1) in omega (arith, h)
 
 cut-requires : tie.Need-cut-requires
 cut-requires c κs =
-    let a = c .before .before .before .before .before .before .before .before .before .before .args in
+    let entry = c .before .before .before .before .before .before .before .before .before .before in
+    let x = entry .args in
+    let a = x in
     let k = c .before .before .before .before .before .before .count-of in
     let p = c .before .before .p .given .0 .0 in
     let v = c .before .before .p .given .0 .1 .0 in
     let z = c .before .before .p .given .0 .1 .1 .0 in
-    let h = found-cuts properties-row property-written (c .before .before .before .before .before .before .before .before .before .before .pre .0) (a .t .now) (a .layout) (c .before .before .before .before .before .before .before .before .before .before .pre .1) (c .before .before .before .before .before .before .before .before .before .before .pre .2) ((c .before .before .before .before .before .before .before .before .before .before .pre .2) .good .properties .each) ((c .before .before .before .before .before .before .before .before .before .before .pre .2) .good .properties .apart) (a .key .now) (a .layout .properties) (k .result) refl (k .ensures .0) p v z (sym (c .before .before .before .before .find .ensures .0) ∙ c .before .before .p .given .1) in (h .rising, h .within, h .end, h .most)
+    let h = found-cuts properties-row property-written (entry .pre .0) (a .t .now) (a .layout) (entry .pre .1) (entry .pre .2) ((entry .pre .2) .good .properties .each)
+    ((entry .pre .2) .good .properties .apart) (a .key .now) (a .layout .properties)
+    (k .result) refl (k .ensures .0) p v z (sym (c .before .before .before .before .find .ensures .0) ∙ c .before .before .p .given .1) in (h .rising, h .within, h .end, h .most)
 
 enum-told : tie.Need-enum-told
 enum-told c = search needs
@@ -69,19 +82,25 @@ same-length c = search needs
 
 returns : tie.Need-returns
 returns c =
-    let a = c .before .before .before .before .before .before .before .before .before .before .before .before .before .args in
+    let x = c .before .before .before .before .before .before .before .before .before .before .before .before .before .args in
+    let a = x in
     let k = c .before .before .before .before .before .before .before .before .before .count-of in
     let p = c .before .before .before .before .before .p .given .0 .0 in
     let v = c .before .before .before .before .before .p .given .0 .1 .0 in
-    let z = c .before .before .before .before .before .p .given .0 .1 .1 .0 in λ n s w. found-held properties-row property-written n (a .t .now) (a .layout) s w (w .good .properties .each) (w .good .properties .apart) (a .key .now) (a .layout .properties) (k .result) refl (k .ensures .0) p v z (sym (c .before .before .before .before .before .before .before .find .ensures .0) ∙ c .before .before .before .before .before .p .given .1) (c .before .before .cut .last .0) (c .before .before .cut .result) (c .before .before .cut .kept .0) (c .before .before .cut .ensures) (property-less n (a .t .now) (a .layout) s w (a .key .now) (a .layout .properties) (k .result) refl (k .ensures .0))
+    let z = c .before .before .before .before .before .p .given .0 .1 .1 .0 in λ n s w. found-held properties-row property-written n (a .t .now)
+    (a .layout) s w (w .good .properties .each) (w .good .properties .apart) (a .key .now) (a .layout .properties)
+    (k .result) refl (k .ensures .0) p v z (sym (c .before .before .before .before .before .before .before .find .ensures .0) ∙ c .before .before .before .before .before .p .given .1) (c .before .before .cut .last .0) (c .before .before .cut .result) (c .before .before .cut .kept .0) (c .before .before .cut .ensures) (property-less n (a .t .now) (a .layout) s w (a .key .now) (a .layout .properties) (k .result) refl (k .ensures .0))
 
 same-length-2 : tie.Need-same-length-2
 same-length-2 c = search needs
 
 returns-2 : tie.Need-returns-2
 returns-2 c =
-    let a = c .before .before .before .before .before .before .before .before .args in
-    let k = c .before .before .before .before .count-of in λ n s w. subst (Held n (a .t .now) (a .layout)) (ap (withProperties s) (missing-kept properties-row property-written n (a .t .now) (a .layout) s w (w .good .properties .each) (w .good .properties .apart) (a .key .now) (a .layout .properties) (k .result) refl (k .ensures .0) (c .enum-told .given .0 .0) (sym (c .before .before .find .ensures .0) ∙ c .enum-told .given .1))) w
+    let x = c .before .before .before .before .before .before .before .before .args in
+    let a = x in
+    let k = c .before .before .before .before .count-of in λ n s w. subst (Held n (a .t .now) (a .layout))
+    (ap (withProperties s) (missing-kept properties-row property-written n (a .t .now) (a .layout) s w (w .good .properties .each) (w .good .properties .apart)
+    (a .key .now) (a .layout .properties) (k .result) refl (k .ensures .0) (c .enum-told .given .0 .0) (sym (c .before .before .find .ensures .0) ∙ c .enum-told .given .1))) w
 
 pub remove-property-spec : {M : Type 1} → statement M
 remove-property-spec =

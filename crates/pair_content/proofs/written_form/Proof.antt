@@ -21,7 +21,10 @@ value-form-requires : tie.Need-value-form-requires
 value-form-requires c κs = search needs
 
 returns : tie.Need-returns
-returns c = rw (plain-part (c .before .before .before .before .args .line .now) (c .before .before .before .before .args .coded) (c .before .before .before .before .args .start) (c .before .before .before .before .args .end) (c .before .before .before .before .args .len) (c .before .before .before .before .pre) (c .before .before .if1 .taken)) (c .value-form .ensures)
+returns c =
+    let entry = c .before .before .before .before in
+    let x = entry .args in
+    rw (plain-part (x .line .now) (x .coded) (x .start) (x .end) (x .len) (entry .pre) (c .before .before .if1 .taken)) (c .value-form .ensures)
 
 escaped-form-requires : tie.Need-escaped-form-requires
 escaped-form-requires c κs = search needs

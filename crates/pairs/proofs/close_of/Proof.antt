@@ -23,7 +23,9 @@ shared-slice-read-if1 : tie.Need-shared-slice-read-if1 Inv-loop μ-loop
 shared-slice-read-if1 c = omega arith
 
 returns : tie.Need-returns Inv-loop μ-loop
-returns c = scan-empty (c .before .before .before .before .before .args .line .now) (c .before .before .before .before .before .args .start) (c .before .before .before .before .loop .i) (c .before .before .before .before .loop .marks) (c .before .before .before .before .loop .inv) (omega arith) (c .before .if1 .taken) (c .if2 .taken)
+returns c =
+    let x = c .before .before .before .before .before .args in
+    scan-empty (x .line .now) (x .start) (c .before .before .before .before .loop .i) (c .before .before .before .before .loop .marks) (c .before .before .before .before .loop .inv) (omega arith) (c .before .if1 .taken) (c .if2 .taken)
 
 sub-if3 : tie.Need-sub-if3 Inv-loop μ-loop
 sub-if3 c = omega arith
@@ -32,7 +34,10 @@ shared-slice-read-if3 : tie.Need-shared-slice-read-if3 Inv-loop μ-loop
 shared-slice-read-if3 c = omega arith
 
 returns-2 : tie.Need-returns-2 Inv-loop μ-loop
-returns-2 c = scan-closed (c .before .before .before .before .before .before .before .args .line .now) (c .before .before .before .before .before .before .before .args .start) (c .before .before .before .before .before .before .loop .i) (c .before .before .before .before .before .before .loop .marks) (c .before .before .before .before .before .before .loop .inv) (omega arith) (c .before .before .before .if1 .taken) (c .before .before .if2 .left) (c .if3 .taken)
+returns-2 c =
+    let x = c .before .before .before .before .before .before .before .args in
+    scan-closed (x .line .now) (x .start) (c .before .before .before .before .before .before .loop .i) (c .before .before .before .before .before .before .loop .marks)
+    (c .before .before .before .before .before .before .loop .inv) (omega arith) (c .before .before .before .if1 .taken) (c .before .before .if2 .left) (c .if3 .taken)
 
 add-marks : tie.Need-add-marks Inv-loop μ-loop
 add-marks c = omega (arith, c .before .before .before .before .before .before .loop .inv .counted)
@@ -44,7 +49,10 @@ loop-less : tie.Need-loop-less Inv-loop μ-loop
 loop-less c = omega arith
 
 loop-again : tie.Need-loop-again Inv-loop μ-loop
-loop-again c = scan-marked (c .before .before .before .before .before .before .before .args .line .now) (c .before .before .before .before .before .before .before .args .start) (c .before .before .before .before .before .before .loop .i) (c .before .before .before .before .before .before .loop .marks) (c .before .before .before .before .before .before .loop .inv) (omega arith) (c .before .before .before .if1 .taken) (c .before .before .if2 .left) (c .if3 .left)
+loop-again c =
+    let x = c .before .before .before .before .before .before .before .args in
+    scan-marked (x .line .now) (x .start) (c .before .before .before .before .before .before .loop .i) (c .before .before .before .before .before .before .loop .marks)
+    (c .before .before .before .before .before .before .loop .inv) (omega arith) (c .before .before .before .if1 .taken) (c .before .before .if2 .left) (c .if3 .left)
 
 add-i-2 : tie.Need-add-i-2 Inv-loop μ-loop
 add-i-2 c = omega arith

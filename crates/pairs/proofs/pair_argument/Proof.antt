@@ -24,7 +24,9 @@ add-pair-operator : tie.Need-add-pair-operator
 add-pair-operator c = let w : ArgumentIn (c .before .before .before .before .before .args .line .now) (Given (c .before .start .given .0 .0) (c .before .start .given .0 .1 .0)) = rw (c .before .start .given .1) at (c .before .before .before .read-argument .ensures .1) in omega (arith, w .1)
 
 pair-operator-requires-2 : tie.Need-pair-operator-requires-2
-pair-operator-requires-2 c κs = let w : ArgumentIn (c .before .before .before .before .before .args .line .now) (Given (c .before .start .given .0 .0) (c .before .start .given .0 .1 .0)) = rw (c .before .start .given .1) at (c .before .before .before .read-argument .ensures .1) in (omega (arith, w .1), w .0, omega (arith, w .1))
+pair-operator-requires-2 c κs =
+    let x = c .before .before .before .before .before .args in
+    let w : ArgumentIn (x .line .now) (Given (c .before .start .given .0 .0) (c .before .start .given .0 .1 .0)) = rw (c .before .start .given .1) at (c .before .before .before .read-argument .ensures .1) in (omega (arith, w .1), w .0, omega (arith, w .1))
 
 enum-told-2 : tie.Need-enum-told-2
 enum-told-2 c = search needs

@@ -42,7 +42,9 @@ allowed-requires : tie.Need-allowed-requires
 allowed-requires c κs = search needs
 
 add-pair-value : tie.Need-add-pair-value
-add-pair-value c = let w : WidthIn (Found (c .before .before .before .operator .given .0 .0) (c .before .before .before .operator .given .0 .1 .0)) = rw (c .before .before .before .operator .given .1) at (c .before .before .before .before .before .operator-of .ensures .1) in omega (arith, w, c .before .before .before .before .before .before .before .before .blank-end .ensures .within)
+add-pair-value c =
+    let w : WidthIn (Found (c .before .before .before .operator .given .0 .0)
+    (c .before .before .before .operator .given .0 .1 .0)) = rw (c .before .before .before .operator .given .1) at (c .before .before .before .before .before .operator-of .ensures .1) in omega (arith, w, c .before .before .before .before .before .before .before .before .blank-end .ensures .within)
 
 pair-value-requires : tie.Need-pair-value-requires
 pair-value-requires c κs = search needs
@@ -52,15 +54,30 @@ enum-told c = search needs
 
 returns : tie.Need-returns
 unfolding operatorThen
-returns c = let s = c .before .before .before .before .before .before .before .before .before .before .before .args .line .now in let b = c .before .before .before .before .before .before .before .before .before .blank-end .result in let h : (bs : List ℕ) → operatorBy (c .before .before .before .before .before .before .operator-of .result) bs ≡ opOf (getD s b 0) (getD s (b + 1) 0) (drop 1 bs) (drop 2 bs) = λ bs. c .before .before .before .before .before .before .operator-of .ensures .0 bs ∙ rw (c .before .before .before .before .before .before .before .before .byte-at .ensures, c .before .before .before .before .before .before .before .byte-at2 .ensures) in (rw (unblank-at s (c .before .before .before .before .before .before .before .before .before .before .before .args .at) b (c .before .before .before .before .before .before .before .before .before .blank-end .ensures .place), operator-at s b (allowedOf (c .before .before .before .before .before .before .before .before .before .before .before .args .operators)) (c .before .before .before .before .before .before .operator-of .result) h, c .before .before .before .before .operator .given .1, ← c .before .before .allowed .ensures, c .before .if1 .taken, drop-drop (c .before .before .before .before .operator .given .0 .1 .0) b s) (c .pair-value .ensures .0), c .pair-value .ensures .1)
+returns c =
+    let a = c .before .before .before .before .before .before .before .before .before .before .before .args in
+    let x = a in
+    let s = x .line .now in let b = c .before .before .before .before .before .before .before .before .before .blank-end .result in let h : (bs : List ℕ) → operatorBy
+    (c .before .before .before .before .before .before .operator-of .result) bs ≡ opOf (getD s b 0) (getD s (b + 1) 0) (drop 1 bs)
+    (drop 2 bs) = λ bs. c .before .before .before .before .before .before .operator-of .ensures .0 bs ∙ rw (c .before .before .before .before .before .before .before .before .byte-at .ensures, c .before .before .before .before .before .before .before .byte-at2 .ensures) in (rw (unblank-at s (x .at) b (c .before .before .before .before .before .before .before .before .before .blank-end .ensures .place), operator-at s b (allowedOf (x .operators)) (c .before .before .before .before .before .before .operator-of .result) h, c .before .before .before .before .operator .given .1, ← c .before .before .allowed .ensures, c .before .if1 .taken, drop-drop (c .before .before .before .before .operator .given .0 .1 .0) b s) (c .pair-value .ensures .0), c .pair-value .ensures .1)
 
 returns-2 : tie.Need-returns-2
 unfolding operatorThen
-returns-2 c = let s = c .before .before .before .before .before .before .before .before .before .before .args .line .now in let b = c .before .before .before .before .before .before .before .before .blank-end .result in let h : (bs : List ℕ) → operatorBy (c .before .before .before .before .before .operator-of .result) bs ≡ opOf (getD s b 0) (getD s (b + 1) 0) (drop 1 bs) (drop 2 bs) = λ bs. c .before .before .before .before .before .operator-of .ensures .0 bs ∙ rw (c .before .before .before .before .before .before .before .byte-at .ensures, c .before .before .before .before .before .before .byte-at2 .ensures) in (rw (unblank-at s (c .before .before .before .before .before .before .before .before .before .before .args .at) b (c .before .before .before .before .before .before .before .before .blank-end .ensures .place), operator-at s b (allowedOf (c .before .before .before .before .before .before .before .before .before .before .args .operators)) (c .before .before .before .before .before .operator-of .result) h, c .before .before .before .operator .given .1, ← c .before .allowed .ensures, c .if1 .left), tt)
+returns-2 c =
+    let a = c .before .before .before .before .before .before .before .before .before .before .args in
+    let x = a in
+    let s = x .line .now in let b = c .before .before .before .before .before .before .before .before .blank-end .result in let h : (bs : List ℕ) → operatorBy
+    (c .before .before .before .before .before .operator-of .result) bs ≡ opOf (getD s b 0) (getD s (b + 1) 0) (drop 1 bs)
+    (drop 2 bs) = λ bs. c .before .before .before .before .before .operator-of .ensures .0 bs ∙ rw (c .before .before .before .before .before .before .before .byte-at .ensures, c .before .before .before .before .before .before .byte-at2 .ensures) in (rw (unblank-at s (x .at) b (c .before .before .before .before .before .before .before .before .blank-end .ensures .place), operator-at s b (allowedOf (x .operators)) (c .before .before .before .before .before .operator-of .result) h, c .before .before .before .operator .given .1, ← c .before .allowed .ensures, c .if1 .left), tt)
 
 returns-3 : tie.Need-returns-3
 unfolding operatorThen
-returns-3 c = let s = c .before .before .before .before .before .before .before .args .line .now in let b = c .before .before .before .before .before .blank-end .result in let h : (bs : List ℕ) → operatorBy (c .before .before .operator-of .result) bs ≡ opOf (getD s b 0) (getD s (b + 1) 0) (drop 1 bs) (drop 2 bs) = λ bs. c .before .before .operator-of .ensures .0 bs ∙ rw (c .before .before .before .before .byte-at .ensures, c .before .before .before .byte-at2 .ensures) in (rw (unblank-at s (c .before .before .before .before .before .before .before .args .at) b (c .before .before .before .before .before .blank-end .ensures .place), operator-at s b (allowedOf (c .before .before .before .before .before .before .before .args .operators)) (c .before .before .operator-of .result) h, c .enum-told .given .1), tt)
+returns-3 c =
+    let a = c .before .before .before .before .before .before .before .args in
+    let x = a in
+    let s = x .line .now in let b = c .before .before .before .before .before .blank-end .result in let h : (bs : List ℕ) → operatorBy
+    (c .before .before .operator-of .result) bs ≡ opOf (getD s b 0) (getD s (b + 1) 0) (drop 1 bs)
+    (drop 2 bs) = λ bs. c .before .before .operator-of .ensures .0 bs ∙ rw (c .before .before .before .before .byte-at .ensures, c .before .before .before .byte-at2 .ensures) in (rw (unblank-at s (x .at) b (c .before .before .before .before .before .blank-end .ensures .place), operator-at s b (allowedOf (x .operators)) (c .before .before .operator-of .result) h, c .enum-told .given .1), tt)
 
 pub pair-operator-spec : {M : Type 1} → statement M
 pair-operator-spec =

@@ -46,7 +46,13 @@ returns c =
     let blank = c .before .before .before .before .before .before .before .before .blank-end in
     let upper = c .before .before .before .before .before .before .before .upper-end in (
       c .whole-pair .ensures .0
-          ∙ rw (unblank-at s (entry .args .at) (blank .result) (blank .ensures .place), key-at s (blank .result) (upper .result) (upper .ensures .place), ← c .before .before .before .before .before .find-key .ensures, c .before .before .before .key .given .1) (c .before .pair-argument .ensures .0 _),
+          ∙ rw (
+            unblank-at s (entry .args .at) (blank .result) (blank .ensures .place),
+            key-at s (blank .result) (upper .result)
+                (upper .ensures .place),
+            ← c .before .before .before .before .before .find-key .ensures,
+            c .before .before .before .key .given .1,
+          ) (c .before .pair-argument .ensures .0 _),
       c .whole-pair .ensures .1,
     )
 

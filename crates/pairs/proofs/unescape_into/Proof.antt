@@ -29,16 +29,33 @@ loop-less : tie.Need-loop-less Inv-loop μ-loop
 loop-less c = omega arith
 
 loop-again : tie.Need-loop-again Inv-loop μ-loop
-loop-again c = put-escape (c .before .before .before .before .before .before .args .line .now) (c .before .before .before .before .before .before .args .start) (c .before .before .before .before .before .before .args .end) (c .before .before .before .before .before .before .args .out .now) (c .before .before .before .before .before .before .pre .1) (c .before .before .before .before .before .before .pre .2) (c .before .before .before .loop .out) (c .before .before .before .loop .i) (c .before .before .before .loop .n) (c .before .before .before .loop .inv) (omega arith) (sym (c .before .is-escape .ensures) ∙ c .if1 .taken)
+loop-again c =
+    let entry = c .before .before .before .before .before .before in
+    let x = entry .args in
+    put-escape (x .line .now) (x .start) (x .end) (x .out .now) (entry .pre .1) (entry .pre .2) (c .before .before .before .loop .out)
+    (c .before .before .before .loop .i) (c .before .before .before .loop .n) (c .before .before .before .loop .inv) (omega arith) (sym (c .before .is-escape .ensures) ∙ c .if1 .taken)
 
 shared-slice-read-out : tie.Need-shared-slice-read-out Inv-loop μ-loop
 shared-slice-read-out c = omega arith
 
 slice-write-out : tie.Need-slice-write-out Inv-loop μ-loop
-slice-write-out c = put-room (c .before .before .before .before .before .before .before .args .line .now) (c .before .before .before .before .before .before .before .args .start) (c .before .before .before .before .before .before .before .args .end) (c .before .before .before .before .before .before .before .args .out .now) (c .before .before .before .before .before .before .before .pre .1) (c .before .before .before .before .before .before .before .pre .2) (c .before .before .before .before .loop .out) (c .before .before .before .before .loop .i) (c .before .before .before .before .loop .n) (c .before .before .before .before .loop .inv) (omega arith) (sym (c .before .before .is-escape .ensures) ∙ c .before .if1 .left)
+slice-write-out c =
+    let entry = c .before .before .before .before .before .before .before in
+    let x = entry .args in
+    put-room (x .line .now) (x .start) (x .end) (x .out .now) (entry .pre .1) (entry .pre .2) (c .before .before .before .before .loop .out)
+    (c .before .before .before .before .loop .i) (c .before .before .before .before .loop .n) (c .before .before .before .before .loop .inv) (omega arith)
+    (sym (c .before .before .is-escape .ensures) ∙ c .before .if1 .left)
 
 add-n : tie.Need-add-n Inv-loop μ-loop
-add-n c = omega (arith, put-room (c .before .before .before .before .before .before .before .args .line .now) (c .before .before .before .before .before .before .before .args .start) (c .before .before .before .before .before .before .before .args .end) (c .before .before .before .before .before .before .before .args .out .now) (c .before .before .before .before .before .before .before .pre .1) (c .before .before .before .before .before .before .before .pre .2) (c .before .before .before .before .loop .out) (c .before .before .before .before .loop .i) (c .before .before .before .before .loop .n) (c .before .before .before .before .loop .inv) (omega arith) (sym (c .before .before .is-escape .ensures) ∙ c .before .if1 .left))
+add-n c =
+    let entry = c .before .before .before .before .before .before .before in
+    let x = entry .args in
+    omega (
+      arith,
+      put-room (x .line .now) (x .start) (x .end) (x .out .now) (entry .pre .1) (entry .pre .2) (c .before .before .before .before .loop .out)
+          (c .before .before .before .before .loop .i) (c .before .before .before .before .loop .n) (c .before .before .before .before .loop .inv) (omega arith)
+          (sym (c .before .before .is-escape .ensures) ∙ c .before .if1 .left),
+    )
 
 add-i-2 : tie.Need-add-i-2 Inv-loop μ-loop
 add-i-2 c = omega arith
@@ -47,13 +64,21 @@ loop-less-2 : tie.Need-loop-less-2 Inv-loop μ-loop
 loop-less-2 c = omega arith
 
 loop-again-2 : tie.Need-loop-again-2 Inv-loop μ-loop
-loop-again-2 c = put-byte (c .before .before .before .before .before .before .before .args .line .now) (c .before .before .before .before .before .before .before .args .start) (c .before .before .before .before .before .before .before .args .end) (c .before .before .before .before .before .before .before .args .out .now) (c .before .before .before .before .before .before .before .pre .1) (c .before .before .before .before .before .before .before .pre .2) (c .before .before .before .before .loop .out) (c .before .before .before .before .loop .i) (c .before .before .before .before .loop .n) (c .before .before .before .before .loop .inv) (omega arith) (sym (c .before .before .is-escape .ensures) ∙ c .before .if1 .left)
+loop-again-2 c =
+    let entry = c .before .before .before .before .before .before .before in
+    let x = entry .args in
+    put-byte (x .line .now) (x .start) (x .end) (x .out .now) (entry .pre .1) (entry .pre .2) (c .before .before .before .before .loop .out)
+    (c .before .before .before .before .loop .i) (c .before .before .before .before .loop .n) (c .before .before .before .before .loop .inv) (omega arith)
+    (sym (c .before .before .is-escape .ensures) ∙ c .before .if1 .left)
 
 same-length : tie.Need-same-length Inv-loop μ-loop
 same-length c = c .before .loop .inv .kept
 
 returns : tie.Need-returns Inv-loop μ-loop
-returns c = put-ends (c .before .before .before .before .args .line .now) (c .before .before .before .before .args .start) (c .before .before .before .before .args .end) (c .before .before .before .before .args .out .now) (c .before .before .before .before .pre .1) (c .before .before .before .before .pre .2) (c .before .loop .out) (c .before .loop .i) (c .before .loop .n) (c .before .loop .inv) (omega arith)
+returns c =
+    let entry = c .before .before .before .before in
+    let x = entry .args in
+    put-ends (x .line .now) (x .start) (x .end) (x .out .now) (entry .pre .1) (entry .pre .2) (c .before .loop .out) (c .before .loop .i) (c .before .loop .n) (c .before .loop .inv) (omega arith)
 
 pub unescape-into-spec : {M : Type 1} → statement M
 unescape-into-spec =

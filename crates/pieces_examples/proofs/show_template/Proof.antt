@@ -49,14 +49,16 @@ show-piece-requires c κs = search needs
 
 loop-less : tie.Need-loop-less Inv-loop μ-loop
 loop-less c =
+    let x = c .before .before .before .before .before .before .before .before .before .before .before .before .args in
     let g = c .before .before .p .given .0 in
-    let w : Ahead (g .0) (g .1 .0) (c .before .before .before .before .before .before .before .before .before .before .before .before .args .template .now) (c .before .before .before .before .before .loop .i) = rw (c .before .before .p .given .1) at (c .before .before .before .before .piece-at .ensures .1) in
+    let w : Ahead (g .0) (g .1 .0) (x .template .now) (c .before .before .before .before .before .loop .i) = rw (c .before .before .p .given .1) at (c .before .before .before .before .piece-at .ensures .1) in
     omega (arith, w .forward, w .inside)
 
 loop-again : tie.Need-loop-again Inv-loop μ-loop
 loop-again c =
+    let x = c .before .before .before .before .before .before .before .before .before .before .before .before .args in
     let g = c .before .before .p .given .0 in
-    let w : Ahead (g .0) (g .1 .0) (c .before .before .before .before .before .before .before .before .before .before .before .before .args .template .now) (c .before .before .before .before .before .loop .i) = rw (c .before .before .p .given .1) at (c .before .before .before .before .piece-at .ensures .1) in
+    let w : Ahead (g .0) (g .1 .0) (x .template .now) (c .before .before .before .before .before .loop .i) = rw (c .before .before .p .given .1) at (c .before .before .before .before .piece-at .ensures .1) in
     w .inside
 
 enum-told : tie.Need-enum-told Inv-loop μ-loop

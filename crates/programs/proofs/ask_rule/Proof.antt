@@ -16,15 +16,21 @@ output-of-requires c κs =
 
 returns : tie.Need-returns
 returns c =
-    let x = c .before .before .before .before .before .before .before .before .before .before .before .before .before .before .before .before .args in
+    let a = c .before .before .before .before .before .before .before .before .before .before .before .before .before .before .before .before .args in
+    let x = a in
     let asked = c .before .before .before .before .before .before .before .before .before .ask-all in
-    judged-held (pairsFrom (x .values .now) (x .rows .now) (x .from) (x .to - x .from)) (x .place) (x .sheet .now) (x .dev .now) (x .chain) (x .t .now) (x .layout) _ (asked .result) (asked .ensures) _ (c .before .before .before .before .before .left .given .1) _ (c .before .before .output-of .ensures) (c .before .results-hold .result) (c .before .results-hold .ensures) (c .if1 .taken)
+    judged-held (pairsFrom (x .values .now) (x .rows .now) (x .from) (x .to - x .from)) (x .place) (x .sheet .now) (x .dev .now) (x .chain) (x .t .now)
+    (x .layout) _ (asked .result) (asked .ensures) _ (c .before .before .before .before .before .left .given .1) _ (c .before .before .output-of .ensures)
+    (c .before .results-hold .result) (c .before .results-hold .ensures) (c .if1 .taken)
 
 returns-2 : tie.Need-returns-2
 returns-2 c =
-    let x = c .before .before .before .before .before .before .before .before .before .before .before .before .before .before .before .before .args in
+    let a = c .before .before .before .before .before .before .before .before .before .before .before .before .before .before .before .before .args in
+    let x = a in
     let asked = c .before .before .before .before .before .before .before .before .before .ask-all in
-    judged-missed (pairsFrom (x .values .now) (x .rows .now) (x .from) (x .to - x .from)) (x .place) (x .sheet .now) (x .dev .now) (x .chain) (x .t .now) (x .layout) _ (asked .result) (asked .ensures) _ (c .before .before .before .before .before .left .given .1) _ (c .before .before .output-of .ensures) (c .before .results-hold .result) (c .before .results-hold .ensures) (c .if1 .left)
+    judged-missed (pairsFrom (x .values .now) (x .rows .now) (x .from) (x .to - x .from)) (x .place) (x .sheet .now) (x .dev .now) (x .chain) (x .t .now)
+    (x .layout) _ (asked .result) (asked .ensures) _ (c .before .before .before .before .before .left .given .1) _ (c .before .before .output-of .ensures)
+    (c .before .results-hold .result) (c .before .results-hold .ensures) (c .if1 .left)
 
 returns-3 : tie.Need-returns-3
 returns-3 c =

@@ -37,11 +37,17 @@ returns c = λ beyond room. (line-long (c .before .before .before .before .befor
 
 -- src/lib.rt:34:9
 returns-2 : tie.Need-returns-2
-returns-2 c = λ beyond room. (line-blank (c .before .before .before .before .before .before .before .args .line .now) (omega arith) (c .before .before .before .before .before .before .before .pre .0) (c .before .before .before .blank-end .result) (c .before .before .before .blank-end .ensures .place) (c .if2 .taken), refl, refl)
+returns-2 c =
+    let entry = c .before .before .before .before .before .before .before in
+    let x = entry .args in
+    λ beyond room. (line-blank (x .line .now) (omega arith) (entry .pre .0) (c .before .before .before .blank-end .result) (c .before .before .before .blank-end .ensures .place) (c .if2 .taken), refl, refl)
 
 -- src/lib.rt:37:9
 returns-3 : tie.Need-returns-3
-returns-3 c = λ beyond room. (line-comment (c .before .before .before .before .before .before .before .before .args .line .now) (omega arith) (c .before .before .before .before .before .before .before .before .pre .0) (c .before .before .before .before .blank-end .result) (c .before .before .before .before .blank-end .ensures .place) (c .before .if2 .left) (sym (c .before .before .before .byte-at .ensures) ∙ c .if3 .taken), refl, refl)
+returns-3 c =
+    let entry = c .before .before .before .before .before .before .before .before in
+    let x = entry .args in
+    λ beyond room. (line-comment (x .line .now) (omega arith) (entry .pre .0) (c .before .before .before .before .blank-end .result) (c .before .before .before .before .blank-end .ensures .place) (c .before .if2 .left) (sym (c .before .before .before .byte-at .ensures) ∙ c .if3 .taken), refl, refl)
 
 -- src/lib.rt:39:11
 -- src/lib.rt:40:28
@@ -50,18 +56,24 @@ returns-3 c = λ beyond room. (line-comment (c .before .before .before .before .
 -- src/lib.rt:24:1
 -- src/lib.rt:24:1
 returns-4 : tie.Need-returns-4
-returns-4 c = λ beyond room.
+returns-4 c =
+    let entry = c .before .before .before .before .before .before .before .before .before .before .before .before .before .before .before .before .before .before in
+    let x = entry .args in
+    λ beyond room.
     let t = answered (c .before .before .before .before .before .before .before) (pairs.Refused (c .before .f .given .0 .0)) (c .before .f .given .1) beyond room in
-    (line-rule (c .before .before .before .before .before .before .before .before .before .before .before .before .before .before .before .before .before .before .args .line .now) (omega arith) (c .before .before .before .before .before .before .before .before .before .before .before .before .before .before .before .before .before .before .pre .0) (c .before .before .before .before .before .before .before .before .before .before .before .before .before .before .blank-end .result) (c .before .before .before .before .before .before .before .before .before .before .before .before .before .before .blank-end .ensures .place) (c .before .before .before .before .before .before .before .before .before .before .before .if2 .left) (λ e. c .before .before .before .before .before .before .before .before .before .before .if3 .left (c .before .before .before .before .before .before .before .before .before .before .before .before .before .byte-at .ensures ∙ e)) ∙ ap ruleRead (t .0), t .1)
+    (line-rule (x .line .now) (omega arith) (entry .pre .0) (c .before .before .before .before .before .before .before .before .before .before .before .before .before .before .blank-end .result) (c .before .before .before .before .before .before .before .before .before .before .before .before .before .before .blank-end .ensures .place) (c .before .before .before .before .before .before .before .before .before .before .before .if2 .left) (λ e. c .before .before .before .before .before .before .before .before .before .before .if3 .left (c .before .before .before .before .before .before .before .before .before .before .before .before .before .byte-at .ensures ∙ e)) ∙ ap ruleRead (t .0), t .1)
 
 -- src/lib.rt:24:1
 -- src/lib.rt:24:1
 -- src/lib.rt:24:1
 returns-5 : tie.Need-returns-5
-returns-5 c = λ beyond room.
-    let a = c .before .before .before .before .before .before .before .before .before .before .before .before .before .before .before .before .before .before .args in
+returns-5 c =
+    let entry = c .before .before .before .before .before .before .before .before .before .before .before .before .before .before .before .before .before .before in
+    let x = entry .args in
+    λ beyond room.
+    let a = x in
     let t = answered (c .before .before .before .before .before .before .before) (pairs.Read (c .before .fill .given .0 .0)) (c .before .fill .given .1) beyond room in
-    (line-rule (c .before .before .before .before .before .before .before .before .before .before .before .before .before .before .before .before .before .before .args .line .now) (omega arith) (c .before .before .before .before .before .before .before .before .before .before .before .before .before .before .before .before .before .before .pre .0) (c .before .before .before .before .before .before .before .before .before .before .before .before .before .before .blank-end .result) (c .before .before .before .before .before .before .before .before .before .before .before .before .before .before .blank-end .ensures .place) (c .before .before .before .before .before .before .before .before .before .before .before .if2 .left) (λ e. c .before .before .before .before .before .before .before .before .before .before .if3 .left (c .before .before .before .before .before .before .before .before .before .before .before .before .before .byte-at .ensures ∙ e)) ∙ ap ruleRead (t .0), grown-from (a .n) (start (a .n) (a .used)) (a .values .now) (a .rows .now) _ _ _ _ _ _ (t .1))
+    (line-rule (x .line .now) (omega arith) (entry .pre .0) (c .before .before .before .before .before .before .before .before .before .before .before .before .before .before .blank-end .result) (c .before .before .before .before .before .before .before .before .before .before .before .before .before .before .blank-end .ensures .place) (c .before .before .before .before .before .before .before .before .before .before .before .if2 .left) (λ e. c .before .before .before .before .before .before .before .before .before .before .if3 .left (c .before .before .before .before .before .before .before .before .before .before .before .before .before .byte-at .ensures ∙ e)) ∙ ap ruleRead (t .0), grown-from (a .n) (start (a .n) (a .used)) (a .values .now) (a .rows .now) _ _ _ _ _ _ (t .1))
 
 pub read-line-spec : {M : Type 1} → statement M
 read-line-spec =

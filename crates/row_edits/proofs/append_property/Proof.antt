@@ -37,8 +37,14 @@ same-length c = search needs
 
 returns : tie.Need-returns
 returns c =
-    let a = c .before .before .before .before .before .before .before .before .before .before .before .before .args in
-    let e = c .before .before .before .before .before .before .before .insert-property .ensures in record { between = subst Bytes e (λ i. c .before .before .before .before .before .slice-known2 .given i .fits); bytes = c .before .before .before .set-count .ensures ∙ ap (λ (y : List ℕ). putAt y (countPlace Properties) (countWidth Properties) (a .n + 1)) e; layout = c .moved .ensures ∙ ap (movedBy (a .layout) Properties 0) (property-size (a .key .now) (a .value .now)) }
+    let x = c .before .before .before .before .before .before .before .before .before .before .before .before .args in
+    let a = x in
+    let e = c .before .before .before .before .before .before .before .insert-property .ensures in record {
+      between = subst Bytes e
+          (λ i. c .before .before .before .before .before .slice-known2 .given i .fits);
+      bytes = c .before .before .before .set-count .ensures ∙ ap (λ (y : List ℕ). putAt y (countPlace Properties) (countWidth Properties) (a .n + 1)) e;
+      layout = c .moved .ensures ∙ ap (movedBy (a .layout) Properties 0) (property-size (a .key .now) (a .value .now));
+    }
 
 pub append-property-spec : {M : Type 1} → statement M
 append-property-spec =

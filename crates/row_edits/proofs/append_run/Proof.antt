@@ -34,8 +34,14 @@ same-length c = search needs
 
 returns : tie.Need-returns
 returns c =
-    let a = c .before .before .before .before .before .before .before .before .before .before .before .args in
-    let e = c .before .before .before .before .before .before .before .insert-run .ensures in record { between = subst Bytes e (λ i. c .before .before .before .before .before .slice-known2 .given i .fits); bytes = c .before .before .before .set-count .ensures ∙ ap (λ (y : List ℕ). putAt y (countPlace Runs) (countWidth Runs) (a .n + 1)) e; layout = c .moved .ensures ∙ ap (movedBy (a .layout) Runs 0) (run-size (a .builtin) (a .place) (a .template .now)) }
+    let x = c .before .before .before .before .before .before .before .before .before .before .before .args in
+    let a = x in
+    let e = c .before .before .before .before .before .before .before .insert-run .ensures in record {
+      between = subst Bytes e
+          (λ i. c .before .before .before .before .before .slice-known2 .given i .fits);
+      bytes = c .before .before .before .set-count .ensures ∙ ap (λ (y : List ℕ). putAt y (countPlace Runs) (countWidth Runs) (a .n + 1)) e;
+      layout = c .moved .ensures ∙ ap (movedBy (a .layout) Runs 0) (run-size (a .builtin) (a .place) (a .template .now));
+    }
 
 pub append-run-spec : {M : Type 1} → statement M
 append-run-spec =

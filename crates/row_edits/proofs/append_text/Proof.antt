@@ -43,7 +43,15 @@ same-length c = search needs
 returns : tie.Need-returns
 returns c =
     let a = c .before .before .before .before .before .before .before .before .before .before .before .before .args in
-    let e = c .before .before .before .before .before .before .before .insert-text .ensures ∙ ap (λ (i : ℕ). inserted (a .t .now) i (a .layout .end) (encText (a .x .now))) (c .before .before .before .before .before .before .before .before .before .end-of .ensures) in record { between = subst Bytes e (λ i. c .before .before .before .before .before .slice-known2 .given i .fits); bytes = c .before .before .before .set-count .ensures ∙ ap (λ (y : List ℕ). putAt y (countPlace (a .section)) (countWidth (a .section)) (a .n + 1)) e; layout = c .moved .ensures ∙ ap-at (movedBy (a .layout) (a .section) 0) (1 + length (a .x .now)) (length (encText (a .x .now))) (omega arith) }
+    let e = c .before .before .before .before .before .before .before .insert-text .ensures ∙ ap (λ (i : ℕ). inserted (a .t .now) i (a .layout .end)
+    (encText (a .x .now))) (c .before .before .before .before .before .before .before .before .before .end-of .ensures) in record {
+      between = subst Bytes e
+          (λ i. c .before .before .before .before .before .slice-known2 .given i .fits);
+      bytes = c .before .before .before .set-count .ensures ∙ ap (λ (y : List ℕ). putAt y
+          (countPlace (a .section)) (countWidth (a .section)) (a .n + 1)) e;
+      layout = c .moved .ensures ∙ ap-at (movedBy (a .layout) (a .section) 0) (1 + length (a .x .now))
+          (length (encText (a .x .now))) (omega arith);
+    }
 
 pub append-text-spec : {M : Type 1} → statement M
 append-text-spec =

@@ -56,13 +56,17 @@ same-length c = search needs
 
 returns : tie.Need-returns
 returns c =
-    let a = c .before .before .before .before .before .before .before .before .before .before .before .before .before .before .before .before .before .before .before .args in
-    let pre = c .before .before .before .before .before .before .before .before .before .before .before .before .before .before .before .before .before .before .before .pre in
+    let entry = c .before .before .before .before .before .before .before .before .before .before .before .before .before .before .before .before .before .before .before in
+    let x = entry .args in
+    let a = x in
+    let pre = entry .pre in
     let write-property-head = c .before .before .before .before .before .before .before .before .before .before .write-property-head in
     let open-gap = c .before .before .before .before .before .before .before .before .before .before .before .before .before .before .open-gap in
     let store = c .before .before .before .before .before .before .store in
     let store2 = c .before .before .store2 in
-    two-inserted (a .t .now) (a .at) (a .used) (pre .0) (write-property-head .last .0) (a .key .now) (a .value .now) (open-gap .last .0) (store .last .0) (store2 .last .0) (ap length (write-property-head .ensures) ∙ length-packed (propFields (length (a .key .now)) (length (a .value .now))) 2 refl) (pre .1) (open-gap .ensures) (store .ensures) (store2 .ensures) ∙ ap (λ (y : List ℕ). inserted (a .t .now) (a .at) (a .used) (y ++ (a .key .now ++ a .value .now))) (write-property-head .ensures)
+    two-inserted (a .t .now) (a .at) (a .used) (pre .0) (write-property-head .last .0) (a .key .now) (a .value .now) (open-gap .last .0) (store .last .0)
+    (store2 .last .0) (ap length (write-property-head .ensures) ∙ length-packed (propFields (length (a .key .now)) (length (a .value .now))) 2 refl) (pre .1)
+    (open-gap .ensures) (store .ensures) (store2 .ensures) ∙ ap (λ (y : List ℕ). inserted (a .t .now) (a .at) (a .used) (y ++ (a .key .now ++ a .value .now))) (write-property-head .ensures)
 
 pub insert-property-spec : {M : Type 1} → statement M
 insert-property-spec =

@@ -44,12 +44,16 @@ same-length c = search needs
 
 returns : tie.Need-returns
 returns c =
-    let a = c .before .before .before .before .before .before .before .before .before .before .before .before .before .before .args in
-    let pre = c .before .before .before .before .before .before .before .before .before .before .before .before .before .before .pre in
+    let entry = c .before .before .before .before .before .before .before .before .before .before .before .before .before .before in
+    let x = entry .args in
+    let a = x in
+    let pre = entry .pre in
     let write-run-head = c .before .before .before .before .before .before .write-run-head in
     let open-gap = c .before .before .before .before .before .before .before .before .before .before .open-gap in
     let store = c .before .before .store in
-    one-inserted (a .t .now) (a .at) (a .used) (pre .0) (write-run-head .last .0) (a .template .now) (open-gap .last .0) (store .last .0) (ap length (write-run-head .ensures) ∙ length-packed (runBits (a .builtin) (a .place) (length (a .template .now))) 2 refl) (pre .1) (open-gap .ensures) (store .ensures) ∙ ap (λ (y : List ℕ). inserted (a .t .now) (a .at) (a .used) (y ++ a .template .now)) (write-run-head .ensures)
+    one-inserted (a .t .now) (a .at) (a .used) (pre .0) (write-run-head .last .0) (a .template .now) (open-gap .last .0) (store .last .0)
+    (ap length (write-run-head .ensures) ∙ length-packed (runBits (a .builtin) (a .place) (length (a .template .now))) 2 refl) (pre .1) (open-gap .ensures)
+    (store .ensures) ∙ ap (λ (y : List ℕ). inserted (a .t .now) (a .at) (a .used) (y ++ a .template .now)) (write-run-head .ensures)
 
 pub insert-run-spec : {M : Type 1} → statement M
 insert-run-spec =

@@ -45,8 +45,17 @@ same-length c = search needs
 
 returns : tie.Need-returns
 returns c =
-    let a = c .before .before .before .before .before .before .before .before .before .before .before .args in
-    let k = c .before .before .before .write-property-head in record { bytes = ap (λ (y : List ℕ). take (a .at) (c .before .before .before .before .before .before .before .replace .last .0) ++ (y ++ drop (a .at + 2 - a .at) (drop (a .at) (c .before .before .before .before .before .before .before .replace .last .0)))) (k .ensures) ∙ lent (a .at) (c .before .before .before .before .before .before .before .replace .last .0) (packed (propFields (a .key) (length (a .value .now)))) (length-packed (propFields (a .key) (length (a .value .now))) 2 refl) ∙ ap (λ (y : List ℕ). stored y (a .at) (packed (propFields (a .key) (length (a .value .now))))) (c .before .before .before .before .before .before .before .replace .ensures); layout = c .moved .ensures }
+    let x = c .before .before .before .before .before .before .before .before .before .before .before .args in
+    let a = x in
+    let k = c .before .before .before .write-property-head in record {
+      bytes = ap (λ (y : List ℕ). take (a .at)
+          (c .before .before .before .before .before .before .before .replace .last .0) ++ (y ++ drop (a .at + 2 - a .at)
+          (drop (a .at) (c .before .before .before .before .before .before .before .replace .last .0)))) (k .ensures) ∙ lent (a .at)
+          (c .before .before .before .before .before .before .before .replace .last .0) (packed (propFields (a .key) (length (a .value .now))))
+          (length-packed (propFields (a .key) (length (a .value .now))) 2 refl) ∙ ap (λ (y : List ℕ). stored y (a .at)
+          (packed (propFields (a .key) (length (a .value .now))))) (c .before .before .before .before .before .before .before .replace .ensures);
+      layout = c .moved .ensures;
+    }
 
 pub replace-value-spec : {M : Type 1} → statement M
 replace-value-spec =

@@ -16,10 +16,12 @@ same-length c = search needs
 
 returns : tie.Need-returns
 returns c =
-    let a = c .before .before .before .before .before .before .before .before .before .args in
+    let entry = c .before .before .before .before .before .before .before .before .before in
+    let x = entry .args in
+    let a = x in
     let put = c .before .before .before .before .before .before .put in
     let put2 = c .before .before .put2 in
-    property-head (a .head .now) (put .last .1 .0) (put2 .last .1 .0) (put .result .at) (a .key) (a .value) (c .before .before .before .before .before .before .before .before .before .pre) (λ i. c .before .before .before .before .before .before .before .before .slice-known .given i .fits) (put .ensures .bytes) (put .ensures .next) (put2 .ensures .bytes)
+    property-head (a .head .now) (put .last .1 .0) (put2 .last .1 .0) (put .result .at) (a .key) (a .value) (entry .pre) (λ i. c .before .before .before .before .before .before .before .before .slice-known .given i .fits) (put .ensures .bytes) (put .ensures .next) (put2 .ensures .bytes)
 
 pub write-property-head-spec : {M : Type 1} → statement M
 write-property-head-spec = tie.close (tie.spec put-requires put-requires-2 same-length returns)

@@ -64,9 +64,12 @@ ok-property-requires c κs = tt
 
 returns-2 : tie.Need-returns-2 Inv-loop μ-loop
 returns-2 c =
+    let x = c .before .before .before .before .before .before .before .before .before .before .before .args in
     let l = c .before .before .before .before .before .before .before .before .before .loop in
-    let a = c .before .before .before .before .before .before .before .before .before .before .before .args in
-    sym (l .inv .1 ∙ check-faulty property-reads (a .rec .now) (l .p) (l .left) (c .before .before .before .before .before .before .before .before .loop-test .taken) (sym (property-ok (a .rec .now) (l .p) (c .before .before .before .before .before .entry .given .0 .0) (inside (c .before .before .before .before))) ∙ sym (c .before .ok-property .ensures) ∙ not-true _ (c .if1 .taken)))
+    let a = x in
+    sym (l .inv .1 ∙ check-faulty property-reads (a .rec .now) (l .p) (l .left) (c .before .before .before .before .before .before .before .before .loop-test .taken)
+    (sym (property-ok (a .rec .now) (l .p) (c .before .before .before .before .before .entry .given .0 .0)
+    (inside (c .before .before .before .before))) ∙ sym (c .before .ok-property .ensures) ∙ not-true _ (c .if1 .taken)))
 
 sub-left : tie.Need-sub-left Inv-loop μ-loop
 sub-left c = omega arith
@@ -76,10 +79,15 @@ loop-less c = omega arith
 
 loop-again : tie.Need-loop-again Inv-loop μ-loop
 loop-again c =
+    let x = c .before .before .before .before .before .before .before .before .before .before .before .args in
     let l = c .before .before .before .before .before .before .before .before .before .loop in
-    let a = c .before .before .before .before .before .before .before .before .before .before .before .args in
-    let entry = c .before .before .before .before .before .entry in
-    (inside (c .before .before .before .before) .within, l .inv .1 ∙ check-next property-reads (a .rec .now) (l .p) (l .left) (c .before .before .before .before .before .before .before .before .loop-test .taken) (entry .given .0 .0) (inside (c .before .before .before .before)) (sym (property-ok (a .rec .now) (l .p) (entry .given .0 .0) (inside (c .before .before .before .before))) ∙ sym (c .before .ok-property .ensures) ∙ not-false _ (c .if1 .left)))
+    let a = x in
+    let entry = c .before .before .before .before .before .entry in (
+      inside (c .before .before .before .before) .within,
+      l .inv .1 ∙ check-next property-reads (a .rec .now) (l .p) (l .left)
+          (c .before .before .before .before .before .before .before .before .loop-test .taken) (entry .given .0 .0) (inside (c .before .before .before .before))
+          (sym (property-ok (a .rec .now) (l .p) (entry .given .0 .0) (inside (c .before .before .before .before))) ∙ sym (c .before .ok-property .ensures) ∙ not-false _ (c .if1 .left)),
+    )
 
 returns-3 : tie.Need-returns-3 Inv-loop μ-loop
 returns-3 c =

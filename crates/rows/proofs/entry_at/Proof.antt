@@ -22,7 +22,9 @@ add-if2 : tie.Need-add-if2
 add-if2 c = search needs
 
 returns-2 : tie.Need-returns-2
-returns-2 c = omega (arith, length-drop (c .before .before .before .before .before .before .args .p) (c .before .before .before .before .before .before .args .rec .now), c .before .before .before .before .head-len .ensures, c .before .before .shape-at .ensures .name, c .before .before .shape-at .ensures .rest)
+returns-2 c =
+    let x = c .before .before .before .before .before .before .args in
+    omega (arith, length-drop (x .p) (x .rec .now), c .before .before .before .before .head-len .ensures, c .before .before .shape-at .ensures .name, c .before .before .shape-at .ensures .rest)
 
 add-name : tie.Need-add-name
 add-name c = search needs

@@ -23,7 +23,10 @@ add-t7 : tie.Need-add-t7
 add-t7 c = omega (arith, length-drop (c .before .before .before .before .before .args .p) (c .before .before .before .before .before .args .rec .now))
 
 returns : tie.Need-returns
-returns c = placed (c .before .before .before .before .before .args .kind) (c .before .before .before .before .before .args .rec .now) (c .before .before .before .before .before .args .p) (c .before .before .head-len .result) (c .before .before .before .shape-at .result) (c .before .before .head-len .ensures) (c .before .before .before .shape-at .ensures) (c .before .before .before .before .before .pre .1)
+returns c =
+    let entry = c .before .before .before .before .before in
+    let x = entry .args in
+    placed (x .kind) (x .rec .now) (x .p) (c .before .before .head-len .result) (c .before .before .before .shape-at .result) (c .before .before .head-len .ensures) (c .before .before .before .shape-at .ensures) (entry .pre .1)
 
 pub parts-at-spec : {M : Type 1} → statement M
 parts-at-spec =

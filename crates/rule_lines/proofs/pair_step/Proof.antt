@@ -53,7 +53,14 @@ enum-known-p c = search needs
 
 -- src/lib.rt:77:17
 returns : tie.Need-returns
-returns c = λ from beyond h room. (step-extra (c .before .before .before .before .before .before .before .before .args .line .now) (c .before .before .before .before .before .before .before .before .args .at) (pairRead (c .before .before .before .before .read-pair .result)) (c .before .before .before .before .read-pair .ensures .0) (c .before .before .before .before .before .before .before .before .args .left) _ (c .before .before .p .given .0 .0) (ap pairRead (c .before .before .p .given .1)) (c .if1 .taken), kept-refl _ _ (c .before .before .before .before .before .before .before .before .args .values .now) (c .before .before .before .before .before .before .before .before .args .rows .now))
+returns c =
+    let x = c .before .before .before .before .before .before .before .before .args in
+    λ from beyond h room. (
+      step-extra (x .line .now) (x .at) (pairRead (c .before .before .before .before .read-pair .result))
+          (c .before .before .before .before .read-pair .ensures .0) (x .left) _ (c .before .before .p .given .0 .0) (ap pairRead (c .before .before .p .given .1))
+          (c .if1 .taken),
+      kept-refl _ _ (x .values .now) (x .rows .now),
+    )
 
 -- src/lib.rt:81:19
 note-requires : tie.Need-note-requires
@@ -66,13 +73,18 @@ enum-known-noted c = search needs
 -- src/lib.rt:84:25
 put-pair-requires : tie.Need-put-pair-requires
 put-pair-requires c κs =
+    let entry = c .before .before .before .before .before .before .before .before .before .before .before .before .before .before in
     let a = c .before .before .before .before .before .before .before .before .before .before .before .before .before .before .args in
-    let x = room-here (a .line .now) (a .at) (c .before .before .before .before .before .before .before .before .p .given .0 .0) (here (c .before .before .before .before .before .before .before .before)) (inside (c .before .before .before .before .before .before .before .before)) (a .fill) (c .before .before .before .noted .given .0 .0) (once (c .before .before .before)) (a .values .now) (a .rows .now) (c .before .before .before .before .before .before .before .before .before .before .before .before .before .before .pre .1) in
-    (inside (c .before .before .before .before .before .before .before .before), x .0, c .before .before .before .before .before .before .before .before .before .before .before .before .before .before .pre .1 .small, x .1, marked (c .before .before .before .before .before .before .before .before))
+    let x = room-here (a .line .now) (a .at) (c .before .before .before .before .before .before .before .before .p .given .0 .0)
+    (here (c .before .before .before .before .before .before .before .before)) (inside (c .before .before .before .before .before .before .before .before)) (a .fill)
+    (c .before .before .before .noted .given .0 .0) (once (c .before .before .before)) (a .values .now) (a .rows .now) (entry .pre .1) in
+    (inside (c .before .before .before .before .before .before .before .before), x .0, entry .pre .1 .small, x .1, marked (c .before .before .before .before .before .before .before .before))
 
 -- src/lib.rt:88:31
 add-if2 : tie.Need-add-if2
-add-if2 c = omega (arith, c .before .before .before .before .before .before .before .before .before .before .before .before .before .before .before .before .before .before .before .pre .1 .rows, c .before .before .before .before .before .before .before .before .before .before .before .before .before .before .before .before .before .before .before .pre .1 .few, once (c .before .before .before .before .before .before .before .before) .rows)
+add-if2 c =
+    let entry = c .before .before .before .before .before .before .before .before .before .before .before .before .before .before .before .before .before .before .before in
+    omega (arith, entry .pre .1 .rows, entry .pre .1 .few, once (c .before .before .before .before .before .before .before .before) .rows)
 
 -- src/lib.rt:92:25
 same-length : tie.Need-same-length
@@ -84,9 +96,17 @@ same-length-2 c = search needs
 
 -- src/lib.rt:92:25
 returns-2 : tie.Need-returns-2
-returns-2 c = λ from beyond h room.
-    let a = c .before .before .before .before .before .before .before .before .before .before .before .before .before .before .before .before .before .before .before .before .args in
-    step-last (a .line .now) (a .at) (c .before .before .before .before .before .before .before .before .before .before .before .before .before .before .p .given .0 .0) (here (c .before .before .before .before .before .before .before .before .before .before .before .before .before .before)) (inside (c .before .before .before .before .before .before .before .before .before .before .before .before .before .before)) (a .fill) (c .before .before .before .before .before .before .before .before .before .noted .given .0 .0) (once (c .before .before .before .before .before .before .before .before .before)) (a .left) (a .values .now) (a .rows .now) (c .before .before .before .before .before .put-pair .last .0) (c .before .before .before .before .before .put-pair .last .1 .0) (c .before .before .before .before .before .put-pair .result) from beyond (omega arith) h room (c .before .before .before .before .before .put-pair .ensures) (c .if2 .taken)
+returns-2 c =
+    let x = c .before .before .before .before .before .before .before .before .before .before .before .before .before .before .before .before .before .before .before .before .args in
+    λ from beyond h room.
+    let a = x in
+    step-last (a .line .now) (a .at) (c .before .before .before .before .before .before .before .before .before .before .before .before .before .before .p .given .0 .0)
+    (here (c .before .before .before .before .before .before .before .before .before .before .before .before .before .before))
+    (inside (c .before .before .before .before .before .before .before .before .before .before .before .before .before .before)) (a .fill)
+    (c .before .before .before .before .before .before .before .before .before .noted .given .0 .0)
+    (once (c .before .before .before .before .before .before .before .before .before)) (a .left) (a .values .now) (a .rows .now)
+    (c .before .before .before .before .before .put-pair .last .0) (c .before .before .before .before .before .put-pair .last .1 .0)
+    (c .before .before .before .before .before .put-pair .result) from beyond (omega arith) h room (c .before .before .before .before .before .put-pair .ensures) (c .if2 .taken)
 
 -- src/lib.rt:94:24
 shared-slice-read-if3 : tie.Need-shared-slice-read-if3
@@ -102,14 +122,17 @@ same-length-4 c = search needs
 
 -- src/lib.rt:95:25
 returns-3 : tie.Need-returns-3
-returns-3 c = λ from beyond h room.
-    let a = c .before .before .before .before .before .before .before .before .before .before .before .before .before .before .before .before .before .before .before .before .before .before .args in
+returns-3 c =
+    let x = c .before .before .before .before .before .before .before .before .before .before .before .before .before .before .before .before .before .before .before .before .before .before .args in
+    λ from beyond h room.
+    let a = x in
     let noted = once (c .before .before .before .before .before .before .before .before .before .before .before) in
     (step-comma (a .line .now) (a .at) (c .before .before .before .before .before .before .before .before .before .before .before .before .before .before .before .before .p .given .0 .0) (here (c .before .before .before .before .before .before .before .before .before .before .before .before .before .before .before .before)) (inside (c .before .before .before .before .before .before .before .before .before .before .before .before .before .before .before .before)) (a .fill) (c .before .before .before .before .before .before .before .before .before .before .before .noted .given .0 .0) (once (c .before .before .before .before .before .before .before .before .before .before .before)) (a .left) (a .values .now) (a .rows .now) (c .before .before .before .before .before .before .before .put-pair .last .0) (c .before .before .before .before .before .before .before .put-pair .last .1 .0) (c .before .before .before .before .before .before .before .put-pair .result) from beyond (omega arith) h room (c .before .before .before .before .before .before .before .put-pair .ensures) (c .before .before .if2 .left) (c .if3 .taken), rw (noted .used, noted .rows) at (c .before .before .before .before .before .before .before .put-pair .ensures .kept))
 
 -- src/lib.rt:97:39
 add-t26 : tie.Need-add-t26
-add-t26 c = let good = c .before .before .before .before .before .before .before .before .before .before .before .before .before .before .before .before .before .before .before .before .before .before .good in let known = c .before .shared-slice-known2 .given in let behind = c .before .before .if2 .left in omega (arith, behind, good)
+add-t26 c =
+    let good = c .before .before .before .before .before .before .before .before .before .before .before .before .before .before .before .before .before .before .before .before .before .before .good in let known = c .before .shared-slice-known2 .given in let behind = c .before .before .if2 .left in omega (arith, behind, good)
 
 -- src/lib.rt:99:47
 enum-told : tie.Need-enum-told
@@ -129,19 +152,29 @@ same-length-6 c = search needs
 
 -- src/lib.rt:70:1
 returns-4 : tie.Need-returns-4
-returns-4 c = λ from beyond h room.
-    let a = c .before .before .before .before .before .before .before .before .before .before .before .before .before .before .before .before .before .before .before .before .before .before .args in
+returns-4 c =
+    let x = c .before .before .before .before .before .before .before .before .before .before .before .before .before .before .before .before .before .before .before .before .before .before .args in
+    λ from beyond h room.
+    let a = x in
     step-next (a .line .now) (a .at) (c .before .before .before .before .before .before .before .before .before .before .before .before .before .before .before .before .p .given .0 .0) (here (c .before .before .before .before .before .before .before .before .before .before .before .before .before .before .before .before)) (inside (c .before .before .before .before .before .before .before .before .before .before .before .before .before .before .before .before)) (a .fill) (c .before .before .before .before .before .before .before .before .before .before .before .noted .given .0 .0) (once (c .before .before .before .before .before .before .before .before .before .before .before)) (a .left) (a .values .now) (a .rows .now) (c .before .before .before .before .before .before .before .put-pair .last .0) (c .before .before .before .before .before .before .before .put-pair .last .1 .0) (c .before .before .before .before .before .before .before .put-pair .result) from beyond (omega arith) h room (c .before .before .before .before .before .before .before .put-pair .ensures) (c .before .before .if2 .left) (c .if3 .left)
 
 -- src/lib.rt:70:1
 returns-5 : tie.Need-returns-5
-returns-5 c = λ from beyond h room.
-    let a = c .before .before .before .before .before .before .before .before .before .before .before .args in
-    (again-here (a .line .now) (a .at) (c .before .before .before .before .before .p .given .0 .0) (here (c .before .before .before .before .before)) (inside (c .before .before .before .before .before)) (a .left) (a .values .now) (a .rows .now) from (a .fill) (omega arith) h (ap notedBy (sym (c .enum-told .given .1)) ∙ c .before .before .note .ensures), kept-refl _ _ (a .values .now) (a .rows .now))
+returns-5 c =
+    let x = c .before .before .before .before .before .before .before .before .before .before .before .args in
+    λ from beyond h room.
+    let a = x in (
+      again-here (a .line .now) (a .at) (c .before .before .before .before .before .p .given .0 .0) (here (c .before .before .before .before .before))
+          (inside (c .before .before .before .before .before)) (a .left) (a .values .now) (a .rows .now) from (a .fill)
+          (omega arith) h (ap notedBy (sym (c .enum-told .given .1)) ∙ c .before .before .note .ensures),
+      kept-refl _ _ (a .values .now) (a .rows .now),
+    )
 
 -- src/lib.rt:70:1
 returns-6 : tie.Need-returns-6
-returns-6 c = λ from beyond h room. (step-refused (c .before .before .before .before .before .before .before .args .line .now) (c .before .before .before .before .before .before .before .args .at) (pairRead (c .before .before .before .read-pair .result)) (c .before .before .before .read-pair .ensures .0) (c .before .before .before .before .before .before .before .args .left) _ (c .before .f .given .0 .0) (ap pairRead (c .before .f .given .1)), kept-refl _ _ (c .before .before .before .before .before .before .before .args .values .now) (c .before .before .before .before .before .before .before .args .rows .now))
+returns-6 c =
+    let x = c .before .before .before .before .before .before .before .args in
+    λ from beyond h room. (step-refused (x .line .now) (x .at) (pairRead (c .before .before .before .read-pair .result)) (c .before .before .before .read-pair .ensures .0) (x .left) _ (c .before .f .given .0 .0) (ap pairRead (c .before .f .given .1)), kept-refl _ _ (x .values .now) (x .rows .now))
 
 pub pair-step-spec : {M : Type 1} → statement M
 pair-step-spec =

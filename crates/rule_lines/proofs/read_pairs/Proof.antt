@@ -55,8 +55,13 @@ taken w o e beyond room =
 loop-holds : tie.Need-loop-holds Inv-loop μ-loop
 loop-holds c =
     let s = c .before .before .before in
-    let a = s .args in
-    (s .pre .0, ap (λ (ps : List Pair). pairsOn 32 ps (drop (a .at) (a .line .now))) (held-none (a .values .now) (a .rows .now) (a .n) (a .used)) ∙ on-start 32 (drop (a .at) (a .line .now)), λ beyond room. grown-start (a .values .now) (a .rows .now) (a .n) (a .used) (s .pre .1) (beyond + (length (a .line .now) - a .at) + 1) room)
+    let a = s .args in (
+      s .pre .0,
+      ap (λ (ps : List Pair). pairsOn 32 ps (drop (a .at) (a .line .now)))
+          (held-none (a .values .now) (a .rows .now) (a .n) (a .used)) ∙ on-start 32 (drop (a .at) (a .line .now)),
+      λ beyond room. grown-start (a .values .now) (a .rows .now)
+          (a .n) (a .used) (s .pre .1) (beyond + (length (a .line .now) - a .at) + 1) room,
+    )
 
 -- src/lib.rt:125:15
 pair-step-requires : tie.Need-pair-step-requires Inv-loop μ-loop
@@ -109,18 +114,28 @@ enum-known-all-2 c = search needs
 
 -- src/lib.rt:135:17
 sub-left : tie.Need-sub-left Inv-loop μ-loop
-sub-left c = let a = c .before .before .before .before .before .before .before .before .before .before .before .before .before .before .args in let t = taken (c .before .before .before .before .before .before .before) (step.Next (c .before .all2 .given .0 .0) (c .before .all2 .given .0 .1 .0)) (c .before .all2 .given .1) 0 (room-zero _ (a .values .now) (a .rows .now) (start (a .n) (a .used)) (c .before .before .before .before .before .before .before .before .before .before .before .before .before .before .pre .2)) in omega (arith, t .2)
+sub-left c =
+    let entry = c .before .before .before .before .before .before .before .before .before .before .before .before .before .before in
+    let x = entry .args in
+    let a = x in let t = taken (c .before .before .before .before .before .before .before) (step.Next (c .before .all2 .given .0 .0) (c .before .all2 .given .0 .1 .0))
+    (c .before .all2 .given .1) 0 (room-zero _ (a .values .now) (a .rows .now) (start (a .n) (a .used)) (entry .pre .2)) in omega (arith, t .2)
 
 -- src/lib.rt:124:5
 loop-less : tie.Need-loop-less Inv-loop μ-loop
-loop-less c = let a = c .before .before .before .before .before .before .before .before .before .before .before .before .before .before .args in let t = taken (c .before .before .before .before .before .before .before) (step.Next (c .before .all2 .given .0 .0) (c .before .all2 .given .0 .1 .0)) (c .before .all2 .given .1) 0 (room-zero _ (a .values .now) (a .rows .now) (start (a .n) (a .used)) (c .before .before .before .before .before .before .before .before .before .before .before .before .before .before .pre .2)) in omega (arith, t .2)
+loop-less c =
+    let entry = c .before .before .before .before .before .before .before .before .before .before .before .before .before .before in
+    let x = entry .args in
+    let a = x in let t = taken (c .before .before .before .before .before .before .before) (step.Next (c .before .all2 .given .0 .0) (c .before .all2 .given .0 .1 .0))
+    (c .before .all2 .given .1) 0 (room-zero _ (a .values .now) (a .rows .now) (start (a .n) (a .used)) (entry .pre .2)) in omega (arith, t .2)
 
 -- src/lib.rt:124:5
 loop-again : tie.Need-loop-again Inv-loop μ-loop
 loop-again c =
-    let a = c .before .before .before .before .before .before .before .before .before .before .before .before .before .before .args in
+    let entry = c .before .before .before .before .before .before .before .before .before .before .before .before .before .before in
+    let x = entry .args in
+    let a = x in
     let l = c .before .before .before .before .before .before .before .before .before .before .loop in
-    let t = taken (c .before .before .before .before .before .before .before) (step.Next (c .before .all2 .given .0 .0) (c .before .all2 .given .0 .1 .0)) (c .before .all2 .given .1) 0 (room-zero _ (a .values .now) (a .rows .now) (start (a .n) (a .used)) (c .before .before .before .before .before .before .before .before .before .before .before .before .before .before .pre .2)) in (
+    let t = taken (c .before .before .before .before .before .before .before) (step.Next (c .before .all2 .given .0 .0) (c .before .all2 .given .0 .1 .0)) (c .before .all2 .given .1) 0 (room-zero _ (a .values .now) (a .rows .now) (start (a .n) (a .used)) (entry .pre .2)) in (
       t .4,
       sym (t .0) ∙ l .inv .1,
       λ beyond room.

@@ -28,8 +28,11 @@ same-length : tie.Need-same-length
 same-length c = search needs
 
 returns : tie.Need-returns
-returns c = let a = c .before .before .before .before .before .before .before .before .before .before .before .args in
-    ap (answered (c .refused .result)) (c .before .before .before .clear .ensures) ∙ c .refused .ensures (length (a .target .now)) ∙ sym (run-short (a .text .now) (a .device .now) (a .outcome .now) (a .sheet .now) (length (a .target .now)) (omega (arith, c .before .before .before .before .before .if1 .taken)))
+returns c =
+    let x = c .before .before .before .before .before .before .before .before .before .before .before .args in
+    let a = x in
+    ap (answered (c .refused .result)) (c .before .before .before .clear .ensures) ∙ c .refused .ensures (length (a .target .now)) ∙ sym (run-short (a .text .now)
+    (a .device .now) (a .outcome .now) (a .sheet .now) (length (a .target .now)) (omega (arith, c .before .before .before .before .before .if1 .taken)))
 
 run-least-requires : tie.Need-run-least-requires
 run-least-requires c κs = search needs

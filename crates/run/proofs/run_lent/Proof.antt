@@ -38,8 +38,10 @@ refused-requires c κs =
 
 returns : tie.Need-returns
 returns c =
+    let a = c .before .before .before .before .before .before .before .before .before .before .before .before .before .before .before .before .before .before .before .before .before .before .before .before .before .before .before .before .before .before .before .before .before .before .before .before .before .before .args in
+    let x = a in
     let counts = c .before .before .before .before .before .before .before .before .before .before .counts .given in
-    c .before .before .run-table .ensures (c .before .before .before .before .before .before .before .before .before .before .before .before .before .before .before .before .before .before .before .before .before .before .before .before .before .before .before .before .before .before .before .before .before .before .before .before .before .before .args .text .now) (text-is (c .before .before .before .before .before .before .before .before .before .before .before .before .before .before .before .before .before .before .before .before .before .before) (read.Accepted (counts .0 .0)) (counts .1) .is)
+    c .before .before .run-table .ensures (x .text .now) (text-is (c .before .before .before .before .before .before .before .before .before .before .before .before .before .before .before .before .before .before .before .before .before .before) (read.Accepted (counts .0 .0)) (counts .1) .is)
 
 returns-2 : tie.Need-returns-2
 returns-2 c =

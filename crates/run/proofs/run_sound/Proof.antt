@@ -83,7 +83,8 @@ returns-2 c =
     let given = c .before .before .before .before .before .before .refusal .given in
     let clear = c .before .before .before .clear in
     λ x is d s h.
-    sound-refused (length (a .t .now)) (length (run-rules .last .1 .1 .1 .1 .1 .1 .1 .1 .0)) (clear .last .0) (clear .ensures) (omega (arith, run-rules .ensures .length, c .before .before .before .before .before .before .before .before .before .before .before .before .before .before .load .kept .0)) (runFrom (engine x) d next s (rulesFrom (a .values .now) (a .rows .now) (a .rules .now) 0 (a .count))) (given .0 .1 .0) (refusalOf (given .0 .0))
+    sound-refused (length (a .t .now)) (length (run-rules .last .1 .1 .1 .1 .1 .1 .1 .1 .0)) (clear .last .0) (clear .ensures)
+    (omega (arith, run-rules .ensures .length, c .before .before .before .before .before .before .before .before .before .before .before .before .before .before .load .kept .0)) (runFrom (engine x) d next s (rulesFrom (a .values .now) (a .rows .now) (a .rules .now) 0 (a .count))) (given .0 .1 .0) (refusalOf (given .0 .0))
     (ran (c .before .before .before .before .before .before .before .before .before .before) (all.Refused (given .0 .0) (given .0 .1 .0)) (given .1) x is d s h) (c .refused .result) (c .refused .ensures)
 
 pub run-sound-spec : {M : Type 1} → statement M

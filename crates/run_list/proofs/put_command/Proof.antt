@@ -67,14 +67,23 @@ same-length c = search needs
 
 returns : tie.Need-returns
 returns c =
-    let pre = c .before .before .before .before .before .before .before .before .before .before .before .before .before .before .before .pre in
-    let args = c .before .before .before .before .before .before .before .before .before .before .before .before .before .before .before .args in
+    let entry = c .before .before .before .before .before .before .before .before .before .before .before .before .before .before .before in
+    let x = entry .args in
+    let pre = entry .pre in
+    let args = x in
     let substitute = c .before .before .before .before .before .before .before .before .before .substitute in
     let the-k = c .before .before .before .before .before .k in
     let write-head = c .before .before .write-head in
     let w : Text (filled false (pre .2 .0) (args .template .now)) (take (args .at + 2 + 512 - (args .at + 2)) (drop (args .at + 2) (args .t .now))) (the-k .given .0 .0) (substitute .last .1 .1 .1 .1 .1 .0) = rw (the-k .given .1) at (substitute .ensures (pre .2 .0) (pre .2 .1)) in
-    let few : (the-k .given .0 .0) ≤ 512 = omega (arith, w .room, length-part (args .t .now) (args .at + 2) (args .at + 2 + 512) (omega arith)) in
-    (omega arith, λ s h. let v : Text (filled false s (args .template .now)) (take (args .at + 2 + 512 - (args .at + 2)) (drop (args .at + 2) (args .t .now))) (the-k .given .0 .0) (substitute .last .1 .1 .1 .1 .1 .0) = rw (the-k .given .1) at (substitute .ensures s h) in command-made (args .t .now) (substitute .last .1 .1 .1 .1 .1 .0) (lentPart (args .t .now) (args .at + 2) (args .at + 2 + 512) (substitute .last .1 .1 .1 .1 .1 .0)) (write-head .last .0) (lentPart (lentPart (args .t .now) (args .at + 2) (args .at + 2 + 512) (substitute .last .1 .1 .1 .1 .1 .0)) (args .at) (args .at + 2) (write-head .last .0)) (args .at) (the-k .given .0 .0) (args .builtin) (filled false s (args .template .now)) (pre .0) v (v .size ∙ length-part (args .t .now) (args .at + 2) (args .at + 2 + 512) (omega arith) ∙ omega arith) few refl (write-head .ensures) refl)
+    let few : (the-k .given .0 .0) ≤ 512 = omega (arith, w .room, length-part (args .t .now) (args .at + 2) (args .at + 2 + 512) (omega arith)) in (
+      omega arith,
+      λ s h. let v : Text (filled false s (args .template .now)) (take (args .at + 2 + 512 - (args .at + 2)) (drop (args .at + 2) (args .t .now)))
+          (the-k .given .0 .0) (substitute .last .1 .1 .1 .1 .1 .0) = rw (the-k .given .1) at (substitute .ensures s h) in command-made (args .t .now)
+          (substitute .last .1 .1 .1 .1 .1 .0) (lentPart (args .t .now) (args .at + 2) (args .at + 2 + 512) (substitute .last .1 .1 .1 .1 .1 .0)) (write-head .last .0)
+          (lentPart (lentPart (args .t .now) (args .at + 2) (args .at + 2 + 512) (substitute .last .1 .1 .1 .1 .1 .0)) (args .at) (args .at + 2) (write-head .last .0))
+          (args .at) (the-k .given .0 .0) (args .builtin) (filled false s (args .template .now))
+          (pre .0) v (v .size ∙ length-part (args .t .now) (args .at + 2) (args .at + 2 + 512) (omega arith) ∙ omega arith) few refl (write-head .ensures) refl,
+    )
 
 same-length-2 : tie.Need-same-length-2
 same-length-2 c = search needs

@@ -34,10 +34,18 @@ enum-told : tie.Need-enum-told
 enum-told c = search needs
 
 returns : tie.Need-returns
-returns c = let v = c .before .before .before .before .before .before .args .value .now in let e : numberOf (c .before .before .before .integer-of .result) ≡ integerOf (drop 14 v) = c .before .before .before .integer-of .ensures ∙ ap integerOf (take-all (length v - 14) (drop 14 v) (omega (arith, length-drop 14 v))) in rw (← e, c .before .z .given .1) (ap (λ (z : ℤ). some (priority z)) (toZ-ofZ (integer-fits (drop 14 v) (c .before .z .given .0 .0) (sym e ∙ ap numberOf (c .before .z .given .1)))))
+returns c =
+    let a = c .before .before .before .before .before .before .args in
+    let x = a in
+    let v = x .value .now in let e : numberOf (c .before .before .before .integer-of .result) ≡ integerOf
+    (drop 14 v) = c .before .before .before .integer-of .ensures ∙ ap integerOf
+    (take-all (length v - 14) (drop 14 v) (omega (arith, length-drop 14 v))) in rw (← e, c .before .z .given .1)
+    (ap (λ (z : ℤ). some (priority z)) (toZ-ofZ (integer-fits (drop 14 v) (c .before .z .given .0 .0) (sym e ∙ ap numberOf (c .before .z .given .1)))))
 
 returns-2 : tie.Need-returns-2
-returns-2 c = let v = c .before .before .before .before .before .args .value .now in let e : numberOf (c .before .before .integer-of .result) ≡ integerOf (drop 14 v) = c .before .before .integer-of .ensures ∙ ap integerOf (take-all (length v - 14) (drop 14 v) (omega (arith, length-drop 14 v))) in rw (← e, c .enum-told .given .1)
+returns-2 c =
+    let x = c .before .before .before .before .before .args in
+    let v = x .value .now in let e : numberOf (c .before .before .integer-of .result) ≡ integerOf (drop 14 v) = c .before .before .integer-of .ensures ∙ ap integerOf (take-all (length v - 14) (drop 14 v) (omega (arith, length-drop 14 v))) in rw (← e, c .enum-told .given .1)
 
 pub priority-of-spec : {M : Type 1} → statement M
 priority-of-spec =

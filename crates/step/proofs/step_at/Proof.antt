@@ -24,14 +24,16 @@ returns c =
     let x = c .before .before .before .before .before .before .before .before .before .before .before .before .before .before .before .before .before .before .before .args in
     let asked = c .before .before .before .before .before .before .before .before .before .before .before .before .judge in
     let assign-all = c .before .before .before .before .before .assign-all in
-    λ a is d s h. asked-left a d (x .place) (pairsFrom (x .values .now) (x .rows .now) (x .from) (x .to - x .from)) (x .dev .now) (x .chain) (x .t .now) (x .layout) (x .sheet .now) is s h _ (asked .result) (asked .ensures) _ (c .before .before .before .before .before .before .before .before .left .given .1) _ (assign-all .result) (λ s₁ h₁. assign-all .ensures d s₁ h₁) _ (c .before .left2 .given .1)
+    λ a is d s h. asked-left a d (x .place) (pairsFrom (x .values .now) (x .rows .now) (x .from) (x .to - x .from)) (x .dev .now) (x .chain) (x .t .now) (x .layout)
+    (x .sheet .now) is s h _ (asked .result) (asked .ensures) _ (c .before .before .before .before .before .before .before .before .left .given .1) _ (assign-all .result) (λ s₁ h₁. assign-all .ensures d s₁ h₁) _ (c .before .left2 .given .1)
 
 returns-2 : tie.Need-returns-2
 returns-2 c =
     let x = c .before .before .before .before .before .before .before .before .before .before .before .before .before .before .before .before .before .before .before .args in
     let asked = c .before .before .before .before .before .before .before .before .before .before .before .before .judge in
     let assign-all = c .before .before .before .before .before .assign-all in
-    λ a is d s h. assign-refused a d (x .place) (pairsFrom (x .values .now) (x .rows .now) (x .from) (x .to - x .from)) (x .dev .now) (x .chain) (x .t .now) (x .layout) (x .sheet .now) is s h _ (asked .result) (asked .ensures) _ (c .before .before .before .before .before .before .before .before .left .given .1) _ (assign-all .result) (λ s₁ h₁. assign-all .ensures d s₁ h₁) _ (c .before .refusal .given .1)
+    λ a is d s h. assign-refused a d (x .place) (pairsFrom (x .values .now) (x .rows .now) (x .from) (x .to - x .from)) (x .dev .now) (x .chain) (x .t .now) (x .layout)
+    (x .sheet .now) is s h _ (asked .result) (asked .ensures) _ (c .before .before .before .before .before .before .before .before .left .given .1) _ (assign-all .result) (λ s₁ h₁. assign-all .ensures d s₁ h₁) _ (c .before .refusal .given .1)
 
 returns-3 : tie.Need-returns-3
 returns-3 c =

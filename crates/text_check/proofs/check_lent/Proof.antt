@@ -62,7 +62,9 @@ same-length-5 c = search needs
 
 -- src/lib.rt:31:1
 returns : tie.Need-returns
-returns c = c .accepted .ensures 0 [] refl ∙ checked (c .before .before .before .before .before .before .before .before .before .before .before .before .before .before .before .before .before .before .before .before .before .before .before .before .before .args .text .now) _ (text-is (c .before .before .before .before .before .before .before .before .before .before .before .before .before) (read.Accepted (c .before .enum-told .given .0 .0)) (c .before .enum-told .given .1) .is)
+returns c =
+    let x = c .before .before .before .before .before .before .before .before .before .before .before .before .before .before .before .before .before .before .before .before .before .before .before .before .before .args in
+    c .accepted .ensures 0 [] refl ∙ checked (x .text .now) _ (text-is (c .before .before .before .before .before .before .before .before .before .before .before .before .before) (read.Accepted (c .before .enum-told .given .0 .0)) (c .before .enum-told .given .1) .is)
 
 -- src/lib.rt:31:1
 same-length-6 : tie.Need-same-length-6
@@ -86,7 +88,12 @@ same-length-10 c = search needs
 
 -- src/lib.rt:31:1
 returns-2 : tie.Need-returns-2
-returns-2 c = c .refused .ensures 0 ∙ checked (c .before .before .before .before .before .before .before .before .before .before .before .before .before .before .before .before .before .before .before .before .before .before .before .before .before .before .args .text .now) _ (text-is (c .before .before .before .before .before .before .before .before .before .before .before .before .before .before) (read.Refused (c .before .before .f .given .0 .0) (c .before .before .f .given .0 .1 .0)) (c .before .before .f .given .1) .1)
+returns-2 c =
+    let a = c .before .before .before .before .before .before .before .before .before .before .before .before .before .before .before .before .before .before .before .before .before .before .before .before .before .before .args in
+    let x = a in
+    c .refused .ensures 0 ∙ checked (x .text .now) _ (text-is
+    (c .before .before .before .before .before .before .before .before .before .before .before .before .before .before)
+    (read.Refused (c .before .before .f .given .0 .0) (c .before .before .f .given .0 .1 .0)) (c .before .before .f .given .1) .1)
 
 pub check-lent-spec : {M : Type 1} → statement M
 check-lent-spec =

@@ -46,16 +46,24 @@ loop-holds : tie.Need-loop-holds Inv-loop μ-loop
 loop-holds c = (omega arith, refl)
 
 add-put-part : tie.Need-add-put-part Inv-loop μ-loop
-add-put-part c = omega (arith, byte-in (c .before .before .before .before .before .before .before .before .before .before .args .part .now) (c .before .before .before .before .before .before .before .digit-end .result) 42 (sym (c .before .before .before .before .before .before .byte-at .ensures) ∙ c .before .before .before .before .before .if1 .left) (omega arith))
+add-put-part c =
+    let x = c .before .before .before .before .before .before .before .before .before .before .args in
+    omega (arith, byte-in (x .part .now) (c .before .before .before .before .before .before .before .digit-end .result) 42 (sym (c .before .before .before .before .before .before .byte-at .ensures) ∙ c .before .before .before .before .before .if1 .left) (omega arith))
 
 sub-put-part : tie.Need-sub-put-part Inv-loop μ-loop
-sub-put-part c = omega (arith, byte-in (c .before .before .before .before .before .before .before .before .before .before .args .part .now) (c .before .before .before .before .before .before .before .digit-end .result) 42 (sym (c .before .before .before .before .before .before .byte-at .ensures) ∙ c .before .before .before .before .before .if1 .left) (omega arith))
+sub-put-part c =
+    let x = c .before .before .before .before .before .before .before .before .before .before .args in
+    omega (arith, byte-in (x .part .now) (c .before .before .before .before .before .before .before .digit-end .result) 42 (sym (c .before .before .before .before .before .before .byte-at .ensures) ∙ c .before .before .before .before .before .if1 .left) (omega arith))
 
 part-put-part-start : tie.Need-part-put-part-start Inv-loop μ-loop
-part-put-part-start c = omega (arith, byte-in (c .before .before .before .before .before .before .before .before .before .before .args .part .now) (c .before .before .before .before .before .before .before .digit-end .result) 42 (sym (c .before .before .before .before .before .before .byte-at .ensures) ∙ c .before .before .before .before .before .if1 .left) (omega arith))
+part-put-part-start c =
+    let x = c .before .before .before .before .before .before .before .before .before .before .args in
+    omega (arith, byte-in (x .part .now) (c .before .before .before .before .before .before .before .digit-end .result) 42 (sym (c .before .before .before .before .before .before .byte-at .ensures) ∙ c .before .before .before .before .before .if1 .left) (omega arith))
 
 part-put-part-end : tie.Need-part-put-part-end Inv-loop μ-loop
-part-put-part-end c = omega (arith, byte-in (c .before .before .before .before .before .before .before .before .before .before .args .part .now) (c .before .before .before .before .before .before .before .digit-end .result) 42 (sym (c .before .before .before .before .before .before .byte-at .ensures) ∙ c .before .before .before .before .before .if1 .left) (omega arith))
+part-put-part-end c =
+    let x = c .before .before .before .before .before .before .before .before .before .before .args in
+    omega (arith, byte-in (x .part .now) (c .before .before .before .before .before .before .before .digit-end .result) 42 (sym (c .before .before .before .before .before .before .byte-at .ensures) ∙ c .before .before .before .before .before .if1 .left) (omega arith))
 
 put-part-requires-2 : tie.Need-put-part-requires-2 Inv-loop μ-loop
 put-part-requires-2 c κs = omega arith

@@ -39,7 +39,8 @@ loop-less : tie.Need-loop-less Inv-loop μ-loop
 loop-less c = omega (arith, c .before .before .before .before .before .byte-end .ensures .from, c .before .before .before .before .before .byte-end .ensures .within)
 
 loop-again : tie.Need-loop-again Inv-loop μ-loop
-loop-again c = (omega (arith, c .before .before .before .before .before .byte-end .ensures .from, c .before .before .before .before .before .byte-end .ensures .within), c .before .before .put-parts .ensures, c .before .before .put-parts .kept .0 ∙ c .before .before .before .before .before .before .before .loop .inv .2)
+loop-again c =
+    (omega (arith, c .before .before .before .before .before .byte-end .ensures .from, c .before .before .before .before .before .byte-end .ensures .within), c .before .before .put-parts .ensures, c .before .before .put-parts .kept .0 ∙ c .before .before .before .before .before .before .before .loop .inv .2)
 
 same-length : tie.Need-same-length Inv-loop μ-loop
 same-length c = c .before .loop .inv .2
