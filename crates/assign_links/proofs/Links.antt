@@ -9,7 +9,7 @@ use lib.Dec.{eqb, leb}
 use lib.ListN.{length, take, drop, length-map, length-append}
 use lib.Seq.{take-at}
 use Rattle.lists.specs.Lists.{pick, all}
-use Rattle.lists.specs.Bytes.{clean}
+use Rattle.lists.specs.Bytes.{clean, part}
 use Rattle.lists.specs.Checked.{Checked, refused, ok, _>>=_, _>>_, require}
 use Rattle.lists.specs.Refusal as refusal
 use Rattle.lists.specs.Sizes.{mostLinks, mostSubstituted, mostOutput}
@@ -21,7 +21,6 @@ use Rattle.rules.specs.Pair.{Pair}
 use Rattle.refusals.specs.Refusals.{refusalOf}
 use Rattle.refusals.specs.declared.Refusal.{Refusal}
 use Rattle.refusals.specs.declared.Refusal.the-variants.{ListFull}
-use Rattle.pairs.specs.Answers.{part}
 use Rattle.device.specs.Device.{Device}
 use Rattle.device.proofs.Sound.{Sound}
 use Rattle.outcome.specs.Content.{okName, okLink, okOutput}

@@ -10,7 +10,7 @@ use lib.ListN.{length, drop}
 use lib.Dec.{leb, ltb, eqb}
 use borrow.Author.Tests.{ne-eqb}
 use Rattle.lists.specs.Lists.{pick, all, nth, All}
-use Rattle.lists.specs.Bytes.{isSpace, isDigit, starts, clean, distinct}
+use Rattle.lists.specs.Bytes.{isSpace, isDigit, starts, clean, distinct, noSpace}
 use Rattle.lists.specs.Runs.{Part, splitAt}
 use Rattle.lists.specs.Items.{Item, before, itemThen, items, inBraces}
 use Rattle.lists.proofs.Tests.{and-both, both-and}
@@ -23,7 +23,7 @@ use Rattle.template.specs.Decimal.{decimalOn, decimal}
 use Rattle.template.specs.Template.{Piece, Form, plain, whole, braced, Named, names, letters, nameIn, textIn, withText, startsBrace, formed, namedPiece, Sign, dollar-sign, percent-sign, no-sign, signOf, pieceBy, pieceAt, pieces}
 use Rattle.device.specs.Device.{Member, Device, chain, nameOf, attrOf, memberAt, okPath, okMember}
 use Rattle.lists.specs.Sizes.{mostPath, mostSubsystem, mostAttributes}
-use Rattle.engine.specs.Substitute.{ofMatched, attrAt, firstOf, Source, matchedIn, inserted, isWritten, noSpace, pieceText, textOf, piecesOf, substituted}
+use Rattle.engine.specs.Substitute.{ofMatched, attrAt, firstOf, Source, matchedIn, inserted, isWritten, pieceText, textOf, piecesOf, substituted}
 use Rattle.device.proofs.Sound.{Sound}
 
 -- ---- the pieces of a template without NUL

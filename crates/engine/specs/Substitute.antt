@@ -6,8 +6,7 @@ use mathlib.Core.List.{List, [], _∷_, _++_, map}
 use mathlib.Core.Option.{Option, none, some}
 use lib.Dec.{leb, ltb}
 use lib.ListN.{length}
-use Rattle.lists.specs.Lists.{pick}
-use Rattle.lists.specs.Bytes.{isSpace}
+use Rattle.lists.specs.Bytes.{noSpace}
 use Rattle.lists.specs.Runs.{trim, endDigits}
 use Rattle.lists.specs.Checked.{Checked, refused, ok}
 use Rattle.lists.specs.Refusal.{Refusal, substitution-long}
@@ -71,10 +70,6 @@ isWritten (T.env k) = false
 isWritten T.result = false
 isWritten T.dollar = false
 isWritten T.percent = false
-
--- whitespace as `_`
-abbrev pub noSpace : ℕ → ℕ
-noSpace b = pick (isSpace b) 95 b
 
 -- inserted text, with its whitespace made `_` where that is asked; written bytes stay
 unfoldable pub pieceText : Bool → Source → Piece → List ℕ

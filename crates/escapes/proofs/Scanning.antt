@@ -12,10 +12,11 @@ use lib.Seq.{drop-drop, take-suc-set}
 use Rattle.lists.specs.Runs.{Part}
 use Rattle.lists.proofs.Rest.{rest-at}
 use Rattle.lists.proofs.Moves.{ap-at}
+use Rattle.lists.specs.Bytes.{part}
 use Rattle.rules.specs.Coded.{codedByte, put, coded}
 use Rattle.rules.proofs.Coded.{coded-close, coded-at, coded-bad}
 use Rattle.escapes.specs.declared.Taken.{Taken}
-use Rattle.escapes.specs.Values.{part, decoded, Written, PutAt}
+use Rattle.escapes.specs.Values.{decoded, Written, PutAt}
 use Rattle.escapes.specs.Answers.{takenBy}
 use Rattle.escapes.proofs.Bytes.{taken-none, taken-some}
 use Rattle.escapes.proofs.Values.{decoded-is, written-is}

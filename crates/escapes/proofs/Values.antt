@@ -8,9 +8,10 @@ use native.Mathlib.Omega.{arith}
 use lib.ListN.{length, take, drop, length-drop, length-append}
 use lib.Seq.{take-at}
 use Rattle.lists.specs.Runs.{Part}
+use Rattle.lists.specs.Bytes.{part}
 use Rattle.rules.specs.Coded.{coded}
 use Rattle.rules.proofs.Coded.{coded-written}
-use Rattle.escapes.specs.Values.{part, valueOr, decoded, Written}
+use Rattle.escapes.specs.Values.{valueOr, decoded, Written}
 
 module _ (line : List ℕ) (s e : ℕ) (v : List ℕ) (h : coded 0 (drop s line) ≡ some (record { value = v; rest = drop (e + 1) line })) (from : s ≤ e) (within : e < length line) where
   abbrev here : Part (List ℕ)

@@ -8,11 +8,12 @@ use lib.Dec.{eqb, ltb}
 use lib.ListN.{length, take, drop}
 use Rattle.lists.specs.Lists.{pick}
 use Rattle.lists.specs.Items.{Item}
+use Rattle.lists.specs.Bytes.{part}
 use Rattle.rules.specs.Coded.{coded}
 use Rattle.escapes.specs.declared.Taken.{Taken}
 use Rattle.escapes.specs.declared.Closed.{Closed}
 use Rattle.escapes.specs.declared.Closed.the-variants.{At, Faulty}
-use Rattle.escapes.specs.Values.{part, decoded, Written}
+use Rattle.escapes.specs.Values.{decoded, Written}
 
 abbrev pub digitBy : ℕ → Option ℕ
 digitBy n = pick (ltb n 16) (some n) none

@@ -5,12 +5,9 @@ use mathlib.Core.Path.{_≡_}
 use mathlib.Core.List.{List, [], _∷_, _++_}
 use mathlib.Core.Option.{Option, none, some}
 use lib.ListN.{length, take, drop, set}
+use Rattle.lists.specs.Bytes.{part}
 use Rattle.lists.specs.Runs.{Part}
 use Rattle.rules.specs.Coded.{coded}
-
--- the bytes from a place to another
-abbrev pub part : List ℕ → ℕ → ℕ → List ℕ
-part s a e = take (e - a) (drop a s)
 
 abbrev pub valueOr : Option (Part (List ℕ)) → List ℕ
 valueOr none = []

@@ -11,7 +11,8 @@ use lib.Seq.{length-take-le, take-append-seam, take-nil}
 use Rattle.lists.specs.Lists.{pick, reject, All}
 use Rattle.lists.proofs.Lists.{All-append, All-split}
 use Rattle.lists.proofs.Moves.{ap-at}
-use Rattle.splice.specs.Moves.{part, inserted}
+use Rattle.lists.specs.Bytes.{part}
+use Rattle.splice.specs.Moves.{inserted}
 use Rattle.files.specs.Files.{File, loses, before, insert, inOrder, winners}
 use Rattle.file_rows.specs.Places.{fileAt, filesAt}
 use Rattle.file_order.specs.Order.{Lies, fileOn, chosen, Kept, placeIn, TakenIs, WinnersAre}

@@ -7,9 +7,9 @@ use mathlib.Core.List.{List, [], _∷_, _++_, map}
 use native.Mathlib.Omega.{arith}
 use lib.ListN.{length, getD, take, drop, length-append, take-append-drop, length-map}
 use Rattle.lists.proofs.Moves.{ap-at}
+use Rattle.lists.specs.Bytes.{noSpace}
 use Rattle.splice.specs.Moves.{stored}
 use Rattle.splice.proofs.Laws.{length-stored, stored-stored}
-use Rattle.engine.specs.Substitute.{noSpace}
 use Rattle.insertion.specs.Append.{asked, Placed, Appended}
 use Rattle.insertion.specs.declared.Put.{Put}
 use Rattle.insertion.specs.declared.Put.the-variants.{Done, Full}

@@ -5,8 +5,8 @@ use mathlib.Core.Path.{_≡_}
 use mathlib.Core.Bool.{Bool, true, false}
 use mathlib.Core.List.{List, map}
 use lib.ListN.{length}
+use Rattle.lists.specs.Bytes.{noSpace}
 use Rattle.splice.specs.Moves.{stored}
-use Rattle.engine.specs.Substitute.{noSpace}
 use Rattle.insertion.specs.declared.Put.{Put}
 use Rattle.insertion.specs.declared.Put.the-variants.{Done, Full}
 

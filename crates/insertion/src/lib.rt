@@ -4,8 +4,8 @@ ghost use mathlib.Core.Path.{_≡_};
 ghost use Prim.Native.Nat.{_+_, _≤_};
 ghost use mathlib.Core.List.{[], _∷_, map};
 ghost use lib.ListN.{length};
+ghost use Rattle.lists.specs.Bytes.{noSpace};
 ghost use Rattle.splice.specs.Moves.{stored};
-ghost use Rattle.engine.specs.Substitute.{noSpace};
 ghost use Rattle.insertion.specs.Append.{asked, Appended};
 
 // Where the bytes in use end now; or there is no room for all that was to come.

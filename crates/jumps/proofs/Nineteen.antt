@@ -13,10 +13,10 @@ use lib.Seq.{getD-set-same, getD-set-other}
 use Rattle.lists.specs.Checked.{Checked, refused, ok, _>>_, Placed, line}
 use Rattle.lists.specs.Refusal.{Refusal, label-missing}
 use Rattle.lists.proofs.Moves.{ap-at}
+use Rattle.lists.specs.Bytes.{part}
 use Rattle.text.specs.Reading.{resolved, settle}
 use Rattle.rules.specs.Pair.{gotoOf}
 use Rattle.rules.specs.Reading.{reader}
-use Rattle.pairs.specs.Answers.{part}
 use Rattle.table.specs.Table.{pairAt, rulesFrom}
 use Rattle.table.proofs.Rules.{rules-step, rules-end}
 use Rattle.table.specs.Rules.{valueIn, pairsOf, Rules}

@@ -15,6 +15,7 @@ use Rattle.lists.specs.Checked.{Placed, line}
 use Rattle.lists.specs.Refusal.{Refusal, number, label-missing}
 use Rattle.lists.proofs.Moves.{length-part, part-none, ap-at}
 use Rattle.lists.proofs.Rest.{rest-at}
+use Rattle.lists.specs.Bytes.{part}
 use Rattle.text.specs.Engine.{LineRead, skip, fault, rule}
 use Rattle.text.specs.Reading.{hasLabel, goesTo}
 use Rattle.text.specs.Rules.{rulesIn}
@@ -22,7 +23,6 @@ use Rattle.rules.specs.Pair.{Rule, labelOf, gotoOf, valueOf}
 use Rattle.rules.specs.Reading.{reader}
 use Rattle.striking.specs.Striking.{keptBy, answeredBy, unanswered}
 use Rattle.striking.proofs.Rules.{isKept, keptRules, rules-kept}
-use Rattle.pairs.specs.Answers.{part}
 use Rattle.table.specs.Table.{ruleAt, rulesFrom}
 use Rattle.table.proofs.Rules.{rules-step, rules-end}
 use Rattle.reader.specs.Read.{noted}

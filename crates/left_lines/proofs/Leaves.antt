@@ -13,6 +13,7 @@ use Rattle.lists.specs.Lists.{pick, All}
 use Rattle.lists.specs.Checked.{Placed, line, lineOf, inPlace}
 use Rattle.lists.specs.Sizes.{mostText, mostRules}
 use Rattle.lists.proofs.Moves.{ap-at}
+use Rattle.lists.specs.Bytes.{part}
 use Rattle.text.specs.Engine.{LineRead, skip, fault, rule}
 use Rattle.text.specs.Lines.{blank, linesIn, numbered, lines, newlines}
 use Rattle.text.specs.Reading.{readLent, reads}
@@ -21,7 +22,6 @@ use Rattle.text.proofs.Places.{linesFrom, linesAt, lines-start, lines-end, line
 use Rattle.rules.specs.Pair.{Rule}
 use Rattle.rules.specs.Reading.{reader}
 use Rattle.striking.specs.Striking.{pastMost, strikesOf, allLeft, together, unanswered, judged, strikes, struck, laidOut}
-use Rattle.pairs.specs.Answers.{part}
 use Rattle.lines.specs.Ends.{endFrom}
 use Rattle.table.specs.Table.{rulesFrom}
 use Rattle.table.specs.Puts.{Added}

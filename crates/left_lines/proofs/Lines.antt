@@ -16,6 +16,7 @@ use Rattle.lists.specs.Refusal.{Refusal, number}
 use Rattle.lists.proofs.Moves.{ap-at, length-part}
 use Rattle.lists.proofs.Tests.{and-both}
 use Rattle.lists.proofs.Runs.{Cons}
+use Rattle.lists.specs.Bytes.{part}
 use Rattle.splice.specs.Moves.{stored}
 use Rattle.splice.proofs.Laws.{set-stored, length-stored, stored-stored}
 use Rattle.text.specs.Engine.{LineRead, skip, fault, rule}
@@ -24,7 +25,6 @@ use Rattle.text.proofs.Lines.{lines-cons}
 use Rattle.text.proofs.Places.{lineSize, linesFrom, from-step}
 use Rattle.rules.specs.Pair.{Rule}
 use Rattle.striking.specs.Striking.{strikesOf, leftOf, allLeft, together, laidOut}
-use Rattle.pairs.specs.Answers.{part}
 use Rattle.lines.specs.Ends.{endFrom}
 use Rattle.lines.proofs.Held.{end-within, newlines-size}
 use Rattle.reader.proofs.Numbers.{number-small}

@@ -10,13 +10,13 @@ use Rattle.lists.specs.Lists.{pick, All}
 use Rattle.lists.specs.Checked.{Placed, line, lineOf}
 use Rattle.lists.specs.Refusal.{number}
 use Rattle.lists.specs.Sizes.{mostText}
+use Rattle.lists.specs.Bytes.{part}
 use Rattle.text.specs.Engine.{LineRead, skip, fault, rule}
 use Rattle.text.specs.Rules.{rulesIn}
 use Rattle.text.proofs.Places.{linesFrom, linesAt}
 use Rattle.rules.specs.Pair.{Rule, gotoOf}
 use Rattle.rules.specs.Reading.{reader}
 use Rattle.striking.specs.Striking.{strikesOf, allLeft, together, answeredBy, unanswered, strikes, struck, laidOut}
-use Rattle.pairs.specs.Answers.{part}
 use Rattle.table.specs.Table.{rulesFrom}
 use Rattle.table.specs.Puts.{Added}
 use Rattle.reader.specs.Read.{noted}

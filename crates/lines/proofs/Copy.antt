@@ -10,10 +10,9 @@ use lib.Dec.{eqb}
 use lib.ListN.{length, getD, take, set, length-append, length-set}
 use lib.Seq.{length-take-le, take-suc-set}
 use borrow.Author.Tests.{ne-eqb}
-use Rattle.lists.specs.Bytes.{holds}
+use Rattle.lists.specs.Bytes.{holds, part}
 use Rattle.lists.proofs.Tests.{or-true, neither}
 use Rattle.text.specs.Lines.{startsNewline, without, unjoined}
-use Rattle.pairs.specs.Answers.{part}
 use Rattle.pairs.proofs.Parts.{part-cons, part-empty}
 use Rattle.lines.specs.Ends.{goes}
 

@@ -8,13 +8,12 @@ use native.Mathlib.Omega.{arith}
 use borrow.Author.Tests.{ne-eqb}
 use lib.Dec.{eqb}
 use lib.ListN.{length, getD}
-use Rattle.lists.specs.Bytes.{holds}
+use Rattle.lists.specs.Bytes.{holds, part}
 use Rattle.lists.specs.Runs.{spanAt}
 use Rattle.lists.proofs.Runs.{place-in, place-stop, place-end, span-ge, span-le}
 use Rattle.scan.specs.Ends.{isNot}
 use Rattle.scan.specs.Groups.{AboveFrom}
 use Rattle.scan.proofs.Groups.{above-climb}
-use Rattle.pairs.specs.Answers.{part}
 use Rattle.pairs.proofs.Parts.{part-cons, part-none}
 use Rattle.lines.specs.Ends.{CleanLine}
 

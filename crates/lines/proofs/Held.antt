@@ -7,11 +7,10 @@ use mathlib.Core.List.{List, [], _∷_}
 use native.Mathlib.Omega.{arith}
 use lib.Dec.{eqb}
 use lib.ListN.{length, take, drop, length-drop}
-use Rattle.lists.specs.Bytes.{holds}
+use Rattle.lists.specs.Bytes.{holds, part}
 use Rattle.text.specs.Lines.{blank, newlines, oneMore}
 use Rattle.text.proofs.Places.{size-le}
 use Rattle.text.proofs.Unjoined.{unjoined-same}
-use Rattle.pairs.specs.Answers.{part}
 use Rattle.lines.specs.declared.LineEnd.the-variants as end′
 use Rattle.lines.specs.declared.JoinedEnd.the-variants as joined
 use Rattle.lines.specs.declared.Unjoined.the-variants as bytes

@@ -12,7 +12,7 @@ use lib.ListN.{length, getD, drop, length-drop, drop-of-length-le}
 use lib.Seq.{getD-drop, take-add, drop-drop}
 use borrow.Author.Tests.{eqb-true, not-false}
 use Rattle.lists.specs.Lists.{all}
-use Rattle.lists.specs.Bytes.{isBlank}
+use Rattle.lists.specs.Bytes.{isBlank, part}
 use Rattle.lists.specs.Runs.{span, spanAt}
 use Rattle.lists.proofs.Rest.{rest-at}
 use Rattle.lists.proofs.Tests.{both-and}
@@ -22,7 +22,6 @@ use Rattle.text.specs.Lines.{Stage, blank, comment, plain, slash, joined, isSla
 use Rattle.text.proofs.Lines.{stage-append, newlines-append}
 use Rattle.text.proofs.Places.{isInLine, lineSize, size-run, size-end, size-last, size-join}
 use Rattle.scan.specs.Ends.{RunEnd, isNot}
-use Rattle.pairs.specs.Answers.{part}
 use Rattle.pairs.proofs.Parts.{part-cons, part-next, part-empty}
 use Rattle.lines.specs.Ends.{endsSlash, endFrom}
 use Rattle.lines.proofs.Stages.{false≢true, no-newlines, ends-none, ends-snoc, plain-last, joined-last, firstIn, comment-first, rule-first}

@@ -8,11 +8,10 @@ use mathlib.Core.List.{List, [], _∷_}
 use lib.Dec.{eqb}
 use lib.ListN.{length, take, drop}
 use Rattle.lists.specs.Lists.{pick}
-use Rattle.lists.specs.Bytes.{holds}
+use Rattle.lists.specs.Bytes.{holds, part}
 use Rattle.text.specs.Lines.{blank, newlines, isOpen, startsNewline, unjoined}
 use Rattle.text.proofs.Places.{lineSize}
 use Rattle.scan.specs.Ends.{RunEnd, isNot}
-use Rattle.pairs.specs.Answers.{part}
 use Rattle.lines.specs.declared.LineEnd.{LineEnd}
 use Rattle.lines.specs.declared.LineEnd.the-variants as end
 use Rattle.lines.specs.declared.JoinedEnd.{JoinedEnd}

@@ -2,7 +2,7 @@
 ghost use mathlib.Core.Path.{_≡_};
 ghost use Prim.Native.Nat.{_≤_, _<_};
 ghost use lib.ListN.{length};
-ghost use Rattle.pairs.specs.Answers.{part};
+ghost use Rattle.lists.specs.Bytes.{part};
 ghost use Rattle.lines.specs.Ends.{endsSlash, goes, heldIn, CleanLine, EndsAt, JoinedAt, UnjoinedIs, FoundIs};
 
 // ---- a line of one physical line

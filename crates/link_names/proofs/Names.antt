@@ -14,8 +14,8 @@ use Rattle.lists.proofs.Rest.{rest-at}
 use Rattle.lists.proofs.Moves.{length-part}
 use Rattle.lists.proofs.Runs.{run-at, rest-of, span-ge, span-le, place-in}
 use Rattle.lists.proofs.Scan.{partsBehind, split-first}
+use Rattle.lists.specs.Bytes.{part}
 use Rattle.scan.specs.Ends.{RunEnd, isNot}
-use Rattle.pairs.specs.Answers.{part}
 use Rattle.link_names.specs.Names.{names}
 
 abbrev dropEmpty : List (List ℕ) → List (List ℕ)

@@ -7,9 +7,8 @@ use mathlib.Core.List.{List, [], _∷_}
 use lib.Dec.{eqb}
 use lib.ListN.{length, drop}
 use Rattle.lists.specs.Lists.{pick, isEmpty, reject}
-use Rattle.lists.specs.Bytes.{holds}
+use Rattle.lists.specs.Bytes.{holds, part}
 use Rattle.lists.specs.Runs.{splitAt}
-use Rattle.pairs.specs.Answers.{part}
 use Rattle.engine.specs.Assign.{cleanByte}
 use Rattle.link_names.specs.declared.NameFound.{NameFound}
 use Rattle.link_names.specs.declared.NameFound.the-variants.{At, End}

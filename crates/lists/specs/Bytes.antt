@@ -1,11 +1,11 @@
 -- Bytes and lists of bytes: classes of bytes, equality, membership, distinctness.
 -- Assumes nothing.
-use Prim.Native.Nat.{ℕ, _<_}
+use Prim.Native.Nat.{ℕ, _-_, _<_}
 use mathlib.Core.Bool.{Bool, true, false, not, _&&_, _||_}
 use mathlib.Core.List.{List, [], _∷_}
 use lib.Dec.{eqb, leb}
-use lib.ListN.{length, getD}
-use Rattle.lists.specs.Lists.{all, any}
+use lib.ListN.{length, take, drop, getD}
+use Rattle.lists.specs.Lists.{pick, all, any}
 
 -- each element of a list is a byte
 abbrev pub Bytes : List ℕ → Type 0
@@ -35,7 +35,15 @@ isBlank b = eqb b 32 || eqb b 9
 abbrev pub isSpace : ℕ → Bool
 isSpace b = between 9 13 b || eqb b 32
 
+-- whitespace as `_`
+abbrev pub noSpace : ℕ → ℕ
+noSpace b = pick (isSpace b) 95 b
+
 -- ---- lists of bytes
+
+-- what stands from one place up to another
+abbrev pub part : List ℕ → ℕ → ℕ → List ℕ
+part bs from to = take (to - from) (drop from bs)
 
 -- the same bytes
 unfoldable pub sameBytes : List ℕ → List ℕ → Bool

@@ -10,6 +10,7 @@ use lib.ListN.{length, drop}
 use Rattle.lists.specs.Lists.{isEmpty}
 use Rattle.lists.specs.Checked.{refused}
 use Rattle.lists.specs.Refusal.{content-bad}
+use Rattle.lists.specs.Bytes.{part}
 use Rattle.pattern.proofs.Plain.{plain-well-formed}
 use Rattle.glob.specs.Plain.{PlainIf, FormIs}
 use Rattle.glob.specs.declared.Form.{Form}
@@ -23,7 +24,7 @@ use Rattle.pairs.specs.declared.Pair.{Pair}
 use Rattle.pairs.specs.declared.PairRead.{PairRead}
 use Rattle.pairs.specs.declared.PairRead.the-variants.{Read, Refused}
 use Rattle.pairs.specs.Stages.{pairWritten}
-use Rattle.pairs.specs.Answers.{part, unescaped, readBy}
+use Rattle.pairs.specs.Answers.{unescaped, readBy}
 use Rattle.pairs.proofs.Whole.{read-written}
 use Rattle.pair_content.specs.Content.{ContentIs}
 

@@ -12,11 +12,11 @@ use lib.ListN.{length, getD, drop, drop-of-length-le}
 use lib.Seq.{drop-drop}
 use Rattle.lists.specs.Lists.{pick}
 use Rattle.lists.proofs.Rest.{rest-at}
+use Rattle.lists.specs.Bytes.{part}
 use Rattle.rules.specs.Places.{closeEnd, weight, weights}
 use Rattle.rules.specs.Reading.{quoted, unescape}
 use Rattle.rules.proofs.Values.{quoted-at, value-length}
 use Rattle.pairs.specs.declared.Close.{Close}
-use Rattle.pairs.specs.Answers.{part}
 use Rattle.pairs.specs.Bounds.{Closes}
 use Rattle.pairs.proofs.Parts.{part-none, part-next}
 

@@ -11,10 +11,11 @@ use Rattle.lists.specs.Lists.{pick}
 use Rattle.lists.proofs.Tests.{and-false}
 use Rattle.rules.specs.Places.{weights}
 use Rattle.lists.specs.Runs.{Part}
+use Rattle.lists.specs.Bytes.{part}
 use Rattle.rules.specs.Reading.{startsMark, unescape}
 use Rattle.rules.proofs.Values.{value-length}
 use Rattle.escapes.proofs.Values.{plain-written}
-use Rattle.pairs.specs.Answers.{part, unescaped}
+use Rattle.pairs.specs.Answers.{unescaped}
 use Rattle.pairs.specs.Bounds.{ValueAt}
 use Rattle.pairs.proofs.Parts.{part-length}
 

@@ -7,7 +7,7 @@ use native.Mathlib.Omega.{arith}
 use lib.ListN.{length, getD, drop, length-drop}
 use lib.Seq.{length-take-le, take-suc, getD-drop}
 use Rattle.lists.proofs.Rest.{rest-at}
-use Rattle.pairs.specs.Answers.{part}
+use Rattle.lists.specs.Bytes.{part}
 
 module _ (s : List ℕ) (a : ℕ) where
   pub part-none : part s a a ≡ []

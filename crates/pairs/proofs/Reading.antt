@@ -11,7 +11,7 @@ use borrow.Author.Tests.{eq-eqb, ne-eqb, leb-true, leb-false}
 use lib.Dec.{eqb, leb}
 use lib.ListN.{length, getD, drop, drop-of-length-le, List·getD-eq-default}
 use lib.Seq.{getD-drop, drop-drop}
-use Rattle.lists.specs.Bytes.{between, isUpper, isBlank}
+use Rattle.lists.specs.Bytes.{between, isUpper, isBlank, part}
 use Rattle.lists.specs.Runs.{Part, spanAt}
 use Rattle.lists.specs.Items.{isInBraces, closeBrace, inBraces}
 use Rattle.lists.specs.Checked.{Checked, refused, ok, _>>=_, _>>_, require, found}
@@ -24,7 +24,7 @@ use Rattle.rules.specs.Coded.{coded}
 use Rattle.rules.specs.Reading.{unblank, readKey, absent, present, readArgument, opOf, readOp, quoted, startsMark, unescape, readPlain, readCoded, startsCoded, readValue}
 use Rattle.pairs.specs.declared.OperatorRead.{OperatorRead}
 use Rattle.pairs.specs.Stages.{typeAllowed}
-use Rattle.pairs.specs.Answers.{part, operatorBy}
+use Rattle.pairs.specs.Answers.{operatorBy}
 use Rattle.pairs.proofs.Parts.{part-length}
 
 pub unblank-at : (s : List ℕ) (at b : ℕ) → b ≡ spanAt isBlank s at → unblank (drop at s) ≡ drop b s

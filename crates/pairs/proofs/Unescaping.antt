@@ -11,12 +11,12 @@ use lib.Dec.{eqb}
 use lib.ListN.{length, getD, take, drop, set, length-set, length-append}
 use lib.Seq.{length-take-le, take-suc-set}
 use Rattle.lists.specs.Runs.{Part}
+use Rattle.lists.specs.Bytes.{part}
 use Rattle.rules.specs.Coded.{coded}
 use Rattle.rules.specs.Reading.{startsMark, unescape, unescapeStep}
 use Rattle.escapes.specs.declared.Closed.the-variants.{At}
 use Rattle.escapes.specs.Values.{decoded}
 use Rattle.escapes.specs.Answers.{ClosedIs}
-use Rattle.pairs.specs.Answers.{part}
 use Rattle.pairs.specs.Bounds.{WrittenAt, Put}
 use Rattle.pairs.proofs.Parts.{part-cons, part-empty}
 

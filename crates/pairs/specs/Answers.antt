@@ -8,6 +8,7 @@ use lib.ListN.{drop}
 use Rattle.lists.specs.Runs.{Part}
 use Rattle.lists.specs.Checked.{Checked, refused, ok, _>>=_}
 use Rattle.lists.specs.Refusal.{Refusal, argument-bad, value-bad}
+use Rattle.lists.specs.Bytes.{part}
 use Rattle.rules.specs.Key as rules
 use Rattle.rules.specs.Pair as pair
 use Rattle.rules.specs.Reading.{unblank, unescape, readCoded}
@@ -26,7 +27,6 @@ use Rattle.pairs.specs.declared.OperatorRead.{OperatorRead}
 use Rattle.pairs.specs.declared.OperatorRead.the-variants.{Found, Missing}
 use Rattle.pairs.specs.declared.ValueRead.{ValueRead}
 use Rattle.pairs.specs.declared.ValueRead.the-variants as value
-pub use Rattle.escapes.specs.Values.{part}
 
 -- an argument, read at a place
 abbrev pub argumentBy : List ℕ → ℕ → ArgumentRead → Checked Refusal (Part (List ℕ))

@@ -9,6 +9,7 @@ use lib.Dec.{ltb}
 use lib.ListN.{length, take, drop}
 use Rattle.lists.specs.Lists.{pick}
 use Rattle.lists.specs.Sizes.{mostValue}
+use Rattle.lists.specs.Bytes.{part}
 use Rattle.rules.specs.Places.{closeEnd, weights}
 use Rattle.rules.specs.Coded.{coded}
 use Rattle.rules.specs.Reading.{quoted}
@@ -26,7 +27,7 @@ use Rattle.pairs.specs.declared.OperatorRead.the-variants.{Found, Missin
 use Rattle.pairs.specs.declared.ValueRead.{ValueRead}
 use Rattle.pairs.specs.declared.ValueRead.the-variants as value
 use Rattle.pairs.specs.declared.Close.{Close}
-use Rattle.pairs.specs.Answers.{part, unescaped}
+use Rattle.pairs.specs.Answers.{unescaped}
 pub use Rattle.escapes.specs.Values.{Put}
 
 abbrev pub ArgumentIn : List ℕ → ArgumentRead → Type 0

@@ -11,13 +11,13 @@ use lib.ListN.{length, getD}
 use Rattle.lists.specs.Checked.{Checked, refused, ok, _>>=_, Placed, line, inPlace}
 use Rattle.lists.specs.Refusal.{Refusal, rule-extra}
 use Rattle.lists.specs.Sizes.{mostRules}
+use Rattle.lists.specs.Bytes.{part}
 use Rattle.text.specs.Lines.{newlines}
 use Rattle.text.specs.Engine as text
 use Rattle.text.specs.Reading.{readLent, collect}
 use Rattle.text.proofs.Places.{linesAt, lines-start, lines-step, lines-end}
 use Rattle.rules.specs.Pair.{Rule}
 use Rattle.rules.specs.Reading.{reader}
-use Rattle.pairs.specs.Answers.{part}
 use Rattle.lines.specs.Ends.{endFrom}
 use Rattle.table.specs.Table.{ruleAt, rulesFrom, Rows}
 use Rattle.table.specs.Rules.{RuleIn}

@@ -13,6 +13,7 @@ use Rattle.lists.specs.Checked.{Placed, line}
 use Rattle.lists.specs.Refusal.{Refusal, number, rule-extra}
 use Rattle.lists.specs.Sizes.{mostRules, mostText}
 use Rattle.lists.proofs.Moves.{part-none}
+use Rattle.lists.specs.Bytes.{part}
 use Rattle.text.specs.Engine.{LineRead, skip, fault, rule}
 use Rattle.text.specs.Lines.{newlines, stageOf, unjoined}
 use Rattle.text.specs.Reading.{readLent, reads}
@@ -22,7 +23,6 @@ use Rattle.text.proofs.Collect.{rules-append}
 use Rattle.rules.specs.Pair.{Rule}
 use Rattle.rules.specs.Reading.{readLine, reader}
 use Rattle.striking.specs.Striking.{mostStrikes, pastMost}
-use Rattle.pairs.specs.Answers.{part}
 use Rattle.lines.specs.Ends.{endFrom}
 use Rattle.lines.proofs.Held.{end-within}
 use Rattle.table.specs.Table.{rulesFrom}

@@ -11,13 +11,13 @@ use Rattle.lists.specs.Checked.{refused, line}
 use Rattle.lists.specs.Refusal.{Refusal, number, line-bad, line-open, rule-extra}
 use Rattle.lists.specs.Sizes.{mostRules, mostText}
 use Rattle.lists.proofs.Moves.{length-part}
+use Rattle.lists.specs.Bytes.{part}
 use Rattle.text.specs.Engine as text
 use Rattle.text.specs.Lines.{newlines, unjoined}
 use Rattle.text.specs.Reading.{readLent}
 use Rattle.text.proofs.Unjoined.{unjoined-size}
 use Rattle.rules.specs.Pair.{Rule}
 use Rattle.rules.specs.Reading.{readLine, reader}
-use Rattle.pairs.specs.Answers.{part}
 use Rattle.lines.specs.declared.Line.{Line}
 use Rattle.lines.specs.declared.LineFound.the-variants as answer
 use Rattle.lines.specs.Ends.{endFrom, heldIn, Found, FoundIs}

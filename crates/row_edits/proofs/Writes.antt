@@ -6,12 +6,12 @@ use mathlib.Core.List.{List, [], _∷_, _++_, append-assoc, append-nil}
 use native.Mathlib.Omega.{arith}
 use lib.ListN.{length, getD, take, drop, set, length-append, length-set, length-take, length-drop}
 use lib.Seq.{drop-drop}
-use Rattle.lists.specs.Bytes.{Bytes}
+use Rattle.lists.specs.Bytes.{Bytes, part}
 use Rattle.lists.proofs.Moves.{ap-at}
 use Rattle.bits.specs.Bits.{putAt}
 use Rattle.bits.specs.Fields.{Field, width, packed, fieldsAt}
 use Rattle.bits.proofs.Fields.{length-packed}
-use Rattle.splice.specs.Moves.{part, stored, opened, inserted}
+use Rattle.splice.specs.Moves.{stored, opened, inserted}
 use Rattle.splice.proofs.Laws.{set-stored, stored-stored, stored-opened, length-stored}
 use Rattle.entries.specs.Entry.{encText, propFields}
 use Rattle.entries.proofs.Heads.{withNumber, placeOf, widthOf, head-back, head-put}

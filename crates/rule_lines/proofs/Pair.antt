@@ -12,6 +12,7 @@ use Rattle.lists.specs.Lists.{pick}
 use Rattle.lists.specs.Checked.{refused, ok}
 use Rattle.lists.specs.Refusal.{pair-extra, comma-missing}
 use Rattle.lists.proofs.Moves.{length-part}
+use Rattle.lists.specs.Bytes.{part}
 use Rattle.rules.specs.Pair as rules
 use Rattle.rules.specs.Reading.{again, readPair, unescape}
 use Rattle.keys.specs.Table.{keyOf}
@@ -20,7 +21,7 @@ use Rattle.refusals.specs.declared.Refusal.{Refusal}
 use Rattle.pairs.specs.declared.Pair.{Pair}
 use Rattle.pairs.specs.declared.PairRead.{PairRead}
 use Rattle.pairs.specs.declared.PairRead.the-variants as pairs
-use Rattle.pairs.specs.Answers.{part, pairOf, partOf, readBy}
+use Rattle.pairs.specs.Answers.{pairOf, partOf, readBy}
 use Rattle.pairs.specs.Bounds.{PairIn}
 use Rattle.table.specs.Puts.{PairPut}
 use Rattle.rule_lines.specs.declared.Fill.{Fill}

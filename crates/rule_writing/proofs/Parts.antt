@@ -10,7 +10,7 @@ use borrow.Author.Tests.{eq-eqb, ne-eqb}
 use lib.Dec.{eqb}
 use lib.ListN.{length, getD, take, drop}
 use Rattle.lists.specs.Lists.{pick, nth, cat}
-use Rattle.lists.specs.Bytes.{holds}
+use Rattle.lists.specs.Bytes.{holds, part}
 use Rattle.lists.specs.Runs.{spanEnd, spanAt}
 use Rattle.lists.proofs.Moves.{ap-at}
 use Rattle.lists.specs.Quoted.{bytes}
@@ -22,7 +22,6 @@ use Rattle.keys.specs.Table.{keyOf, operatorOf, rowOf}
 use Rattle.keys.specs.declared.Operator.{Operator}
 use Rattle.keys.specs.declared.Operator.the-variants.{Equal, Unequal, Assign, Add, Remove, Final}
 use Rattle.keys.specs.declared.Row.{Row}
-use Rattle.pairs.specs.Answers.{part}
 use Rattle.table.specs.Table.{entryOf, pairsFrom, rulesFrom, Got}
 use Rattle.table.specs.declared.Entry.{Entry}
 use Rattle.table.specs.Rules.{pairsOf}

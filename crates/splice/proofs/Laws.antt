@@ -8,7 +8,8 @@ use native.Mathlib.Omega.{arith}
 use lib.ListN.{length, take, drop, set, replicate, length-append, length-take, length-drop, length-replicate, replicate-append-replicate, take-append-drop}
 use lib.Seq.{take-at, drop-at, take-take, take-add, drop-drop, drop-append-add, set-split, take-append-le, length-take-le}
 use Rattle.lists.proofs.Moves.{ap-at, part-whole, part-at, part-front, length-part, drop-past, drop-replicate}
-use Rattle.splice.specs.Moves.{part, stored, opened, inserted, removed, shifted, replaced, padded}
+use Rattle.lists.specs.Bytes.{part}
+use Rattle.splice.specs.Moves.{stored, opened, inserted, removed, shifted, replaced, padded}
 
 -- ---- parts
 

@@ -3,10 +3,7 @@
 use Prim.Native.Nat.{ℕ, _+_, _-_}
 use mathlib.Core.List.{List, _++_}
 use lib.ListN.{length, take, drop, replicate}
-
--- what stands from index a up to index b
-abbrev pub part : List ℕ → ℕ → ℕ → List ℕ
-part t a b = take (b - a) (drop a t)
+use Rattle.lists.specs.Bytes.{part}
 
 -- x over what stood at `at`
 abbrev pub stored : List ℕ → ℕ → List ℕ → List ℕ

@@ -4,7 +4,8 @@
 ghost use mathlib.Core.Path.{_≡_};
 ghost use Prim.Native.Nat.{_+_, _-_, _≤_, _<_};
 ghost use lib.ListN.{length, replicate};
-ghost use Rattle.splice.specs.Moves.{part, stored, opened, inserted, removed, shifted, replaced};
+ghost use Rattle.lists.specs.Bytes.{part};
+ghost use Rattle.splice.specs.Moves.{stored, opened, inserted, removed, shifted, replaced};
 
 // Every byte becomes zero.
 pub fn clear(t: &mut [u8])

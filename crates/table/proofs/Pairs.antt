@@ -12,8 +12,8 @@ use lib.Seq.{take-at, take-take, length-take-le}
 use Rattle.lists.proofs.Moves.{ap-at, part-front, part-at}
 use Rattle.rules.specs.Key.{Key, Op, keyNumber, opNumber}
 use Rattle.rules.specs.Pair.{Pair}
-use Rattle.pairs.specs.Answers.{part}
 use borrow.Rule.Slice.PartMut.{putMid}
+use Rattle.lists.specs.Bytes.{part}
 use Rattle.pairs.specs.Bounds.{Put}
 use Rattle.splice.specs.Moves.{stored}
 use Rattle.splice.proofs.Laws.{length-stored}

@@ -6,11 +6,11 @@ use mathlib.Core.Bool.{Bool}
 use mathlib.Core.List.{List, [], _∷_}
 use lib.ListN.{length, getD}
 use Rattle.lists.specs.Checked.{Placed, line}
+use Rattle.lists.specs.Bytes.{part}
 use Rattle.rules.specs.Pair.{Pair, Rule}
 use Rattle.keys.specs.Table.{keyOf, operatorOf}
 use Rattle.kinds.specs.Numbers.{keyWith, opWith, plainWith}
 use Rattle.glob.specs.Plain.{PlainIf}
-use Rattle.pairs.specs.Answers.{part}
 use Rattle.table.specs.declared.Entry.{Entry}
 
 -- ---- a pair: four numbers

@@ -3,8 +3,9 @@
 ghost use mathlib.Core.Path.{_≡_};
 ghost use Prim.Native.Nat.{_+_, _-_, _*_, _≤_, _<_};
 ghost use lib.ListN.{length, getD};
+ghost use Rattle.lists.specs.Bytes.{part};
 ghost use Rattle.glob.specs.Plain.{PlainIf};
-ghost use Rattle.pairs.specs.Answers.{part, unescaped, pairOf};
+ghost use Rattle.pairs.specs.Answers.{unescaped, pairOf};
 ghost use Rattle.pairs.specs.Bounds.{ValueAt, PairIn};
 ghost use Rattle.splice.specs.Moves.{stored};
 ghost use Rattle.table.specs.Table.{Got};

@@ -4,8 +4,8 @@ use mathlib.Core.Path.{refl}
 use native.Mathlib.Omega.{arith}
 use borrow.Author.Needs.{needs}
 use lib.ListN.{length-map}
+use Rattle.lists.specs.Bytes.{noSpace}
 use Rattle.insertion.proofs.Laws.{length-asked}
-use Rattle.engine.specs.Substitute.{noSpace}
 use Rattle.insertion.proofs.put_text.Statement.{statement}
 use Rattle.insertion.proofs.put_text.Tie as tie
 

@@ -8,8 +8,8 @@ use native.Mathlib.Omega.{arith}
 use borrow.Author.Needs.{needs}
 use lib.ListN.{length, take, drop, set, getD, length-set, length-map, List·getD-map}
 use lib.Seq.{paste, paste-zero, paste-suc, take-length}
+use Rattle.lists.specs.Bytes.{noSpace}
 use Rattle.splice.specs.Moves.{stored}
-use Rattle.engine.specs.Substitute.{noSpace}
 use Rattle.insertion.proofs.store_spaceless.Statement.{statement}
 use Rattle.insertion.proofs.store_spaceless.Tie as tie
 

@@ -6,7 +6,7 @@ use mathlib.Core.List.{List}
 use native.Mathlib.Omega.{arith}
 use borrow.Author.Needs.{needs}
 use lib.ListN.{length, getD}
-use Rattle.pairs.specs.Answers.{part}
+use Rattle.lists.specs.Bytes.{part}
 use Rattle.table.specs.Rules.{Rules}
 use Rattle.jumps.specs.Jumps.{labelled}
 use Rattle.jumps.specs.Labels.{hashOf, First, Labels}

@@ -5,8 +5,7 @@ use mathlib.Core.Path.{_≡_, sym, ap₂, _∙_}
 use mathlib.Core.Bool.{Bool}
 use native.Mathlib.Omega.{arith}
 use lib.ListN.{length, getD}
-use Rattle.lists.specs.Bytes.{sameBytes}
-use Rattle.pairs.specs.Answers.{part}
+use Rattle.lists.specs.Bytes.{sameBytes, part}
 use Rattle.jumps.proofs.Labels.{label-same, label-apart, name-places}
 use borrow.Author.Needs.{needs}
 use Rattle.jumps.proofs.is_label.Statement.{statement}

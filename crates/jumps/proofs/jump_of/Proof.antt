@@ -4,11 +4,11 @@ use Prim.Native.Nat.{ℕ, _+_, _-_, _*_, _≤_, _<_}
 use mathlib.Core.Path.{_≡_, sym, _∙_}
 use native.Mathlib.Omega.{arith}
 use lib.ListN.{length, getD}
-use Rattle.pairs.specs.Answers.{part}
 use Rattle.table.specs.Rules.{Rules}
 use Rattle.jumps.specs.Jumps.{FoundIs}
 use Rattle.jumps.proofs.Nineteen.{goto-places, goto-some, none-is, some-is, nowhere-is}
 use borrow.Author.Needs.{needs}
+use Rattle.lists.specs.Bytes.{part}
 use Rattle.jumps.proofs.jump_of.Statement.{statement}
 use Rattle.jumps.proofs.jump_of.Tie as tie
 

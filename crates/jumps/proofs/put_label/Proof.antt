@@ -5,10 +5,10 @@ use mathlib.Core.Path.{_≡_, refl, sym, ap₂, _∙_}
 use native.Mathlib.Omega.{arith}
 use lib.ListN.{length, getD}
 use lib.Seq.{getD-set-other}
-use Rattle.pairs.specs.Answers.{part}
 use Rattle.jumps.specs.Labels.{hashOf, nameAt}
 use Rattle.jumps.proofs.Labels.{name-places, put-nothing, put-front}
 use borrow.Author.Needs.{needs}
+use Rattle.lists.specs.Bytes.{part}
 use Rattle.jumps.proofs.put_label.Statement.{statement}
 use Rattle.jumps.proofs.put_label.Tie as tie
 

@@ -2,7 +2,7 @@
 -- Assumes nothing.
 use mathlib.Core.Path.{_≡_, _∙_}
 use borrow.Author.Needs.{needs}
-use Rattle.pairs.specs.Answers.{part}
+use Rattle.lists.specs.Bytes.{part}
 use Rattle.lines.specs.declared.JoinedEnd.the-variants as joined
 use Rattle.lines.specs.declared.Unjoined.{Unjoined}
 use Rattle.lines.specs.declared.Unjoined.the-variants as bytes

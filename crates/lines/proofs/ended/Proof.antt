@@ -3,7 +3,7 @@
 use mathlib.Core.Path.{_≡_, sym, _∙_}
 use mathlib.Core.Bool.{false}
 use borrow.Author.Needs.{needs}
-use Rattle.pairs.specs.Answers.{part}
+use Rattle.lists.specs.Bytes.{part}
 use Rattle.lines.specs.Ends.{endsSlash}
 use Rattle.lines.proofs.Walk.{run-within, walk-plain, walk-ends}
 use Rattle.lines.proofs.ended.Statement.{statement}

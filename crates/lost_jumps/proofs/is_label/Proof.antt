@@ -2,8 +2,7 @@
 -- Assumes nothing.
 use Rattle.jumps.proofs.Labels.{label-same, name-places}
 use Rattle.jumps.proofs.Goes.{label-none}
-use Rattle.pairs.specs.Answers.{part}
-use Rattle.lists.specs.Bytes.{sameBytes}
+use Rattle.lists.specs.Bytes.{sameBytes, part}
 use lib.ListN.{getD}
 use mathlib.Core.Bool.{Bool}
 use mathlib.Core.Path.{_≡_, sym, ap₂, _∙_}

@@ -2,10 +2,11 @@
 -- Assumes nothing.
 use mathlib.Core.Path.{sym, _∙_}
 use borrow.Author.Needs.{needs}
+use Rattle.lists.specs.Bytes.{part}
 use Rattle.keys.specs.Table.{keyOf, operatorOf}
 use Rattle.glob.specs.declared.Form.the-variants.{Plain, Sound, Faulty}
 use Rattle.pairs.specs.declared.PairRead.the-variants.{Read}
-use Rattle.pairs.specs.Answers.{part, unescaped}
+use Rattle.pairs.specs.Answers.{unescaped}
 use Rattle.pairs.specs.Bounds.{ReadIn}
 use Rattle.pair_content.specs.Content.{ContentIs}
 use Rattle.pair_content.proofs.Pair.{unmarked, pair-sound, pair-unsound, pair-refused}

@@ -7,11 +7,12 @@ use borrow.Author.Tests.{le-leb, lt-leb}
 use lib.ListN.{drop}
 use Rattle.lists.specs.Runs.{Part}
 use Rattle.escapes.specs.declared.Closed.the-variants.{At, Faulty}
-use Rattle.escapes.specs.Values.{part, decoded}
+use Rattle.escapes.specs.Values.{decoded}
 use Rattle.escapes.specs.Answers.{ClosedIs}
 use Rattle.pairs.proofs.Reading.{unblank-at, coded-faulty, coded-closed}
 use native.Mathlib.Omega.{arith}
 use borrow.Author.Needs.{needs}
+use Rattle.lists.specs.Bytes.{part}
 use Rattle.pairs.proofs.coded_pair.Statement.{statement}
 use Rattle.pairs.proofs.coded_pair.Tie as tie
 

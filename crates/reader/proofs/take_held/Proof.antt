@@ -7,7 +7,6 @@ use Rattle.reader.specs.Read.{start as begun, LineIs}
 use Rattle.reader.specs.declared.LineRead.the-variants as lines
 use Rattle.reader.specs.declared.LineRead.{LineRead}
 use Rattle.lines.specs.Ends.{heldIn}
-use Rattle.pairs.specs.Answers.{part}
 use Rattle.refusals.specs.Refusals.{refusalOf}
 use Rattle.rules.specs.Reading.{readLine, reader}
 use Rattle.text.specs.Reading.{readLent}
@@ -17,6 +16,7 @@ use mathlib.Core.Path.{_≡_, _∙_}
 use Prim.Native.Nat.{_+_, _-_, _≤_, _<_}
 use native.Mathlib.Omega.{arith}
 use borrow.Author.Needs.{needs}
+use Rattle.lists.specs.Bytes.{part}
 use Rattle.reader.proofs.take_held.Statement.{statement}
 use Rattle.reader.proofs.take_held.Tie as tie
 

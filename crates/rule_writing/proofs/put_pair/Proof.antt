@@ -4,8 +4,8 @@ use mathlib.Core.Path.{ap}
 use native.Mathlib.Omega.{arith}
 use borrow.Author.Needs.{needs}
 use lib.ListN.{length, length-append}
+use Rattle.lists.specs.Bytes.{part}
 use Rattle.writing.specs.Writing.{pairText, nameOf, argumentText, opText}
-use Rattle.pairs.specs.Answers.{part}
 use Rattle.rule_writing.proofs.Writes.{Writes, writes-from, writes-more, writes-last, part-room, rest-room}
 use Rattle.rule_writing.proofs.Parts.{behindName, behindArgument, behindOperator, pair-parts}
 use Rattle.table.specs.Table.{entryOf}

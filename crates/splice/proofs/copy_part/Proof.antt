@@ -6,8 +6,9 @@ use native.Mathlib.Omega.{arith}
 use borrow.Author.Needs.{needs}
 use lib.ListN.{length}
 use Rattle.lists.proofs.Moves.{length-part}
+use Rattle.lists.specs.Bytes.{part}
 use Rattle.splice.proofs.Laws.{stored-front}
-use Rattle.splice.specs.Moves.{part, stored}
+use Rattle.splice.specs.Moves.{stored}
 use Rattle.splice.proofs.copy_part.Statement.{statement}
 use Rattle.splice.proofs.copy_part.Tie as tie
 

@@ -6,8 +6,9 @@ use mathlib.Core.Path.{_≡_, refl, sym, ap, _∙_}
 use native.Mathlib.Omega.{arith}
 use lib.ListN.{length, take, drop, take-append-drop}
 use Rattle.lists.proofs.Moves.{ap-at, part-none}
+use Rattle.lists.specs.Bytes.{part}
 use Rattle.splice.proofs.Laws.{opened-more}
-use Rattle.splice.specs.Moves.{part, stored, opened}
+use Rattle.splice.specs.Moves.{stored, opened}
 use Rattle.splice.proofs.open_gap.Statement.{statement}
 use Rattle.splice.proofs.open_gap.Tie as tie
 

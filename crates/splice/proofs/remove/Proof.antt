@@ -8,8 +8,9 @@ use borrow.Rule.Slice.PartMut.{same-len-mid}
 use lib.Seq.{take-at, drop-at, drop-drop}
 use lib.ListN.{length, take, drop, replicate, take-append-drop}
 use Rattle.lists.proofs.Moves.{ap-at, part-none, length-part}
+use Rattle.lists.specs.Bytes.{part}
 use Rattle.splice.proofs.Laws.{moved, length-moved, moved-more}
-use Rattle.splice.specs.Moves.{part, removed}
+use Rattle.splice.specs.Moves.{removed}
 use Rattle.splice.proofs.remove.Statement.{statement}
 use Rattle.splice.proofs.remove.Tie as tie
 

@@ -4,7 +4,8 @@ use native.Mathlib.Omega.{arith}
 use borrow.Author.Needs.{needs}
 use Rattle.keys.specs.Table.{keyOf, operatorOf}
 use Rattle.lists.proofs.Moves.{length-part}
-use Rattle.pairs.specs.Answers.{part, unescaped}
+use Rattle.lists.specs.Bytes.{part}
+use Rattle.pairs.specs.Answers.{unescaped}
 use Rattle.kinds.proofs.Numbers.{key-few, op-few, plain-few}
 use Rattle.table.proofs.Pairs.{pair-put}
 use Rattle.table.proofs.put_pair.Statement.{statement}
