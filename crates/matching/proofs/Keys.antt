@@ -14,8 +14,9 @@ use Rattle.device.specs.Device.{Member, Device, attrOf}
 use Rattle.outcome.specs.State.{State}
 use Rattle.engine.specs.Match.{valueHolds, listHolds, attrJudged, attrHolds, driverHolds, keyHolds, pairHolds, isParent, parentHolds}
 use Rattle.match_device.specs.Parts as parts
-use Rattle.matching.specs.Subjects.{subjectOf, isParentSubject, atEvent, atParent, pairOn}
+use Rattle.matching.specs.Subjects.{subjectOf, isParentSubject, isAskedHere, atEvent, atParent, pairOn}
 use Rattle.matching.specs.declared.Subject.{Subject}
+use Rattle.matching.specs.declared.Subject.the-variants as subject
 
 -- document 02, Item 4: what is absent
 driver-part : (p : Pair) (x : List ℕ) → driverHolds p x ≡ parts.driverHolds (p .op) (p .value) x
@@ -116,6 +117,15 @@ parent-key GOTO = refl
 parent-key OPTIONS = refl
 parent-key PROGRAM = refl
 parent-key RESULT = refl
+
+-- what asks nothing at the event device holds there
+pub not-asked : (u : Subject) → isAskedHere u ≡ false → (p : Pair) (d : Device) (m : Member) (s : State) → pairOn u p d m s ≡ true
+not-asked subject.Action e p d m s = absurd (true≢false e)
+not-asked (subject.Device x) e p d m s = absurd (true≢false e)
+not-asked (subject.Parent x) e p d m s = refl
+not-asked subject.Property e p d m s = absurd (true≢false e)
+not-asked (subject.List l) e p d m s = absurd (true≢false e)
+not-asked subject.Nothing e p d m s = refl
 
 -- another key asks nothing of the chain
 pub other-key : (k : Key) (m : Member) (p : Pair) → isParent k ≡ false → parentHolds k m p ≡ true

@@ -49,6 +49,15 @@ isParentSubject subject.Property = false
 isParentSubject (subject.List l) = false
 isParentSubject subject.Nothing = false
 
+-- something is asked of the event device or of the outcome
+abbrev pub isAskedHere : Subject → Bool
+isAskedHere subject.Action = true
+isAskedHere (subject.Device p) = true
+isAskedHere (subject.Parent p) = false
+isAskedHere subject.Property = true
+isAskedHere (subject.List l) = true
+isAskedHere subject.Nothing = false
+
 -- at the event device an operator that assigns asks nothing
 abbrev pub atEvent : Subject → Op → Subject
 atEvent u equal = u

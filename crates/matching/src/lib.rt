@@ -7,7 +7,7 @@ ghost use Prim.Native.Nat.{_≤_};
 ghost use Rattle.glob.specs.Plain.{PlainIf};
 ghost use Rattle.keys.specs.Table.{keyOf, operatorOf};
 ghost use Rattle.table.specs.Table.{entryOf, Segment, EntryIn};
-ghost use Rattle.matching.specs.Subjects.{subjectOf, isParentSubject, atEvent, atParent, subjectHolds, pairOn};
+ghost use Rattle.matching.specs.Subjects.{subjectOf, isParentSubject, isAskedHere, atEvent, atParent, subjectHolds, pairOn};
 ghost use Rattle.outcome_target.specs.Held.{Holds};
 ghost use Rattle.matching.specs.Answers.{firstOf, isAsked};
 ghost use Rattle.matching.specs.Judging.{Judging, Begun, ListHolds, NearestOf, MatchedOf};
@@ -102,6 +102,20 @@ fn is_parent(subject: Subject) -> bool
     }
 }
 
+// Whether something is asked of the event device or of the outcome.
+fn is_asked_here(subject: Subject) -> bool
+    ensures { λ r. ⌜ r ≡ isAskedHere subject ⌝ }
+{
+    match subject {
+        Subject::Action => true,
+        Subject::Device(_) => true,
+        Subject::Parent(_) => false,
+        Subject::Property => true,
+        Subject::List(_) => true,
+        Subject::Nothing => false,
+    }
+}
+
 // ---- one pair at one device
 
 // SYMLINK and TAG.
@@ -186,6 +200,25 @@ fn pair_holds(
         t,
         layout,
     )
+}
+
+// The same; a row that asks nothing here is not looked at.
+fn row_holds(
+    values: &[u8],
+    entry: Entry,
+    subject: Subject,
+    dev: &[u8],
+    at: usize,
+    t: &[u8],
+    layout: Layout,
+) -> bool
+    requires { ⌜ EntryIn (now values) entry × Judging (now dev) at (now t) layout ⌝ }
+    ensures { λ r. ⌜ ((x : Judging (now (dev .entry)) at (now (t .entry)) layout) → r ≡ pairOn subject (entryOf (now (values .entry)) entry) (x .device) (x .member) (x .state)) ⌝ }
+{
+    if !is_asked_here(subject) {
+        return true;
+    }
+    pair_holds(values, entry, subject, dev, at, t, layout)
 }
 
 // ---- the parent keys
@@ -302,7 +335,7 @@ pub fn match_rule(
         let key = entry.key;
         let operator = entry.operator;
         let subject = subject_of(key);
-        if !pair_holds(
+        if !row_holds(
             values,
             entry,
             at_event(subject, operator),

@@ -38,16 +38,16 @@ abbrev μ-loop : tie.MeasureT-loop
 -- ---- the row at hand
 
 -- as the definitions judge it at the event device
-judged : (w : tie.After-pair-holds Inv-loop μ-loop)
+judged : (w : tie.After-row-holds Inv-loop μ-loop)
     → let a = w .before .before .before .before .before .before .before .before .before .before .before .args in
-    (x : Begun (a .dev .now) (a .chain) (a .t .now) (a .layout)) → pairHolds (x .device) (x .state) (entryOf (a .values .now) (w .before .before .before .pair-at .result)) ≡ w .pair-holds .result
+    (x : Begun (a .dev .now) (a .chain) (a .t .now) (a .layout)) → pairHolds (x .device) (x .state) (entryOf (a .values .now) (w .before .before .before .pair-at .result)) ≡ w .row-holds .result
 judged w x =
     let a = w .before .before .before .before .before .before .before .before .before .before .before .args in
     let b : Bytes (a .dev .now) = λ i. w .before .before .before .before .before .before .before .before .shared-slice-known3 .given i .fits in
     let u = w .before .before .subject-of in
     let v = w .before .at-event in
-    event-judged (a .values .now) (w .before .before .before .pair-at .result) (u .result) (u .ensures) (v .result) (v .ensures) (x .device) (x .device .event) (x .state) refl (w .pair-holds .result)
-    (w .pair-holds .ensures (at-first (a .dev .now) b (a .chain) (a .t .now) (a .layout) x))
+    event-judged (a .values .now) (w .before .before .before .pair-at .result) (u .result) (u .ensures) (v .result) (v .ensures) (x .device) (x .device .event) (x .state) refl (w .row-holds .result)
+    (w .row-holds .ensures (at-first (a .dev .now) b (a .chain) (a .t .now) (a .layout) x))
 
 -- whether its key is a parent key
 parent : (w : tie.After-is-parent Inv-loop μ-loop) → isParent (keyOf (w .before .before .before .before .before .pair-at .result .key)) ≡ w .is-parent .result
@@ -67,8 +67,8 @@ loop-holds c =
 pair-at-requires : tie.Need-pair-at-requires Inv-loop μ-loop
 pair-at-requires c κs = let entry = c .before .before .before .before .before .before .before in omega (arith, entry .pre .1 .room)
 
-pair-holds-requires : tie.Need-pair-holds-requires Inv-loop μ-loop
-pair-holds-requires c κs =
+row-holds-requires : tie.Need-row-holds-requires Inv-loop μ-loop
+row-holds-requires c κs =
     let entry = c .before .before .before .before .before .before .before .before .before .before in
     let a = entry .args in
     let p = c .before .before .pair-at in
@@ -179,7 +179,7 @@ match-rule-spec =
     pair-at-requires
     (λ c κs. search needs)
     (λ c κs. search needs)
-    pair-holds-requires
+    row-holds-requires
     returns
     (λ c κs. search needs)
     (λ c κs. search needs)
