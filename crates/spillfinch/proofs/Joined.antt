@@ -117,7 +117,7 @@ module _ (sheet : List ℕ) (a : Sheet) (by : Bytes sheet) (is : Sheets.decode s
 -- ---- the demand
 
 -- what one call gives back
-given-back : (x : Answer) (c : Call) → Gives (c .written) (c .target) x → back c ≡ given x
+pub given-back : (x : Answer) (c : Call) → Gives (c .written) (c .target) x → back c ≡ given x
 given-back x c (w, b) = rw (w, b) refl
 
 module _ (sheet : List ℕ) (a : Sheet) (by : Bytes sheet) (is : Sheets.decode sheet ≡ some a) where

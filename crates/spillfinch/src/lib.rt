@@ -7,7 +7,7 @@ ghost use lib.ListN.{length};
 ghost use Rattle.answers.specs.Answers.{answered};
 ghost use Rattle.set_answers.specs.Answers.{answered as answered-set};
 ghost use Rattle.engine.specs.Operations.{fresh as fresh-answer, close as close-answer};
-ghost use Rattle.spillfinch.specs.Exports.{numbers, numbersWith, Gives, CheckGives, RunGives, WriteGives, NewerGives, OlderGives, StrikeGives, setNumbers, ContestGives};
+ghost use Rattle.spillfinch.specs.Exports.{numbers, numbersWith, Gives, CheckGives, RunGives, WriteGives, NewerGives, OlderGives, StrikeGives, setNumbers, ContestGives, FilesGives};
 
 fn put_answer(given: Given, answer: &mut [u32; 8])
     ensures { λ _. ⌜ now (answer .exit) ≡ numbers (answered given []) ⌝ }
@@ -149,4 +149,22 @@ pub extern "C" fn spillfinch_contest(set: &[u8], target: &mut [u8], answer: &mut
     ensures { λ _. ⌜ ContestGives (now (set .entry)) (length (now (target .entry))) (now (answer .exit)) (now (target .exit)) ⌝ }
 {
     put_set_answer(holders::contest(set, target), answer);
+}
+
+// Document 02, Item 11.
+#[no_mangle]
+pub extern "C" fn spillfinch_run_files(
+    set: &[u8],
+    device: &[u8],
+    outcome: &[u8],
+    sheet: &[u8],
+    target: &mut [u8],
+    answer: &mut [u32; 8],
+)
+    ensures { λ _. ⌜ FilesGives (now (set .entry)) (now (device .entry)) (now (outcome .entry)) (now (sheet .entry)) (length (now (target .entry))) (now (answer .exit)) (now (target .exit)) ⌝ }
+{
+    put_set_answer(
+        run_files::run_files(set, device, outcome, sheet, target),
+        answer,
+    );
 }
