@@ -32,6 +32,12 @@ fn call(request: &Request, written: &mut Written, answer: &mut AnswerArray) {
             outcome,
             sheet,
         } => calls::run(text, device, outcome, sheet, target, answer),
+        Request::RunFiles {
+            set,
+            device,
+            outcome,
+            sheet,
+        } => calls::run_files(set, device, outcome, sheet, target, answer),
         Request::Close { device, outcome } => calls::close(device, outcome, target, answer),
         Request::Contest { set } => calls::contest(set, target, answer),
         Request::Write { text } => calls::write(text, target, answer),
@@ -58,6 +64,17 @@ impl Engine for LinkedApart {
                 sheet,
             } => call(Request::Run {
                 text: &own(text),
+                device: &own(device),
+                outcome: &own(outcome),
+                sheet: &own(sheet),
+            }),
+            Request::RunFiles {
+                set,
+                device,
+                outcome,
+                sheet,
+            } => call(Request::RunFiles {
+                set: &own(set),
                 device: &own(device),
                 outcome: &own(outcome),
                 sheet: &own(sheet),

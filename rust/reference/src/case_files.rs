@@ -21,6 +21,15 @@ pub fn write_case(directory: &Path, case: &Case) -> io::Result<()> {
             fs::write(directory.join("set"), set)?;
             rooms += &format!("contest {room}\n");
         }
+        Extra::RunFiles {
+            set,
+            permuted,
+            room,
+        } => {
+            fs::write(directory.join("set"), set)?;
+            fs::write(directory.join("permuted"), permuted)?;
+            rooms += &format!("run_files {room}\n");
+        }
         Extra::Convert { old, newer, older } => {
             fs::write(directory.join("old"), old)?;
             rooms += &format!("newer {newer}\nolder {older}\n");
@@ -51,6 +60,12 @@ pub fn read_case(directory: &Path) -> io::Result<Case> {
     } else if let Ok(room) = room("contest") {
         Extra::Contest {
             set: fs::read(directory.join("set"))?,
+            room,
+        }
+    } else if let Ok(room) = room("run_files") {
+        Extra::RunFiles {
+            set: fs::read(directory.join("set"))?,
+            permuted: fs::read(directory.join("permuted"))?,
             room,
         }
     } else if let Ok(room) = room("write") {

@@ -3,6 +3,7 @@
 use std::fmt;
 use std::ops::Range;
 
+use crate::claims::broken_claim;
 use crate::extra_replies::extra_replies;
 use crate::generate::{self, Case};
 use crate::joined;
@@ -18,6 +19,9 @@ pub enum Operation {
     /// The close of the record that the run has left.
     CloseAfterRun,
     Contest,
+    RunFiles,
+    /// With the files in another order.
+    RunFilesPermuted,
     Newer,
     OlderAfterNewer,
     Older,
@@ -54,6 +58,10 @@ impl Reply {
 
     pub fn tried(&self) -> u32 {
         self.answer[4]
+    }
+
+    pub fn position(&self) -> u32 {
+        self.answer[5]
     }
 
     pub fn count(&self) -> u32 {
@@ -222,7 +230,8 @@ pub struct Finding {
     pub message: String,
 }
 
-/// Compares the engines on the cases of the seeds, and gives the first findings. `see` is
+/// Compares the engines on the cases of the seeds, looks whether the right one keeps the claims
+/// about several answers, and gives the first findings. `see` is
 /// shown every case with what the left engine gave.
 pub fn compare_cases(
     left: &dyn Engine,
@@ -236,11 +245,15 @@ pub fn compare_cases(
         let case = generate::case(seed);
         let (of_left, of_right) = replies_of_both(left, right, &case);
         see(&case, &of_left);
-        if let Some(difference) = first_difference(&of_left, &of_right) {
+        let difference = first_difference(&of_left, &of_right);
+        let message = difference
+            .map(|difference| difference.to_string())
+            .or_else(|| broken_claim(right, &case, &of_right));
+        if let Some(message) = message {
             findings.push(Finding {
                 seed,
                 case,
-                message: difference.to_string(),
+                message,
             });
             if findings.len() == limit {
                 break;

@@ -13,10 +13,34 @@ pub fn extra_replies(engine: &dyn Engine, case: &Case) -> Vec<Reply> {
             let written = Written::with_target(*room);
             vec![reply(engine, Operation::Contest, &request, written)]
         }
+        Extra::RunFiles {
+            set,
+            permuted,
+            room,
+        } => vec![
+            run_files_reply(engine, Operation::RunFiles, case, set, *room),
+            run_files_reply(engine, Operation::RunFilesPermuted, case, permuted, *room),
+        ],
         Extra::Convert { old, newer, older } => convert_replies(engine, case, old, *newer, *older),
         Extra::Write { room } => write_replies(engine, &case.text, *room),
         Extra::Strike { room, strikes } => strike_replies(engine, &case.text, *room, *strikes),
     }
+}
+
+fn run_files_reply(
+    engine: &dyn Engine,
+    operation: Operation,
+    case: &Case,
+    set: &[u8],
+    room: usize,
+) -> Reply {
+    let request = Request::RunFiles {
+        set,
+        device: &case.device,
+        outcome: &case.outcome,
+        sheet: &case.sheet,
+    };
+    reply(engine, operation, &request, Written::with_target(room))
 }
 
 fn write_replies(engine: &dyn Engine, text: &[u8], room: usize) -> Vec<Reply> {

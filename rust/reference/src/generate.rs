@@ -7,6 +7,8 @@ mod edge_cases;
 pub mod edges;
 mod extra;
 pub mod faults;
+mod file_edges;
+mod file_sets;
 pub mod joins;
 mod pairs;
 mod patterns;
@@ -58,7 +60,8 @@ pub struct Rooms {
 pub fn case(seed: u64) -> Case {
     let rng = &mut Rng::new(seed);
     let mut case = match rng.below(1_000) {
-        0..=529 => meaningful(rng),
+        0..=499 => meaningful(rng),
+        500..=529 => return with_files(rng),
         530..=559 => return with_text_to_strike(rng),
         560..=659 => with_faulty_pair(rng),
         660..=709 => with_any_pairing(rng),
@@ -163,6 +166,20 @@ fn at_an_edge(rng: &mut Rng) -> Case {
     let edge = rng.pick(&edges);
     let mut case = (edge.build)(rng);
     case.shape = edge.name.to_string();
+    case
+}
+
+fn with_files(rng: &mut Rng) -> Case {
+    let world = world(rng);
+    let text = rules_text(rng, &world);
+    let mut case = case_of("files", text, &world, rng);
+    match rng.below(30) {
+        0 => damage(rng, &mut case.device),
+        1 => damage(rng, &mut case.outcome),
+        2 => damage(rng, &mut case.sheet),
+        _ => {}
+    }
+    case.extra = extra::run_files(rng, &world);
     case
 }
 

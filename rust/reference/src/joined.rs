@@ -13,7 +13,7 @@ pub fn run_of(engine: &dyn Engine, list: &JoinList, text: &[u8], outcome: &[u8])
 }
 
 /// The runs of the texts one after the other; a refused one is the last.
-fn runs_in_a_row(engine: &dyn Engine, list: &JoinList) -> Vec<Reply> {
+pub fn runs_in_a_row(engine: &dyn Engine, list: &JoinList) -> Vec<Reply> {
     let mut runs = Vec::new();
     let mut outcome = list.outcome.clone();
     for text in &list.texts {

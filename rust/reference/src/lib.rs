@@ -3,6 +3,7 @@
 
 pub mod bytes;
 pub mod case_files;
+pub mod claims;
 pub mod compare;
 pub mod content;
 pub mod contest;
@@ -10,6 +11,7 @@ pub mod coverage;
 pub mod device;
 pub mod engine;
 pub mod extra_replies;
+pub mod file_set;
 pub mod generate;
 pub mod joined;
 pub mod key;
@@ -37,6 +39,8 @@ pub mod writer;
 
 pub use device::Device;
 pub use listing::listing;
-pub use operations::{check, close, contest, fresh, newer, older, run, strike, write, Answer};
+pub use operations::{
+    check, close, contest, fresh, newer, older, run, run_files, strike, write, Answer,
+};
 pub use outcome::Outcome;
 pub use sheet::Sheet;

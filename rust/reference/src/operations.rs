@@ -3,6 +3,7 @@
 use crate::contest::{self, Contested};
 use crate::device::Device;
 use crate::engine::Runner;
+use crate::file_set::{FileSet, Winner};
 use crate::outcome::{Edition, Outcome};
 use crate::record_set::{RecordPair, RecordSet};
 use crate::refusal::{Fault, Refusal};
@@ -63,6 +64,18 @@ pub fn fresh(device: &[u8], target: &mut [u8]) -> Answer {
 /// outcome record that they leave.
 pub fn run(text: &[u8], device: &[u8], outcome: &[u8], sheet: &[u8], target: &mut [u8]) -> Answer {
     let result = make_run(text, device, outcome, sheet, target.len());
+    deliver(result, target)
+}
+
+/// Runs the rules of the files that count in a set, and writes the outcome record that they leave.
+pub fn run_files(
+    set: &[u8],
+    device: &[u8],
+    outcome: &[u8],
+    sheet: &[u8],
+    target: &mut [u8],
+) -> Answer {
+    let result = make_run_files(set, device, outcome, sheet, target.len());
     deliver(result, target)
 }
 
@@ -158,6 +171,46 @@ fn make_run(
         visited: finished.visited,
         tried: finished.tried,
         record: finished.outcome.encode(),
+        ..Accepted::default()
+    })
+}
+
+fn make_run_files(
+    set: &[u8],
+    device: &[u8],
+    outcome: &[u8],
+    sheet: &[u8],
+    room: usize,
+) -> Result<Accepted, Refusal> {
+    check_room(room, sizes::OUTCOME_TARGET)?;
+    let set = FileSet::decode(set).ok_or(Fault::Set.without_line())?;
+    if set.has_equal_files() {
+        return Err(Fault::EqualFiles.without_line());
+    }
+    let mut texts = Vec::new();
+    for Winner { position, file } in set.winners() {
+        let rules = rules::read(&file.text);
+        texts.push((
+            position,
+            rules.map_err(|refusal| refusal.at_position(position))?,
+        ));
+    }
+    let device = decode_device(device)?;
+    let mut outcome = decode_outcome(outcome, &device)?;
+    let sheet = decode_sheet(sheet)?;
+    let (mut visited, mut tried) = (0, 0);
+    for (position, rules) in &texts {
+        let finished = Runner::new(rules, &device, &sheet, outcome)
+            .finish()
+            .map_err(|refusal| refusal.at_position(*position))?;
+        visited += finished.visited;
+        tried += finished.tried;
+        outcome = finished.outcome;
+    }
+    Ok(Accepted {
+        visited,
+        tried,
+        record: outcome.encode(),
         ..Accepted::default()
     })
 }

@@ -49,7 +49,7 @@ impl<'a> BitReader<'a> {
     }
 
     /// Any bytes, NUL among them.
-    fn bytes(&mut self, length: usize) -> Option<Vec<u8>> {
+    pub fn bytes(&mut self, length: usize) -> Option<Vec<u8>> {
         debug_assert_eq!(self.position % 8, 0);
         let start = self.position / 8;
         let bytes = self.record.get(start..start + length)?;

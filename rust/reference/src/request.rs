@@ -20,6 +20,12 @@ pub enum Request<'a> {
         outcome: &'a [u8],
         sheet: &'a [u8],
     },
+    RunFiles {
+        set: &'a [u8],
+        device: &'a [u8],
+        outcome: &'a [u8],
+        sheet: &'a [u8],
+    },
     Close {
         device: &'a [u8],
         outcome: &'a [u8],
@@ -106,6 +112,12 @@ impl Engine for Reference {
                 outcome,
                 sheet,
             } => operations::run(text, device, outcome, sheet, target),
+            Request::RunFiles {
+                set,
+                device,
+                outcome,
+                sheet,
+            } => operations::run_files(set, device, outcome, sheet, target),
             Request::Close { device, outcome } => operations::close(device, outcome, target),
             Request::Contest { set } => operations::contest(set, target),
             Request::Write { text } => operations::write(text, target),

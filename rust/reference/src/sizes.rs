@@ -48,6 +48,9 @@ pub const SET_RECORDS: usize = 64;
 /// The list of a contest in which each record claims all the links that it can, none of them
 /// another's.
 pub const CONTEST_TARGET: usize = SET_RECORDS * LINKS * (3 + LINK);
+/// The files of a set, and the name of one.
+pub const SET_FILES: usize = 32;
+pub const FILE_NAME: usize = 64;
 /// The fullest run list, and so the least room for a target of one.
 pub const RUN_LIST_TARGET: usize = 8_225;
 /// The struck lines of a text, and so the least room for a list of them.

@@ -53,6 +53,11 @@ fn every_faulty_pair_gives_its_number() {
 /// The numbers that cases reach with what they ask for beside check, fresh, run and close.
 const EXTRA_ANSWERS: &[(Operation, &[u32])] = &[
     (Operation::Contest, &[0, 1, 3, 4, 7]),
+    (
+        Operation::RunFiles,
+        &[0, 1, 2, 3, 4, 6, 7, 11, 19, 20, 21, 30, 31, 33, 34, 35, 36],
+    ),
+    (Operation::RunFilesPermuted, &[0, 1, 3, 4, 6, 11, 21, 31]),
     (Operation::Newer, &[0, 1, 3, 4]),
     (Operation::OlderAfterNewer, &[0, 1, 4]),
     (Operation::Older, &[0, 1, 3, 4, 5]),

@@ -39,6 +39,20 @@ extern "C" {
         answer: *mut Answer,
     );
 
+    fn spillfinch_run_files(
+        set: *const u8,
+        set_length: usize,
+        device: *const u8,
+        device_length: usize,
+        outcome: *const u8,
+        outcome_length: usize,
+        sheet: *const u8,
+        sheet_length: usize,
+        target: *mut u8,
+        target_length: usize,
+        answer: *mut Answer,
+    );
+
     fn spillfinch_close(
         device: *const u8,
         device_length: usize,
@@ -127,6 +141,31 @@ pub fn run(
         spillfinch_run(
             text.as_ptr(),
             text.len(),
+            device.as_ptr(),
+            device.len(),
+            outcome.as_ptr(),
+            outcome.len(),
+            sheet.as_ptr(),
+            sheet.len(),
+            target.as_mut_ptr(),
+            target.len(),
+            answer,
+        );
+    }
+}
+
+pub fn run_files(
+    set: &[u8],
+    device: &[u8],
+    outcome: &[u8],
+    sheet: &[u8],
+    target: &mut [u8],
+    answer: &mut Answer,
+) {
+    unsafe {
+        spillfinch_run_files(
+            set.as_ptr(),
+            set.len(),
             device.as_ptr(),
             device.len(),
             outcome.as_ptr(),

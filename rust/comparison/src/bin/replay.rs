@@ -98,6 +98,8 @@ fn show_replies(case: &Case, replies: &[Reply]) {
             | Operation::CheckStruck
             | Operation::Fresh
             | Operation::Run
+            | Operation::RunFiles
+            | Operation::RunFilesPermuted
             | Operation::Newer
             | Operation::NewerAfterOlder => {
                 Outcome::decode(record, chain_length).map(|outcome| show_outcome(&outcome))

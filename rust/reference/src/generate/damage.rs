@@ -40,6 +40,23 @@ fn duplicate_span(rng: &mut Rng, bytes: &mut Vec<u8>) {
     bytes.splice(end..end, span);
 }
 
+/// Damages the count, which should be at most that, a length or the end of a set.
+pub fn damage_layout(rng: &mut Rng, set: &mut Vec<u8>, most: usize) {
+    match rng.below(6) {
+        0 => set[0] = set[0].wrapping_add(1),
+        1 => set[0] = set[0].wrapping_sub(1),
+        2 => set[0] = rng.pick(&[most as u8 + 1, 255]),
+        3 => set.push(rng.pick(&[0, b'x'])),
+        4 => {
+            set.pop();
+        }
+        _ => {
+            let at = rng.below(set.len().min(4));
+            set[at] ^= 1 << rng.below(8);
+        }
+    }
+}
+
 /// Puts bytes that mean something in a rule at some places of a text.
 pub fn damage_text(rng: &mut Rng, text: &mut Vec<u8>) {
     const MEANINGFUL: &[u8] = b"\"\"\\,{}$%[]|-!+:= \t\n#\r\0AZazeexn\'09";

@@ -2,6 +2,7 @@
 
 use super::contest_edges::CONTEST_EDGES;
 use super::edge_cases::*;
+use super::file_edges::FILE_EDGES;
 use super::rng::Rng;
 use super::rules_text::broken;
 use super::sheet_edges::SHEET_EDGES;
@@ -854,6 +855,7 @@ pub const EDGES: &[&[Edge]] = &[
     RUN_EDGES,
     DEVICE_EDGES,
     OUTCOME_EDGES,
+    FILE_EDGES,
     ROOM_EDGES,
     SHEET_EDGES,
 ];

@@ -1,8 +1,10 @@
 //! What is asked for beside the check, the fresh record, the run and the close.
 
 use super::damage::damage;
+use super::file_sets::file_sets;
 use super::record_sets::record_set;
 use super::rng::Rng;
+use super::world::World;
 use super::Case;
 use crate::device::Device;
 use crate::outcome::{Edition, Outcome, Watch};
@@ -14,6 +16,13 @@ pub enum Extra {
     /// The holders of the links that the records of a set claim.
     Contest {
         set: Vec<u8>,
+        room: usize,
+    },
+    /// A run of the files of a set, and one with these in another order. The device, the outcome
+    /// and the sheet are the case's.
+    RunFiles {
+        set: Vec<u8>,
+        permuted: Vec<u8>,
         room: usize,
     },
     /// The conversion of a record of edition 1, that of the case's outcome record, and back.
@@ -47,6 +56,15 @@ pub fn extra(rng: &mut Rng, case: &Case) -> Extra {
             room: room(rng, sizes::CONTEST_TARGET),
         },
         _ => Extra::Nothing,
+    }
+}
+
+pub fn run_files(rng: &mut Rng, world: &World) -> Extra {
+    let (set, permuted) = file_sets(rng, world);
+    Extra::RunFiles {
+        set,
+        permuted,
+        room: room(rng, sizes::OUTCOME_TARGET),
     }
 }
 

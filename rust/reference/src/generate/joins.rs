@@ -69,7 +69,7 @@ impl CutText {
 }
 
 /// An accepted text that is empty or ends in a newline.
-fn accepted_text(rng: &mut Rng, world: &World) -> Vec<u8> {
+pub fn accepted_text(rng: &mut Rng, world: &World) -> Vec<u8> {
     let count = rng.below(6);
     for _ in 0..10 {
         let mut text = rules_text::lines(rng, world, count).join(&b'\n');

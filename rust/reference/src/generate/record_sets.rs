@@ -1,6 +1,6 @@
 //! Generated sets of records, mostly laid out soundly, of records that are mostly sound.
 
-use super::damage::{damage, random_bytes};
+use super::damage::{damage, damage_layout, random_bytes};
 use super::rng::Rng;
 use super::world::claimant;
 use crate::record_set::{RecordPair, RecordSet};
@@ -14,7 +14,7 @@ pub fn record_set(rng: &mut Rng) -> Vec<u8> {
     let mut bytes = set.encode();
     match rng.below(100) {
         0..=84 => {}
-        85..=94 => damage_layout(rng, &mut bytes),
+        85..=94 => damage_layout(rng, &mut bytes, sizes::SET_RECORDS),
         95..=97 => damage(rng, &mut bytes),
         _ => bytes = random_bytes(rng, 200),
     }
@@ -70,22 +70,5 @@ fn make_faulty(rng: &mut Rng, entries: &mut [RecordPair]) {
 fn flip_edition(record: &mut [u8]) {
     if let Some(first) = record.first_mut() {
         *first ^= 0x30;
-    }
-}
-
-/// Damages the count, a length or the end of a set.
-fn damage_layout(rng: &mut Rng, set: &mut Vec<u8>) {
-    match rng.below(6) {
-        0 => set[0] = set[0].wrapping_add(1),
-        1 => set[0] = set[0].wrapping_sub(1),
-        2 => set[0] = rng.pick(&[sizes::SET_RECORDS as u8 + 1, 255]),
-        3 => set.push(rng.pick(&[0, b'x'])),
-        4 => {
-            set.pop();
-        }
-        _ => {
-            let at = rng.between(0, set.len().min(3) - 1);
-            set[at] ^= 1 << rng.below(8);
-        }
     }
 }
