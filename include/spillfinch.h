@@ -8,13 +8,13 @@
  *
  * All 8 numbers of `answer` are written in every call:
  *   answer[SPILLFINCH_NUMBER]   0, or why the input is refused (enum spillfinch_refusal)
- *   answer[SPILLFINCH_LINE]     the line of the rules text that is refused, from 1; 0 if the refusal is about no line
+ *   answer[SPILLFINCH_LINE]     the line of the rules text that is refused, of a set of files within its file, from 1; 0 if the refusal is about no line
  *   answer[SPILLFINCH_VISITED]  how many rules had their matching begun; 0 for all but a run
  *   answer[SPILLFINCH_USED]     the length of the record, list or text at the start of the target; 0 after a refusal and for a check
  *   answer[SPILLFINCH_TRIED]    how many devices were tried for the parent keys (KERNELS, SUBSYSTEMS, DRIVERS, ATTRS) of all rules: for a
  *                               visited rule with such keys whose other keys hold, the place of the nearest device that has them all, from 1, or
  *                               the length of the chain if none has; at most the visited count times that length; 0 for all but a run
- *   answer[SPILLFINCH_POSITION] the record of a set that is refused, from 1 in the lent order; 0 if the refusal is about none
+ *   answer[SPILLFINCH_POSITION] the record or file of a set that is refused, from 1 in the lent order; 0 if the refusal is about none
  *   answer[SPILLFINCH_COUNT]    how many lines were struck, or how many names a contest lists; 0 after a refusal and for all else
  *   answer[7]                   0
  *
@@ -63,8 +63,10 @@ extern "C" {
 #define SPILLFINCH_OUTPUT_MOST 512
 #define SPILLFINCH_SUBSTITUTED_MOST 512
 
-/* Limits of a set: its records, and the bytes of each of them. */
+/* Limits of a set: its records, or its files and the bytes of a file's name; the bytes of each record or text. */
 #define SPILLFINCH_RECORDS_MOST 64
+#define SPILLFINCH_FILES_MOST 32
+#define SPILLFINCH_FILE_NAME_MOST 64
 #define SPILLFINCH_LENT_MOST 65535
 
 /* Limits of an answer sheet: replies, bytes of a command. */
@@ -91,7 +93,7 @@ enum spillfinch_refusal {
     SPILLFINCH_OUTCOME_BAD = 4,        /* an outcome record that is faulty: one whose mode lets others write, or of another edition, is, too */
     SPILLFINCH_TOO_NEW = 5,            /* an outcome record that says what edition 1 cannot: an output, watch or nowatch */
     SPILLFINCH_SHEET_BAD = 6,          /* an answer sheet that is faulty */
-    SPILLFINCH_SET_BAD = 7,            /* a set of more than 64 records, or bytes that are not laid out as one */
+    SPILLFINCH_SET_BAD = 7,            /* a set over its size, or bytes that are not laid out as one */
     SPILLFINCH_LINE_BAD = 10,          /* a line that is too long or holds NUL */
     SPILLFINCH_KEY_BAD = 11,           /* a key that is unknown or missing */
     SPILLFINCH_ARGUMENT_BAD = 12,      /* an argument in braces that is missing, faulty or not taken by the key */
@@ -103,6 +105,7 @@ enum spillfinch_refusal {
     SPILLFINCH_RULE_EXTRA = 18,        /* a rule too many */
     SPILLFINCH_LABEL_MISSING = 19,     /* a GOTO without a later LABEL */
     SPILLFINCH_LINE_OPEN = 20,         /* a backslash that joins the next line, at the end of the text; before the line's 10 */
+    SPILLFINCH_FILE_TWICE = 21,        /* two files of a set with one name and one rank */
     SPILLFINCH_SUBSTITUTION_LONG = 30, /* a substituted text that is too long */
     SPILLFINCH_LINK_BAD = 31,          /* a link that is too long, absolute, or has an empty, `.` or `..` component */
     SPILLFINCH_LIST_FULL = 32,         /* one more link, tag, program or property than there is room for */
@@ -110,6 +113,14 @@ enum spillfinch_refusal {
     SPILLFINCH_MODE_BAD = 34,          /* a mode that is not 1 to 4 octal digits */
     SPILLFINCH_COMMAND_MISSING = 35,   /* a command that PROGRAM asks and that is not on the answer sheet */
     SPILLFINCH_MODE_SHARED = 36        /* a mode that lets others write: it has the bit 0002 */
+};
+
+/* The directories that rules files stand in, the highest rank first. */
+enum spillfinch_rank {
+    SPILLFINCH_RANK_ETC = 0,
+    SPILLFINCH_RANK_RUN = 1,
+    SPILLFINCH_RANK_USR_LOCAL_LIB = 2,
+    SPILLFINCH_RANK_LIB = 3
 };
 
 /* Reads a rules text without a device: whether it is accepted, else the number and the line of its first refusal (2, 10 to 20).
@@ -133,6 +144,19 @@ void spillfinch_fresh(const uint8_t *device, size_t device_length, uint8_t *targ
 void spillfinch_run(const uint8_t *text, size_t text_length, const uint8_t *device, size_t device_length, const uint8_t *outcome,
                     size_t outcome_length, const uint8_t *sheet, size_t sheet_length, uint8_t *target, size_t target_length,
                     uint32_t answer[SPILLFINCH_ANSWER_LENGTH]);
+
+/* Runs a set of rules files for a device. Files whose name does not end in `.rules` are ignored, and of files with one name only that of the
+ * highest rank counts; if its text is empty, the name is disabled. Those that count run in the byte order of their names, each from what the
+ * one before left, all with one sheet; labels and limits are those of one file. In whatever order they are lent, the record and the counts are
+ * the same, and so is a refusal, of the file of the same name.
+ *
+ * The set: a byte with the number of files, 0 to 32; for each its rank in a byte, its name behind its length in a byte (1 to 64), its text
+ * behind its length in two bytes, the higher one first. Refusals: 1, 7, 21 (for names that are ignored, too); then 2 and 10 to 20 of the texts
+ * that count, in the order of their names; 3, 4, 6; and 30 to 36 of the first run that is refused. Those of a text or a run have the position of
+ * their file. Texts that do not count are not read. */
+void spillfinch_run_files(const uint8_t *set, size_t set_length, const uint8_t *device, size_t device_length, const uint8_t *outcome,
+                          size_t outcome_length, const uint8_t *sheet, size_t sheet_length, uint8_t *target, size_t target_length,
+                          uint32_t answer[SPILLFINCH_ANSWER_LENGTH]);
 
 /* Writes the run list of an outcome record: each program or builtin, its template substituted with the record's properties and with
  * the device. Refusals: 1, 3, 4, 30, all with line 0. */

@@ -1,5 +1,5 @@
 /* The library from C: checks rules texts, takes a device from its fresh outcome record over a run to its run list, asks an answer sheet,
- * converts the record to edition 1 and back, asks who of two holds a link, and writes rules back. */
+ * runs a set of files, converts the record to edition 1 and back, asks who of two holds a link, and writes rules back. */
 #include <stdio.h>
 #include <string.h>
 
@@ -80,6 +80,50 @@ static void ask(size_t fresh_length)
     spillfinch_run((const uint8_t *)asks, length, device, device_length, fresh, fresh_length, sheet, sheet_length - 1, next, sizeof next,
                    answer);
     show_answer("run with one that is cut short", answer);
+}
+
+/* A file put into a set; where it ends. */
+static size_t put_file(uint8_t *set, size_t at, enum spillfinch_rank rank, const char *name, const char *text)
+{
+    const size_t name_length = strlen(name), text_length = strlen(text);
+    set[0]++;
+    set[at] = (uint8_t)rank;
+    set[at + 1] = (uint8_t)name_length;
+    memcpy(set + at + 2, name, name_length);
+    at += 2 + name_length;
+    set[at] = (uint8_t)(text_length >> 8);
+    set[at + 1] = (uint8_t)text_length;
+    memcpy(set + at + 2, text, text_length);
+    return at + 2 + text_length;
+}
+
+static void run_set(const char *what, const uint8_t *set, size_t set_length, size_t fresh_length)
+{
+    uint32_t answer[SPILLFINCH_ANSWER_LENGTH];
+    spillfinch_run_files(set, set_length, device, device_length, fresh, fresh_length, no_replies, sizeof no_replies, next, sizeof next, answer);
+    show_answer(what, answer);
+    if (answer[SPILLFINCH_POSITION] > 0)
+        printf("it is file %u\n", (unsigned)answer[SPILLFINCH_POSITION]);
+}
+
+/* One name in all four ranks, of which the lowest has a fault; then more files. */
+static void run_files(size_t fresh_length)
+{
+    uint8_t set[1024] = {0};
+    size_t end = put_file(set, 1, SPILLFINCH_RANK_LIB, "70-counters.rules", "SYMLINK=\"lib\n");
+    end = put_file(set, end, SPILLFINCH_RANK_USR_LOCAL_LIB, "70-counters.rules", "SYMLINK=\"local\"\n");
+    end = put_file(set, end, SPILLFINCH_RANK_RUN, "70-counters.rules", "SYMLINK=\"run\"\n");
+    end = put_file(set, end, SPILLFINCH_RANK_ETC, "70-counters.rules", "SYMLINK=\"etc\"\n");
+    end = put_file(set, end, SPILLFINCH_RANK_ETC, "README", "no rules");
+    run_set("run of files", set, end, fresh_length);
+    show_bytes(next, 17);
+
+    end = put_file(set, end, SPILLFINCH_RANK_LIB, "10-first.rules", "\nMODE=\"8\"\n");
+    run_set("run of files, the first of which is refused when it runs", set, end, fresh_length);
+    end = put_file(set, end, SPILLFINCH_RANK_LIB, "90-last.rules", "GOTO=\"end\"\n");
+    run_set("run of files, the last of which has a fault too", set, end, fresh_length);
+    end = put_file(set, end, SPILLFINCH_RANK_ETC, "README", "");
+    run_set("run of files with a name twice in one rank", set, end, fresh_length);
 }
 
 /* The outcome as a record of edition 1, and that as one of edition 2 again. */
@@ -171,6 +215,7 @@ int main(void)
     show_answer("close beside a device record that is cut short", answer);
 
     ask(fresh_length);
+    run_files(fresh_length);
 
     convert(outcome_length);
     contest(outcome_length);

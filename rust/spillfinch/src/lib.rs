@@ -5,10 +5,12 @@
 pub mod calls;
 mod contest;
 mod refusal;
+mod rules_files;
 pub mod sizes;
 
 pub use contest::{contest, Claimant, Contest, Held, Names};
-pub use refusal::{Refusal, Refused, RefusedSet};
+pub use refusal::{Refusal, Refused, RefusedFile, RefusedSet};
+pub use rules_files::{run_files, Rank, RulesFile};
 
 use calls::Answer;
 
@@ -56,11 +58,7 @@ pub fn run(text: &[u8], device: &[u8], outcome: &[u8], sheet: &[u8]) -> Result<R
     let (answer, record) = written(sizes::OUTCOME_ROOM, |target, answer| {
         calls::run(text, device, outcome, sheet, target, answer);
     })?;
-    Ok(Ran {
-        visited: answer[calls::VISITED],
-        tried: answer[calls::TRIED],
-        record,
-    })
+    Ok(ran(&answer, record))
 }
 
 /// The run list of an outcome record.
@@ -120,6 +118,14 @@ fn refused(number: u32, line: u32) -> Refused {
     Refused {
         refusal: Refusal::of_number(number).expect("the header names every number"),
         line,
+    }
+}
+
+fn ran(answer: &Answer, record: Vec<u8>) -> Ran {
+    Ran {
+        visited: answer[calls::VISITED],
+        tried: answer[calls::TRIED],
+        record,
     }
 }
 

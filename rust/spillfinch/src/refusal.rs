@@ -24,6 +24,7 @@ pub enum Refusal {
     RuleExtra = 18,
     LabelMissing = 19,
     LineOpen = 20,
+    FileTwice = 21,
     SubstitutionLong = 30,
     LinkBad = 31,
     ListFull = 32,
@@ -36,7 +37,7 @@ pub enum Refusal {
 use Refusal::*;
 
 impl Refusal {
-    pub const ALL: [Refusal; 25] = [
+    pub const ALL: [Refusal; 26] = [
         TargetShort,
         TextLong,
         DeviceBad,
@@ -55,6 +56,7 @@ impl Refusal {
         RuleExtra,
         LabelMissing,
         LineOpen,
+        FileTwice,
         SubstitutionLong,
         LinkBad,
         ListFull,
@@ -83,7 +85,7 @@ impl Refusal {
             OutcomeBad => "the outcome record is faulty",
             TooNew => "edition 1 has no room for an output, watch or nowatch",
             SheetBad => "the answer sheet is faulty",
-            SetBad => "the set has more than 64 records, or is not laid out as one",
+            SetBad => "the set is over its size, or is not laid out as one",
             LineBad => "line longer than 1024 bytes, or with a NUL byte",
             KeyBad => "unknown or missing key",
             ArgumentBad => "argument in braces missing, faulty or not taken",
@@ -97,6 +99,7 @@ impl Refusal {
             RuleExtra => "more than 512 rules",
             LabelMissing => "GOTO without a later LABEL",
             LineOpen => "backslash at the end that no line follows",
+            FileTwice => "two files with one name and one rank",
             SubstitutionLong => "substituted text longer than 512 bytes",
             LinkBad => "faulty link name",
             ListFull => "no room for one more link, tag, program or property",
@@ -146,3 +149,20 @@ impl fmt::Display for RefusedSet {
 }
 
 impl std::error::Error for RefusedSet {}
+
+/// A refusal of a set of files, and the file that it is about.
+#[derive(Clone, Copy, Debug, PartialEq, Eq)]
+pub struct RefusedFile {
+    /// The line is one of the file.
+    pub refused: Refused,
+    /// From 1 in the lent order; 0 if the refusal is about no file.
+    pub position: u32,
+}
+
+impl fmt::Display for RefusedFile {
+    fn fmt(&self, f: &mut fmt::Formatter) -> fmt::Result {
+        write!(f, "{} file {}", self.refused, self.position)
+    }
+}
+
+impl std::error::Error for RefusedFile {}

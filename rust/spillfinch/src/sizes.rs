@@ -19,3 +19,6 @@ pub const PAIRS_MOST: usize = 32;
 pub const RULES_MOST: usize = 512;
 /// Records of a set.
 pub const RECORDS_MOST: usize = 64;
+/// Files of a set, and bytes of the name of one.
+pub const FILES_MOST: usize = 32;
+pub const FILE_NAME_MOST: usize = 64;

@@ -41,6 +41,8 @@ fn sizes_are_those_of_the_header() {
         ("STRIKES_ROOM", sizes::STRIKES_ROOM),
         ("CONTEST_ROOM", sizes::CONTEST_ROOM),
         ("RECORDS_MOST", sizes::RECORDS_MOST),
+        ("FILES_MOST", sizes::FILES_MOST),
+        ("FILE_NAME_MOST", sizes::FILE_NAME_MOST),
         ("TEXT_MOST", sizes::TEXT_MOST),
         ("SHEET_MOST", sizes::SHEET_MOST),
         ("LINE_MOST", sizes::LINE_MOST),
@@ -63,7 +65,6 @@ fn refusals_are_those_of_the_header() {
 fn texts_name_the_limits() {
     for (refusal, size) in [
         (Refusal::TextLong, sizes::TEXT_MOST),
-        (Refusal::SetBad, sizes::RECORDS_MOST),
         (Refusal::LineBad, sizes::LINE_MOST),
         (Refusal::ValueBad, sizes::VALUE_MOST),
         (Refusal::PairExtra, sizes::PAIRS_MOST),

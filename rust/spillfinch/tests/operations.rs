@@ -1,8 +1,8 @@
 //! Each operation once accepted and once refused.
 
 use spillfinch::{
-    check, close, contest, fresh, newer, older, run, sizes, strike, write, Claimant, Held, Refusal,
-    Refused, RefusedSet, Struck, EMPTY_SHEET,
+    check, close, contest, fresh, newer, older, run, run_files, sizes, strike, write, Claimant,
+    Held, Rank, Refusal, Refused, RefusedFile, RefusedSet, RulesFile, Struck, EMPTY_SHEET,
 };
 
 /// ttyUSB0 with one property and no parents.
@@ -100,6 +100,76 @@ fn contests() {
     let longer = vec![0; 65_536];
     assert_eq!(contest(&[claimant(&longer)]), refused(Refusal::SetBad, 0));
     assert_eq!(contest(&[claimant(&low); 256]), refused(Refusal::SetBad, 0));
+}
+
+fn file<'a>(rank: Rank, name: &'a str, text: &'a str) -> RulesFile<'a> {
+    RulesFile {
+        rank,
+        name: name.as_bytes(),
+        text: text.as_bytes(),
+    }
+}
+
+#[test]
+fn runs_files() {
+    let start = fresh(DEVICE).expect("a sound device");
+    let all = |files: &[RulesFile]| run_files(files, DEVICE, &start, EMPTY_SHEET);
+    let one = |text: &str| run(text.as_bytes(), DEVICE, &start, EMPTY_SHEET);
+    let tag = "TAG+=\"a\"\n";
+    let link = "TAG==\"a\", SYMLINK+=\"b\"\n";
+    let ran = one(&format!("{tag}{link}")).expect("an accepted run");
+    // Of one name the highest rank; the texts of the others, and of other names, are not read.
+    let files = [
+        file(Rank::Lib, "2.rules", link),
+        file(Rank::Lib, "1.rules", "x"),
+        file(Rank::UsrLocalLib, "1.rules", "x"),
+        file(Rank::Run, "1.rules", "x"),
+        file(Rank::Etc, "1.rules", tag),
+        file(Rank::Etc, "README", "x"),
+    ];
+    let mut permuted = files;
+    permuted.reverse();
+    assert_eq!(all(&files).as_ref(), Ok(&ran));
+    assert_eq!(all(&permuted).as_ref(), Ok(&ran));
+    assert_eq!(all(&[]).expect("no rules").record, start);
+
+    let refused = |refusal, line, position| {
+        Err(RefusedFile {
+            refused: Refused { refusal, line },
+            position,
+        })
+    };
+    let readme = file(Rank::Etc, "README", "");
+    assert_eq!(all(&[readme; 2]), refused(Refusal::FileTwice, 0, 0));
+    // A fault in the last file comes before the first one runs.
+    let (mode, bad) = ("\nMODE=\"8\"", "\n\nGOTO=\"end\"");
+    let first = file(Rank::Lib, "1.rules", mode);
+    let last = file(Rank::Etc, "2.rules", bad);
+    assert_eq!(all(&[last, first]), refused(Refusal::LabelMissing, 3, 1));
+    assert_eq!(all(&[readme, first]), refused(Refusal::ModeBad, 2, 2));
+    assert_eq!(
+        run_files(&[first], b"", b"", b""),
+        refused(Refusal::DeviceBad, 0, 0)
+    );
+
+    let numbers: Vec<String> = (0..33).map(|number| number.to_string()).collect();
+    let many: Vec<RulesFile> = numbers
+        .iter()
+        .map(|name| file(Rank::Run, name, "x"))
+        .collect();
+    assert!(all(&many[..32]).is_ok());
+    assert_eq!(all(&many), refused(Refusal::SetBad, 0, 0));
+    let name = "n".repeat(65);
+    assert!(all(&[file(Rank::Run, &name[..64], "")]).is_ok());
+    assert_eq!(
+        all(&[file(Rank::Run, &name, "")]),
+        refused(Refusal::SetBad, 0, 0)
+    );
+    let text = "\n".repeat(65_536);
+    let long = file(Rank::Run, "1.rules", &text[..65_535]);
+    assert_eq!(all(&[long]), refused(Refusal::TextLong, 0, 1));
+    let longer = file(Rank::Run, "1.rules", &text);
+    assert_eq!(all(&[longer]), refused(Refusal::SetBad, 0, 0));
 }
 
 /// Names of so many bytes that differ in their first one.
