@@ -4,7 +4,7 @@ use std::path::{Path, PathBuf};
 
 use crate::report::Failure;
 use crate::running::{head, Beside, Rules};
-use crate::{device, files};
+use crate::{device, files, rules_files};
 
 /// The name of the expected listing in a case.
 pub const EXPECTED: &str = "expected";
@@ -12,14 +12,13 @@ pub const EXPECTED: &str = "expected";
 const START: &str = "from";
 /// The name of the answer sheet of a case, if it has one.
 const SHEET: &str = "sheet";
-const RULES: &str = ".rules";
 const DEVICES: [&str; 2] = [".device", ".umockdev"];
 
-/// A folder with devices, and the rules file that is run on them.
+/// A folder with devices, and the rules files that are run on them.
 #[derive(Debug)]
 pub struct Case {
     pub folder: PathBuf,
-    rules: PathBuf,
+    rules: Vec<PathBuf>,
     devices: Vec<PathBuf>,
 }
 
@@ -36,37 +35,24 @@ pub struct Outcome {
 /// The cases of a folder and of those in it. One that cannot be read is told in its place.
 pub fn find(folder: &Path) -> Result<Vec<Result<Case, Failure>>, Failure> {
     let mut cases = Vec::new();
-    add_cases(folder, &Ok(None), &mut cases)?;
+    add_cases(folder, &[], &mut cases)?;
     Ok(cases)
-}
-
-/// The rules file of a folder, if it has one.
-type Found = Result<Option<PathBuf>, Failure>;
-
-fn rules_in(folder: &Path) -> Found {
-    match &files::list(folder, &[RULES])?[..] {
-        [] => Ok(None),
-        [rules] => Ok(Some(rules.clone())),
-        _ => Err(of_folder(folder, "more than one rules file")),
-    }
 }
 
 fn add_cases(
     folder: &Path,
-    above: &Found,
+    above: &[PathBuf],
     cases: &mut Vec<Result<Case, Failure>>,
 ) -> Result<(), Failure> {
-    let rules = match rules_in(folder) {
-        Ok(None) => above.clone(),
-        found => found,
-    };
+    let own = rules_files::in_directory(folder)?;
+    let rules = if own.is_empty() { above } else { &own };
     let devices = files::list(folder, &DEVICES)?;
     if !devices.is_empty() || folder.join(EXPECTED).exists() {
-        cases.push(rules.clone().and_then(|rules| case(folder, rules, devices)));
+        cases.push(case(folder, rules, devices));
     }
     for entry in files::entries(folder)? {
         if entry.is_dir() && !entry.is_symlink() {
-            add_cases(&entry, &rules, cases)?;
+            add_cases(&entry, rules, cases)?;
         }
     }
     Ok(())
@@ -76,20 +62,20 @@ fn of_folder(folder: &Path, message: &str) -> Failure {
     Failure(format!("{}: {message}", files::shown(folder)))
 }
 
-fn case(folder: &Path, rules: Option<PathBuf>, devices: Vec<PathBuf>) -> Result<Case, Failure> {
+fn case(folder: &Path, rules: &[PathBuf], devices: Vec<PathBuf>) -> Result<Case, Failure> {
     if devices.is_empty() {
         let message = "a listing is expected, but no file ends in .device or .umockdev";
         return Err(of_folder(folder, message));
     }
-    let Some(rules) = rules else {
+    if rules.is_empty() {
         return Err(of_folder(
             folder,
             "no rules file here, nor above in the folder that is tested",
         ));
-    };
+    }
     Ok(Case {
         folder: folder.to_path_buf(),
-        rules,
+        rules: rules.to_vec(),
         devices,
     })
 }
@@ -107,9 +93,10 @@ impl Case {
             sheet: sheet.exists().then_some(&sheet),
         };
         let rules = Rules::read(&self.rules, beside)?;
+        let text = rules.text();
         let mut outcome = Outcome::default();
         for path in &self.devices {
-            let device = device::read(path.as_os_str(), &rules.text)?;
+            let device = device::read(path.as_os_str(), &text)?;
             if self.devices.len() > 1 {
                 let name = path.file_name().map(Path::new).unwrap_or(path);
                 outcome.listing += &head(&files::shown(name));

@@ -11,5 +11,6 @@ pub mod files;
 pub mod listing;
 pub mod progress;
 pub mod report;
+pub mod rules_files;
 pub mod running;
 pub mod syntax;

@@ -1,8 +1,8 @@
-//! The listing of what a rules text makes of a device.
+//! The listing of what rules files make of a device.
 
 use recordings::escape::escape;
 use recordings::{Outcome, RunList};
-use spillfinch::{Ran, Refused};
+use spillfinch::{Ran, Refused, RefusedFile, RulesFile};
 
 /// An accepted run with its close.
 #[derive(Debug)]
@@ -12,31 +12,49 @@ pub struct Listed {
     pub record: Vec<u8>,
 }
 
-/// Runs a text for a device, from an outcome record or from the fresh one, with an answer sheet or
-/// with the empty one, and closes.
+/// Runs files for a device, from an outcome record or from the fresh one, with an answer sheet or
+/// with the empty one, and closes. One alone is run whatever its name is.
 pub fn list(
-    text: &[u8],
+    files: &[RulesFile],
     device: &[u8],
     start: Option<&[u8]>,
     sheet: Option<&[u8]>,
-) -> Result<Listed, Refused> {
+) -> Result<Listed, RefusedFile> {
     let fresh = match start {
         Some(_) => Vec::new(),
         // A faulty device has no fresh record; the run refuses it, a faulty text first.
         None => spillfinch::fresh(device).unwrap_or_default(),
     };
     let sheet = sheet.unwrap_or(spillfinch::EMPTY_SHEET);
-    let ran = spillfinch::run(text, device, start.unwrap_or(&fresh), sheet)?;
-    let list = spillfinch::close(device, &ran.record)?;
+    let outcome = start.unwrap_or(&fresh);
+    let ran = match files {
+        [file] => spillfinch::run(file.text, device, outcome, sheet).map_err(of_no_file)?,
+        _ => spillfinch::run_files(files, device, outcome, sheet)?,
+    };
+    let list = spillfinch::close(device, &ran.record).map_err(of_no_file)?;
     Ok(Listed {
         listing: lines(&ran, &list),
         record: ran.record,
     })
 }
 
-/// The listing of a refusal.
-pub fn refused(refused: &Refused) -> String {
-    format!("{refused}\n")
+fn of_no_file(refused: Refused) -> RefusedFile {
+    RefusedFile {
+        refused,
+        position: 0,
+    }
+}
+
+/// The listing of a refusal, with the name of its file if that is one of several.
+pub fn refused(files: &[RulesFile], refused: &RefusedFile) -> String {
+    let RefusedFile { refused, position } = refused;
+    match position.checked_sub(1) {
+        None => format!("{refused}\n"),
+        Some(index) => {
+            let name = escape(files[index as usize].name);
+            format!("{refused} file {name}\n")
+        }
+    }
 }
 
 fn lines(ran: &Ran, list: &[u8]) -> String {

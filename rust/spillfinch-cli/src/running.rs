@@ -1,20 +1,51 @@
-//! A rules file run on devices.
+//! Rules files run on devices.
 
+use std::os::unix::ffi::OsStrExt;
 use std::path::{Path, PathBuf};
 
-use spillfinch::{Refusal, Refused};
+use spillfinch::{Rank, Refusal, RefusedFile, RulesFile};
 
 use crate::device::{self, Recorded};
 use crate::report::Failure;
+use crate::rules_files::rank_of;
 use crate::{files, listing};
 
-/// A rules file, with the outcome record that its runs start from if not from the fresh one, and
+/// Rules files, with the outcome record that their runs start from if not from the fresh one, and
 /// the answer sheet that they ask if not the empty one.
 pub struct Rules {
-    path: PathBuf,
-    pub text: Vec<u8>,
+    files: Vec<File>,
     start: Option<Lent>,
     sheet: Option<Lent>,
+}
+
+struct File {
+    path: PathBuf,
+    text: Vec<u8>,
+}
+
+impl File {
+    fn read(path: &Path) -> Result<File, Failure> {
+        Ok(File {
+            path: path.to_path_buf(),
+            text: files::read(path)?,
+        })
+    }
+
+    fn rank(&self) -> Rank {
+        rank_of(&self.path)
+    }
+
+    fn name(&self) -> &[u8] {
+        self.path.file_name().unwrap_or_default().as_bytes()
+    }
+
+    fn as_lent(&self) -> RulesFile<'_> {
+        RulesFile {
+            rank: self.rank(),
+            name: self.name(),
+            text: &self.text,
+        }
+    }
 }
 
 /// The files that are lent beside the rules.
@@ -47,8 +78,9 @@ pub struct Given {
 }
 
 impl Rules {
-    pub fn read(path: &Path, beside: Beside) -> Result<Rules, Failure> {
-        let text = files::read(path)?;
+    pub fn read(paths: &[PathBuf], beside: Beside) -> Result<Rules, Failure> {
+        let read: Result<_, Failure> = paths.iter().map(|path| File::read(path)).collect();
+        let files = read?;
         let start = beside
             .start
             .map(|path| Lent::read(path, device::read_start));
@@ -56,40 +88,44 @@ impl Rules {
             .sheet
             .map(|path| Lent::read(path, device::read_answers));
         Ok(Rules {
-            path: path.to_path_buf(),
-            text,
+            files,
             start: start.transpose()?,
             sheet: sheet.transpose()?,
         })
     }
 
+    /// The texts of all files, for what they name.
+    pub fn text(&self) -> Vec<u8> {
+        let texts: Vec<&[u8]> = self.files.iter().map(|file| &file.text[..]).collect();
+        texts.join(&b'\n')
+    }
+
     pub fn run(&self, device: &Recorded) -> Given {
         let start = self.start.as_ref().map(|start| start.packed.as_slice());
         let sheet = self.sheet.as_ref().map(|sheet| sheet.packed.as_slice());
-        match listing::list(&self.text, &device.record, start, sheet) {
+        let files: Vec<RulesFile> = self.files.iter().map(File::as_lent).collect();
+        match listing::list(&files, &device.record, start, sheet) {
             Ok(listed) => Given {
                 listing: listed.listing,
                 record: Ok(listed.record),
             },
             Err(refused) => Given {
-                listing: listing::refused(&refused),
+                listing: listing::refused(&files, &refused),
                 record: Err(self.explain(&refused, &device.name)),
             },
         }
     }
 
     /// The refusal with the file and the line that it is about.
-    fn explain(&self, refused: &Refused, name: &str) -> String {
-        let Refused { refusal, line } = *refused;
+    fn explain(&self, refused: &RefusedFile, name: &str) -> String {
+        let refusal = refused.refused.refusal;
         let number = refusal.number();
-        let rules = files::shown(&self.path);
-        let file = match (refusal, &self.start, &self.sheet) {
-            (Refusal::DeviceBad, ..) => name.to_string(),
+        let place = match (refusal, &self.start, &self.sheet) {
+            (Refusal::DeviceBad, ..) => format!("{name}: "),
             (Refusal::OutcomeBad, Some(lent), _) | (Refusal::SheetBad, _, Some(lent)) => {
-                files::shown(&lent.path)
+                format!("{}: ", files::shown(&lent.path))
             }
-            _ if line > 0 => format!("{rules}:{line}"),
-            _ => rules,
+            _ => self.place(refused),
         };
         let is_of_run = refusal >= Refusal::SubstitutionLong;
         let of_device = match is_of_run {
@@ -98,12 +134,40 @@ impl Rules {
         };
         let hint = match (refusal, &self.start, &self.sheet) {
             (Refusal::OutcomeBad, Some(start), _) if device::is_old(&start.packed) => {
-                "; it is of edition 1, of which `spillfinch convert` makes edition 2"
+                String::from("; it is of edition 1, of which `spillfinch convert` makes edition 2")
             }
-            (Refusal::CommandMissing, _, None) => "; no sheet is given",
-            _ => "",
+            (Refusal::CommandMissing, _, None) => String::from("; no sheet is given"),
+            (Refusal::FileTwice, ..) => self.equal_files(),
+            _ => String::new(),
         };
-        format!("{file}: refused {number}: {refusal}{hint}{of_device}")
+        format!("{place}refused {number}: {refusal}{hint}{of_device}")
+    }
+
+    /// The file and the line that a refusal is about, if it is about one.
+    fn place(&self, refused: &RefusedFile) -> String {
+        let file = match (&self.files[..], refused.position) {
+            ([file], _) => file,
+            (_, 0) => return String::new(),
+            (files, position) => &files[position as usize - 1],
+        };
+        let path = files::shown(&file.path);
+        match refused.refused.line {
+            0 => format!("{path}: "),
+            line => format!("{path}:{line}: "),
+        }
+    }
+
+    /// The first two files with one name and one rank.
+    fn equal_files(&self) -> String {
+        for (at, file) in self.files.iter().enumerate() {
+            let is_equal =
+                |other: &&File| (other.rank(), other.name()) == (file.rank(), file.name());
+            if let Some(other) = self.files[..at].iter().find(is_equal) {
+                let [other, file] = [other, file].map(|file| files::shown(&file.path));
+                return format!(": {other} and {file}");
+            }
+        }
+        String::new()
     }
 }
 

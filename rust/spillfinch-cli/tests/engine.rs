@@ -3,7 +3,7 @@
 use std::path::PathBuf;
 
 use reference::generate::case;
-use spillfinch::{Refusal, Refused, EMPTY_SHEET};
+use spillfinch::{Rank, Refusal, Refused, RulesFile, EMPTY_SHEET};
 use spillfinch_cli::check::{check, Subject};
 use spillfinch_cli::listing::{list, refused};
 use spillfinch_cli::syntax::line::read_line;
@@ -102,9 +102,14 @@ fn listings_are_those_of_the_reference() {
             (None, None),
             (Some(&case.outcome[..]), Some(&case.sheet[..])),
         ] {
-            let listing = match list(&case.text, &case.device, start, sheet) {
+            let files = [RulesFile {
+                rank: Rank::Etc,
+                name: b"",
+                text: &case.text,
+            }];
+            let listing = match list(&files, &case.device, start, sheet) {
                 Ok(listed) => listed.listing,
-                Err(found) => refused(&found),
+                Err(found) => refused(&files, &found),
             };
             let expected = reference::listing(&case.text, &case.device, start, sheet);
             assert_eq!(listing, String::from_utf8_lossy(&expected), "seed {seed}");

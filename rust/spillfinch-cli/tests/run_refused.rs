@@ -180,7 +180,6 @@ fn files_that_cannot_be_read() {
             "tty.device",
             "none.rules: No such file or directory",
         ),
-        (".", "tty.device", ".: Is a directory"),
         ("rope.rules", "none", "none: No such file or directory"),
         (
             "rope.rules",

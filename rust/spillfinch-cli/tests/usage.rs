@@ -76,7 +76,6 @@ fn bad_usage() {
             &["run", "a", "--device", "b", "--action", "jump"],
             "[possible values: add, remove,",
         ),
-        (&["run", "a", "b", "--device", "c"], "Found argument 'b'"),
         (&["show"], "<DEV>"),
         (&["show", "a", "b"], "Found argument 'b'"),
         (&["import"], "<RECORDING>..."),

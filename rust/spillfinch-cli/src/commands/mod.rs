@@ -15,8 +15,8 @@ use std::path::PathBuf;
 
 use clap::{value_parser, Arg, ArgMatches, Command};
 
-use crate::files;
 use crate::report::{Failure, Report};
+use crate::rules_files::of_paths;
 
 type Done = Result<Report, Failure>;
 
@@ -68,28 +68,15 @@ fn file(id: &'static str, name: &'static str) -> Arg {
 
 /// The argument that names rules files.
 fn rules_argument() -> Arg {
-    file("files", "FILE|DIR")
-        .required(true)
-        .num_args(1..)
-        .help("Rules files; of a directory all files that end in .rules")
+    file("files", "FILE|DIR").required(true).num_args(1..).help(
+        "Rules files; of a directory all files that end in .rules, and those of its\n\
+             rules.d directories if it is the root of a box",
+    )
 }
 
 /// The rules files that are meant, those of a directory in its place.
 fn rules_files(matches: &ArgMatches) -> Result<Vec<PathBuf>, Failure> {
-    let mut files = Vec::new();
-    for path in paths(matches, "files") {
-        if files::is_standard_input(path) || !path.is_dir() {
-            files.push(path.to_path_buf());
-            continue;
-        }
-        let mut rules = files::list(path, &[".rules"])?;
-        if rules.is_empty() {
-            let path = files::shown(path);
-            return Err(Failure(format!("{path}: no file here ends in .rules")));
-        }
-        files.append(&mut rules);
-    }
-    Ok(files)
+    of_paths(&paths(matches, "files"))
 }
 
 /// An argument that names a device: a file, maybe with the path of one device in it.

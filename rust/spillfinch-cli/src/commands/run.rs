@@ -1,4 +1,4 @@
-//! `spillfinch run`: what a rules file makes of a device.
+//! `spillfinch run`: what rules files make of a device.
 
 use std::path::PathBuf;
 
@@ -6,15 +6,15 @@ use clap::builder::PossibleValuesParser;
 use clap::{Arg, ArgAction, ArgMatches, Command};
 use recordings::Action;
 
-use super::{device as device_argument, file, names, path, Done};
+use super::{device as device_argument, file, names, path, rules_argument, rules_files, Done};
 use crate::report::{Failure, Report, Status};
 use crate::running::{head, Beside, Rules};
 use crate::{device, files};
 
 pub fn command() -> Command {
     Command::new("run")
-        .about("Print what a rules file makes of a device")
-        .arg(file("rules", "RULES").required(true).help("The rules file"))
+        .about("Print what rules files make of a device")
+        .arg(rules_argument())
         .arg(
             device_argument("device", "DEV")
                 .long("device")
@@ -52,12 +52,14 @@ pub fn command() -> Command {
                 .help("Write the packed outcome record to this file; for one device"),
         )
         .after_help(
-            "Example:\n  spillfinch run examples/listing/rope.rules --device examples/listing/ttyUSB0.device",
+            "Several files run in the order of their names. Of equal names only the highest counts: one\n\
+             whose path has the directory etc/udev/rules.d, then run/, usr/local/lib/, and lib/ or usr/lib/;\n\
+             other directories are as etc.\n\n\
+             Example:\n  spillfinch run examples/listing/rope.rules --device examples/listing/ttyUSB0.device",
         )
 }
 
 pub fn run(matches: &ArgMatches) -> Done {
-    let rules = path(matches, "rules").expect("it is required");
     let devices = names(matches, "device");
     let record_file = path(matches, "record");
     if record_file.is_some() && devices.len() > 1 {
@@ -72,10 +74,11 @@ pub fn run(matches: &ArgMatches) -> Done {
         start: path(matches, "from").map(PathBuf::as_path),
         sheet: path(matches, "sheet").map(PathBuf::as_path),
     };
-    let rules = Rules::read(rules, beside)?;
+    let rules = Rules::read(&rules_files(matches)?, beside)?;
+    let text = rules.text();
     let mut recorded = Vec::new();
     for name in &devices {
-        recorded.push(device::read(name, &rules.text)?);
+        recorded.push(device::read(name, &text)?);
     }
 
     let mut report = Report::default();

@@ -26,10 +26,10 @@ pub fn command() -> Command {
                 .help("Write the listings as they are now to the expected files"),
         )
         .after_help(
-            "A case is a folder with devices (*.device, *.umockdev), a rules file (*.rules, there or\n\
-             in the nearest folder above it within DIR) and the file `expected`: what `spillfinch\n\
-             run` prints for them. A file `from` is the outcome record to start from, a file `sheet` the\n\
-             answer sheet that PROGRAM asks.\n\n\
+            "A case is a folder with devices (*.device, *.umockdev), rules files (*.rules, and those of\n\
+             etc/udev/rules.d and the like, there or in the nearest folder above it within DIR) and the file\n\
+             `expected`: what `spillfinch run` prints for them. A file `from` is the outcome record to start\n\
+             from, a file `sheet` the answer sheet that PROGRAM asks.\n\n\
              Example:\n  spillfinch test examples/cases",
         )
 }
