@@ -23,7 +23,7 @@ use Rattle.plan.specs.Plan.{Naming}
 use Rattle.plan.specs.Operations.{mostWishes, Wish, oneWish, decodeWishes, namingsFrom, namings}
 use Rattle.plan_rows.specs.declared.WishPlace.{WishPlace}
 use Rattle.plan_rows.specs.Places.{wishIn, WishFrom, WishIs}
-use Rattle.plan_rows.specs.Namings.{Stand, orNone, namingsIn, Whole}
+use Rattle.plan_rows.specs.Namings.{wishOf, Stand, orNone, namingsIn, Whole}
 
 -- ---- one after the other
 
@@ -161,7 +161,7 @@ stand-of (suc m) k bs ws ns r e =
     subst (Stand bs) (sym (s .split))
     (z, record { read = e₁ ∙ ap (λ (x : Wish). got x z) (wish-of s); sound = s .sound }, stand-of m (suc k) z us (s .others) (e₂ ∙ ap (got us) b) (s .behind))
   where
-    wish-of : {k : ℕ} {w : Wish} {us : List Wish} {ns : List Naming} (s : Split k w us ns) → w ≡ record { device = s .naming .bytes-lent; link = s .naming .link }
+    wish-of : {k : ℕ} {w : Wish} {us : List Wish} {ns : List Naming} (s : Split k w us ns) → w ≡ wishOf (s .naming)
     wish-of s = λ i. record { device = sym (s .device) i; link = sym (s .link) i }
 
 namings-length : (k : ℕ) (ws : List Wish) (ns : List Naming) → namingsFrom k ws ≡ ok ns → length ns ≡ length ws

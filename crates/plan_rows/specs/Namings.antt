@@ -17,9 +17,12 @@ use Rattle.plan_rows.specs.declared.Judged.the-variants as judged
 
 -- ---- from a place on
 
+abbrev pub wishOf : Naming → Wish
+wishOf n = record { device = n .bytes-lent; link = n .link }
+
 -- a naming at the front, and what follows it
 pub record First (bs : List ℕ) (n : Naming) (z : List ℕ) : Type 0 where
-  pub read : oneWish bs ≡ got (record { device = n .bytes-lent; link = n .link }) z
+  pub read : oneWish bs ≡ got (wishOf n) z
   pub sound : D.decode (n .bytes-lent) ≡ some (n .device)
 
 -- namings, one behind the other
