@@ -23,7 +23,7 @@ pub enum Written {
 
 // ---- bytes
 
-fn put_one(out: &mut [u8], used: usize, b: u8) -> usize
+pub fn put_one(out: &mut [u8], used: usize, b: u8) -> usize
     requires { ⌜ used + 1 ≤ length (now out) ⌝ }
     ensures { λ r. ⌜ Placed (b ∷ []) (now (out .entry)) used r (now (out .exit)) ⌝ }
 {
@@ -39,7 +39,7 @@ fn put_two(out: &mut [u8], used: usize, a: u8, b: u8) -> usize
     put_one(out, one, b)
 }
 
-fn put_text(out: &mut [u8], used: usize, text: &[u8]) -> usize
+pub fn put_text(out: &mut [u8], used: usize, text: &[u8]) -> usize
     requires { ⌜ used + length (now text) ≤ length (now out) ⌝ }
     ensures { λ r. ⌜ Placed (now (text .entry)) (now (out .entry)) used r (now (out .exit)) ⌝ }
 {
