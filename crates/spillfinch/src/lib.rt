@@ -7,7 +7,7 @@ ghost use lib.ListN.{length};
 ghost use Rattle.answers.specs.Answers.{answered};
 ghost use Rattle.set_answers.specs.Answers.{answered as answered-set};
 ghost use Rattle.engine.specs.Operations.{fresh as fresh-answer, close as close-answer};
-ghost use Rattle.spillfinch.specs.Exports.{numbers, numbersWith, Gives, CheckGives, RunGives, WriteGives, NewerGives, OlderGives, StrikeGives, setNumbers, ContestGives, FilesGives};
+ghost use Rattle.spillfinch.specs.Exports.{numbers, numbersWith, Gives, CheckGives, RunGives, WriteGives, NewerGives, OlderGives, StrikeGives, setNumbers, ContestGives, FilesGives, PlanCheckGives, PlanGives};
 
 fn put_answer(given: Given, answer: &mut [u32; 8])
     ensures { λ _. ⌜ now (answer .exit) ≡ numbers (answered given []) ⌝ }
@@ -167,4 +167,19 @@ pub extern "C" fn spillfinch_run_files(
         run_files::run_files(set, device, outcome, sheet, target),
         answer,
     );
+}
+
+// Document 02, Item 14.
+#[no_mangle]
+pub extern "C" fn spillfinch_plan_check(set: &[u8], text: &[u8], answer: &mut [u32; 8])
+    ensures { λ _. ⌜ PlanCheckGives (now (set .entry)) (now (text .entry)) (now (answer .exit)) ⌝ }
+{
+    put_set_answer(plan_check::check(set, text), answer);
+}
+
+#[no_mangle]
+pub extern "C" fn spillfinch_plan(set: &[u8], target: &mut [u8], answer: &mut [u32; 8])
+    ensures { λ _. ⌜ PlanGives (now (set .entry)) (length (now (target .entry))) (now (answer .exit)) (now (target .exit)) ⌝ }
+{
+    put_set_answer(planner::plan(set, target), answer);
 }
