@@ -1,30 +1,44 @@
--- One device: its fresh record, the run from it, and the links that this leaves.
+-- One device: its fresh record, the rules run over it, and the links that they leave.
 -- Assumes nothing.
-use Prim.Native.Nat.{ℕ, zero, suc, _-_, _≤_}
+use Prim.Native.Nat.{ℕ, _-_, _≤_}
 use mathlib.Core.Path.{_≡_, refl, sym, ap, ap₂, _∙_, subst}
 use mathlib.Core.Bool.{Bool, true, false, _||_}
-use mathlib.Core.List.{List, [], _∷_, _++_}
+use mathlib.Core.List.{List, [], _∷_}
 use mathlib.Core.Option.{some}
 use native.Mathlib.Omega.{arith}
 use lib.ListN.{length, take, replicate, length-append}
 use lib.Seq.{take-append-seam}
 use Rattle.lists.specs.Lists.{isSome}
 use Rattle.lists.specs.Bytes.{sameBytes, among}
-use Rattle.lists.specs.Checked.{refused, ok, line}
+use Rattle.lists.specs.Checked.{refused, ok, Placed}
+use Rattle.lists.specs.Refusal.{Refusal}
 use Rattle.lists.specs.Sizes.{fullestOutcome}
+use Rattle.splice.specs.Moves.{padded}
+use Rattle.rules.specs.Pair.{Rule}
+use Rattle.rules.specs.Reading.{reader}
 use Rattle.device.specs.Device as D
 use Rattle.device.specs.Device.{Device, chain}
+use Rattle.device_lookup.specs.Lookup.{Chained}
+use Rattle.device_lookup.specs.declared.Chain.{Chain}
 use Rattle.outcome.specs.State as O
 use Rattle.outcome.specs.State.{State}
-use Rattle.text.specs.Run.{Answer}
-use Rattle.text.specs.Running.{Halt, Ran}
-use Rattle.text.proofs.Runs.{refusal-number}
+use Rattle.outcome.specs.Head.{headerSize}
+use Rattle.outcome.proofs.Fresh.{fresh-good, fresh-read}
+use Rattle.outcome.proofs.RoundTrip.{there}
+use Rattle.outcome_target.specs.Held as target
+use Rattle.outcome_target.specs.Layout.{layoutOf}
+use Rattle.outcome_target.specs.declared.Layout.{Layout}
+use Rattle.outcome_target.proofs.Edits.{layout-end}
+use Rattle.records.specs.Records.{Denotes}
+use Rattle.run.proofs.Laws.{used-is}
+use Rattle.text.specs.Reading.{readText}
+use Rattle.text.specs.Run.{Answer, acceptance}
+use Rattle.text.specs.Running.{Halt, Ran, next, runFrom}
 use Rattle.sheet.specs.Sheet as sheet
-use Rattle.engine.specs.Operations.{decodeFor, ran, run, fresh}
+use Rattle.engine.specs.Operations.{decodeFor, engine, runChecked, fresh, freshChecked}
 use Rattle.answers.specs.Answers.{answered}
 use Rattle.answers.specs.declared.Given.{Given}
 use Rattle.plan.specs.Plan.{Naming, only, endsWith, unanswered, runFresh, names}
-use Rattle.plan.proofs.Plans.{fresh-made, fresh-fits, run-ends}
 
 -- ---- links
 
@@ -43,65 +57,85 @@ only-among x [] k e h = absurd (omega arith)
 only-among x (y ∷ []) k e h = or-none (sameBytes y x)
 only-among x (y ∷ z ∷ ls) k e h = absurd (omega arith)
 
--- ---- the fresh record
-
 -- ---- a sheet of no replies
 
-pub sheet-sound : true ≡ isSome (sheet.decode (0 ∷ []))
+pub sheet-sound : isSome (sheet.decode (0 ∷ [])) ≡ true
 unfolding sheet.decode
 sheet-sound = refl
+
+pub sheet-none : sheet.decode (0 ∷ []) ≡ some unanswered
+unfolding sheet.decode
+sheet-none = refl
+
+no-replies : sheet.decode (sheet.encode unanswered) ≡ some unanswered
+unfolding sheet.decode sheet.encode
+no-replies = refl
 
 module _ (dev link : List ℕ) (d : Device) (is : D.decode dev ≡ some d) where
   abbrev pub naming : Naming
   naming = record { bytes-lent = dev; device = d; link = link }
 
-  module _ (start : List ℕ) (room : ℕ) (size : room ≡ fullestOutcome) (g : Given) (gave : answered g start ≡ fresh dev room) where
-    pub begun-fits : g .used ≤ length start
-    begun-fits = subst (λ (a : Answer). a .used ≤ length (a .bytes)) (sym (gave ∙ ap (fresh dev) size)) (fresh-fits naming is)
+  -- ---- the fresh record in the buffer
 
-    pub begun-is : take (g .used) start ≡ O.encode (O.fresh d)
-    begun-is = ap (λ (a : Answer). take (a .used) (a .bytes)) (gave ∙ ap (fresh dev) size) ∙ fresh-made naming is
+  -- where its rows begin
+  abbrev startsAt : ℕ → Layout
+  startsAt n = record { links = headerSize; properties = headerSize; tags = n; runs = n; end = n }
 
-  -- ---- the run from it
+  fresh-layout : startsAt (length (O.encode (O.fresh d))) ≡ layoutOf (O.fresh d)
+  unfolding layoutOf O.fresh
+  fresh-layout =
+      let n = length (O.encode (O.fresh d)) in
+      let end : n ≡ layoutOf (O.fresh d) .end = sym (layout-end (O.fresh d)) in
+      let tags : n ≡ layoutOf (O.fresh d) .tags = omega (arith, end) in
+      let runs : n ≡ layoutOf (O.fresh d) .runs = omega (arith, end) in
+      λ i. record { links = headerSize; properties = headerSize; tags = tags i; runs = runs i; end = end i }
 
-  no-replies : sheet.encode unanswered ≡ 0 ∷ []
-  unfolding sheet.encode
-  no-replies = refl
+  fresh-given : acceptance fullestOutcome 0 0 (O.encode (O.fresh d)) ≡ fresh dev fullestOutcome
+  unfolding fresh freshChecked
+  fresh-given = rw is
 
-  pub ran-fresh : (text out : List ℕ) (room : ℕ) (a : Answer) → out ≡ O.encode (O.fresh d) → room ≡ fullestOutcome → a ≡ run text dev out (0 ∷ []) room → a ≡ ran fullestOutcome (runFresh text naming)
-  unfolding run
-  ran-fresh text out room a o size e =
-      e ∙ ap₂ (λ (x : List ℕ) (k : ℕ). run text dev x (0 ∷ []) k) o size ∙ ap (λ (s : List ℕ). run text dev (O.encode (O.fresh d)) s fullestOutcome) (sym no-replies)
+  module _ (t : List ℕ) (room : ℕ) (size : room ≡ fullestOutcome) (long : length t ≡ room) (g : Given) (gave : answered g t ≡ fresh dev room) where
+    pub begun : (r : Chain) → Chained d r → (lay : Layout) → lay ≡ startsAt (g .used) → Denotes dev r t lay d (O.fresh d)
+    begun r c lay l =
+        let as-fresh = gave ∙ ap (fresh dev) size ∙ sym fresh-given in
+        record {
+          device = is;
+          chained = c;
+          held = record {
+            good = fresh-good dev d is;
+            bytes = ap (λ (a : Answer). a .bytes) as-fresh ∙ ap (λ (k : ℕ). padded k (O.encode (O.fresh d))) (sym (long ∙ size));
+            layout = l ∙ ap (λ (a : Answer). startsAt (a .used)) as-fresh ∙ fresh-layout;
+            room = omega (arith, long, size);
+          };
+        }
 
-  module _ (text end : List ℕ) (g : Given) (gave : answered g end ≡ ran fullestOutcome (runFresh text naming)) where
-    pub names-none : (g .number ≡ 0 → ⊥) → false ≡ names text naming
-    unfolding ran
-    names-none h = at (runFresh text naming) gave
-      where
-        at : (c : Ran State) → answered g end ≡ ran fullestOutcome c → false ≡ endsWith link c
-        at (refused f) e = refl
-        at (ok k) e = absurd (h (ap (λ (a : Answer). a .number) e))
+  -- ---- the rules
 
-    -- what it leaves where it is not refused
-    pub record Ended : Type 0 where
-      pub state : State
-      pub held : O.decode (length (chain d)) (take (g .used) end) ≡ some state
-      pub fits : g .used ≤ length end
-      pub named : names text naming ≡ only link (state .links)
+  pub names-unread : (text : List ℕ) (f : Placed Refusal) → readText reader text ≡ refused f → false ≡ names text naming
+  unfolding runChecked
+  names-unread text f w = rw w
 
-    pub names-ended : g .number ≡ 0 → Ended
-    unfolding ran decodeFor
-    names-ended z = at (runFresh text naming) refl gave
-      where
-        at : (c : Ran State) → runFresh text naming ≡ c → answered g end ≡ ran fullestOutcome c → Ended
-        at (refused (line n f)) w e = let (k, p) = refusal-number f in absurd (omega (arith, sym p ∙ sym (ap (λ (a : Answer). a .number) e) ∙ z))
-        at (ok h) w e =
-            let made : List ℕ = O.encode (h .state) in
-            let zeros : List ℕ = replicate (fullestOutcome - length made) 0 in
-            let front : take (g .used) end ≡ made = ap (λ (a : Answer). take (a .used) (a .bytes)) e ∙ take-append-seam made zeros in
-            record {
-              state = h .state;
-              held = ap (O.decode (length (chain d))) front ∙ run-ends text naming is h w;
-              fits = subst (λ (a : Answer). a .used ≤ length (a .bytes)) (sym e) (omega (arith, length-append made zeros));
-              named = ap (endsWith link) w;
-            }
+  run-read : (text : List ℕ) (rs : List (Placed Rule)) → readText reader text ≡ ok rs → runFresh text naming ≡ runFrom (engine unanswered) d next (O.fresh d) rs
+  unfolding runChecked decodeFor
+  run-read text rs w = rw (w, is, fresh-read dev d is, no-replies)
+
+  module _ (text : List ℕ) (rs : List (Placed Rule)) (w : readText reader text ≡ ok rs) where
+    pub names-refused : (f : Placed Refusal) → runFrom (engine unanswered) d next (O.fresh d) rs ≡ refused f → false ≡ names text naming
+    names-refused f e = sym (ap (endsWith link) (run-read text rs w ∙ e))
+
+    pub names-ended : (h : Halt State) → runFrom (engine unanswered) d next (O.fresh d) rs ≡ ok h → names text naming ≡ only link (h .state .links)
+    names-ended h e = ap (endsWith link) (run-read text rs w ∙ e)
+
+-- ---- the record that is left
+
+module _ (n : ℕ) (l : List ℕ) (lay : Layout) (s : State) (w : target.Held n l lay s) where
+  pub left-fits : lay .end ≤ length l
+  left-fits =
+      let made : List ℕ = O.encode s in
+      let zeros : List ℕ = replicate (length l - length made) 0 in
+      omega (arith, used-is n l lay s w, ap length (w .bytes), length-append made zeros)
+
+  pub left-read : O.decode n (take (lay .end) l) ≡ some s
+  left-read =
+      ap (O.decode n) (ap₂ take (used-is n l lay s w) (w .bytes) ∙ take-append-seam (O.encode s) _)
+      ∙ there n s (w .good)

@@ -1,9 +1,12 @@
 // The checker of naming plans, a public operation (document 02, Item 14): whether a rules text, run on each device of a lent set from its
 // fresh record with an answer sheet of no replies, leaves the device its wanted link and no other. The text is read once.
 
+use outcome_target::HEADER;
+use outcome_target::Layout;
 use plan_rows::Judged;
 use reader::TextRead;
 use rows::Kind;
+use runner::TextRan;
 use set_answers::Given;
 ghost use mathlib.Core.List.{List, []};
 ghost use mathlib.Core.Path.{_≡_};
@@ -18,7 +21,6 @@ ghost use Rattle.set_answers.specs.Answers.{answered};
 ghost use Rattle.plan.specs.Plan.{only, names as names-naming, accepts};
 ghost use Rattle.plan.specs.Operations.{check as check-answer};
 ghost use Rattle.plan_rows.specs.Namings.{namingsIn, Whole};
-ghost use Rattle.plan_check.specs.Reads.{Reads};
 
 // ---- one device
 
@@ -34,7 +36,7 @@ fn has_only(rec: &[u8], link: &[u8]) -> bool
     rows::has(rec, row.links, row.count, Kind::Text, link)
 }
 
-// A text that was read names a device as wanted; its fresh record and what the run leaves come into the two buffers.
+// A text that was read names a device as wanted; its fresh record and what the rules leave of it lie in the buffer.
 fn names(
     read: TextRead,
     values: &[u8],
@@ -43,32 +45,41 @@ fn names(
     jumps: &[u16],
     device: &[u8],
     link: &[u8],
-    start: &mut [u8],
-    end: &mut [u8],
+    t: &mut [u8],
 ) -> bool
-    requires { ⌜ Reads (now values) (now rows) (now rules) (now jumps) read × Sound (now device) × (length (now start) ≡ fullestOutcome) × (length (now end) ≡ fullestOutcome) ⌝ }
+    requires { ⌜ Readable (now values) (now rows) (now rules) (now jumps) read × Sound (now device) × (length (now t) ≡ fullestOutcome) ⌝ }
     ensures { λ r. ⌜ ((text : List ℕ) → ReadAs text (now (values .entry)) (now (rows .entry)) (now (rules .entry)) read → OfDevice (now (device .entry)) (λ d. r ≡ names-naming text (record { bytes-lent = now (device .entry); device = d; link = now (link .entry) }))) ⌝ }
 {
-    let begun = fresh::fresh(device, start);
-    let first = begun.used as usize;
+    let TextRead::Accepted(counts) = read else {
+        return false;
+    };
+    let begun = fresh::fresh(device, t);
+    let used = begun.used as usize;
+    let layout = Layout {
+        links: HEADER,
+        properties: HEADER,
+        tags: used,
+        runs: used,
+        end: used,
+    };
     let sheet = [0u8; 1];
-    let given = run_each::run_read(
-        read,
+    let ran = runner::run_rules(
         values,
         rows,
         rules,
         jumps,
+        counts.rules,
         device,
-        &start[..first],
+        device_lookup::chain_of(device),
         &sheet,
-        true,
-        end,
+        t,
+        layout,
     );
-    if given.number != 0 {
+    let TextRan::Ended(left, _, _) = ran else {
         return false;
-    }
-    let last = given.used as usize;
-    has_only(&end[..last], link)
+    };
+    let end = left.end;
+    has_only(&t[..end], link)
 }
 
 // ---- each device
@@ -82,10 +93,9 @@ fn names_each(
     jumps: &[u16],
     set: &[u8],
     n: usize,
-    start: &mut [u8],
-    end: &mut [u8],
+    t: &mut [u8],
 ) -> bool
-    requires { ⌜ Reads (now values) (now rows) (now rules) (now jumps) read × Whole (now set) × (n ≡ length (namingsIn (now set))) × (length (now start) ≡ fullestOutcome) × (length (now end) ≡ fullestOutcome) ⌝ }
+    requires { ⌜ Readable (now values) (now rows) (now rules) (now jumps) read × Whole (now set) × (n ≡ length (namingsIn (now set))) × (length (now t) ≡ fullestOutcome) ⌝ }
     ensures { λ r. ⌜ ((text : List ℕ) → ReadAs text (now (values .entry)) (now (rows .entry)) (now (rules .entry)) read → r ≡ accepts (namingsIn (now (set .entry))) text) ⌝ }
 {
     let mut p: usize = 1;
@@ -102,8 +112,7 @@ fn names_each(
             jumps,
             set_rows::bytes_of(set, device),
             set_rows::bytes_of(set, link),
-            start,
-            end,
+            t,
         );
         if !named {
             return false;
@@ -131,19 +140,8 @@ fn accepts_lent(
     ensures { λ r. ⌜ r ≡ accepts (namingsIn (now (set .entry))) (now (text .entry)) ⌝ }
 {
     let read = reader::read_text(text, values, rows, rules, labels, jumps);
-    let mut start = [0u8; 18125];
-    let mut end = [0u8; 18125];
-    names_each(
-        read,
-        values,
-        rows,
-        rules,
-        jumps,
-        set,
-        n,
-        &mut start,
-        &mut end,
-    )
+    let mut t = [0u8; 18125];
+    names_each(read, values, rows, rules, jumps, set, n, &mut t)
 }
 
 fn accepts_any(text: &[u8], set: &[u8], n: usize) -> bool

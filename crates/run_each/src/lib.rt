@@ -71,7 +71,7 @@ fn put_numbers(t: &mut [u32], at: usize, given: Given)
 // ---- the runs
 
 // A text that was read, over one record beside its device.
-pub fn run_read(
+fn run_read(
     read: TextRead,
     values: &[u8],
     rows: &[u16],
