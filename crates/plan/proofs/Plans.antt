@@ -94,7 +94,7 @@ no-entries = refl
 
 -- ---- the planned text is accepted, and holds the rules
 
-pub all-ready : (ns : List Naming) → due ns ≡ true → All Ready ns
+all-ready : (ns : List Naming) → due ns ≡ true → All Ready ns
 all-ready ns h =
     let (_, r) = and-both (distinct (map pathOf ns)) (distinct (map linkOf ns) && all planNaming ns) h in
     let (_, a) = and-both (distinct (map linkOf ns)) (all planNaming ns) r in
@@ -185,7 +185,7 @@ plan-parts ns h m =
 -- ---- the checker accepts it
 
 -- each device was read from its record
-abbrev pub Sure : Naming → Type 0
+abbrev Sure : Naming → Type 0
 Sure n = D.decode (n .bytes-lent) ≡ some (n .device)
 
 run-fresh : (t : List ℕ) (n : Naming) → Parts quiet t → Sure n → runFresh t n ≡ runFrom quiet (n .device) next (outcome.fresh (n .device)) (rulesOf reader t)
@@ -223,13 +223,9 @@ only-is x [] h = let z : _≡_ {A = ℕ} 0 1 = cc in absurd (omega arith)
 only-is x (y ∷ []) h = ap (λ (l : List ℕ). l ∷ []) (same-eq y x h)
 only-is x (y ∷ z ∷ ls) h = let z : _≡_ {A = ℕ} 0 1 = cc in absurd (omega arith)
 
-pub fresh-made : (n : Naming) → Sure n → take (fresh (n .bytes-lent) fullestOutcome .used) (fresh (n .bytes-lent) fullestOutcome .bytes) ≡ outcome.encode (outcome.fresh (n .device))
+fresh-made : (n : Naming) → Sure n → take (fresh (n .bytes-lent) fullestOutcome .used) (fresh (n .bytes-lent) fullestOutcome .bytes) ≡ outcome.encode (outcome.fresh (n .device))
 unfolding fresh freshChecked
 fresh-made n e = rw e (take-append-seam (outcome.encode (outcome.fresh (n .device))) _)
-
-pub fresh-fits : (n : Naming) → Sure n → fresh (n .bytes-lent) fullestOutcome .used ≤ length (fresh (n .bytes-lent) fullestOutcome .bytes)
-unfolding fresh freshChecked
-fresh-fits n e = rw e (omega (arith, length-append (outcome.encode (outcome.fresh (n .device))) (replicate (fullestOutcome - length (outcome.encode (outcome.fresh (n .device)))) 0)))
 
 module _ (t : List ℕ) (n : Naming) (e : Sure n) where
   abbrev start : List ℕ
@@ -249,10 +245,6 @@ module _ (t : List ℕ) (n : Naming) (e : Sure n) where
           let good : Fine (n .device) (outcome.fresh (n .device)) = (device-sound (n .bytes-lent) (n .device) e, fresh-good (n .bytes-lent) (n .device) e) in
           subst (Holds (Sound quiet laws (n .device))) (sym (run-fresh t n (r .parts) e))
           (unfold rulesOf in run-sound quiet laws (n .device) (rulesOf reader t) next (outcome.fresh (n .device)) tt (r .parts .settled) (lines-read quiet (lines t)) good)
-
-  -- which is read back from its record
-  pub run-ends : (h : Halt State) → runFresh t n ≡ ok h → decodeFor (n .device) (outcome.encode (h .state)) ≡ some (h .state)
-  run-ends h w = laws .again (holds-at (Sound quiet laws (n .device)) w run-good .good)
 
   -- what an answer's record says
   read-back : (h : Halt State) → Sound quiet laws (n .device) h → decodeFor (n .device) (take (answered (ok h) .used) (answered (ok h) .bytes)) ≡ some (h .state)
