@@ -23,7 +23,7 @@ pub enum Written {
 
 // ---- bytes
 
-pub fn put_one(out: &mut [u8], used: usize, b: u8) -> usize
+fn put_one(out: &mut [u8], used: usize, b: u8) -> usize
     requires { ⌜ used + 1 ≤ length (now out) ⌝ }
     ensures { λ r. ⌜ Placed (b ∷ []) (now (out .entry)) used r (now (out .exit)) ⌝ }
 {
