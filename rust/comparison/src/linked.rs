@@ -42,6 +42,8 @@ fn call(request: &Request, written: &mut Written, answer: &mut AnswerArray) {
         Request::Contest { set } => calls::contest(set, target, answer),
         Request::Write { text } => calls::write(text, target, answer),
         Request::Strike { text } => calls::strike(text, target, strikes, answer),
+        Request::PlanCheck { set, text } => calls::plan_check(set, text, answer),
+        Request::Plan { set } => calls::plan(set, target, answer),
         Request::Newer { device, outcome } => calls::newer(device, outcome, target, answer),
         Request::Older { device, outcome } => calls::older(device, outcome, target, answer),
     }
@@ -86,6 +88,11 @@ impl Engine for LinkedApart {
             Request::Contest { set } => call(Request::Contest { set: &own(set) }),
             Request::Write { text } => call(Request::Write { text: &own(text) }),
             Request::Strike { text } => call(Request::Strike { text: &own(text) }),
+            Request::PlanCheck { set, text } => call(Request::PlanCheck {
+                set: &own(set),
+                text: &own(text),
+            }),
+            Request::Plan { set } => call(Request::Plan { set: &own(set) }),
             Request::Newer { device, outcome } => call(Request::Newer {
                 device: &own(device),
                 outcome: &own(outcome),

@@ -30,6 +30,15 @@ pub fn write_case(directory: &Path, case: &Case) -> io::Result<()> {
             fs::write(directory.join("permuted"), permuted)?;
             rooms += &format!("run_files {room}\n");
         }
+        Extra::Plan {
+            set,
+            proposal,
+            room,
+        } => {
+            fs::write(directory.join("set"), set)?;
+            fs::write(directory.join("proposal"), proposal)?;
+            rooms += &format!("plan {room}\n");
+        }
         Extra::Convert { old, newer, older } => {
             fs::write(directory.join("old"), old)?;
             rooms += &format!("newer {newer}\nolder {older}\n");
@@ -66,6 +75,12 @@ pub fn read_case(directory: &Path) -> io::Result<Case> {
         Extra::RunFiles {
             set: fs::read(directory.join("set"))?,
             permuted: fs::read(directory.join("permuted"))?,
+            room,
+        }
+    } else if let Ok(room) = room("plan") {
+        Extra::Plan {
+            set: fs::read(directory.join("set"))?,
+            proposal: fs::read(directory.join("proposal"))?,
             room,
         }
     } else if let Ok(room) = room("write") {

@@ -22,6 +22,14 @@ pub enum Operation {
     RunFiles,
     /// With the files in another order.
     RunFilesPermuted,
+    PlanCheck,
+    Plan,
+    /// Of the engine's plan.
+    PlanCheckOwn,
+    /// Of the reference's plan, by the engine.
+    PlanCheckReference,
+    /// Of the engine's plan, by the reference.
+    PlanCheckByReference,
     Newer,
     OlderAfterNewer,
     Older,
@@ -58,6 +66,32 @@ impl Reply {
 
     pub fn tried(&self) -> u32 {
         self.answer[4]
+    }
+
+    /// Whether two engines may give these replies. A plan is free: what is asked of it is said
+    /// by the checks that follow it.
+    fn agrees_with(&self, other: &Reply) -> bool {
+        let both_plan = [self, other]
+            .into_iter()
+            .all(|reply| reply.operation == Operation::Plan && reply.count() == 1);
+        if !both_plan {
+            return self == other;
+        }
+        let without_used = |reply: &Reply| {
+            let mut answer = reply.answer;
+            answer[3] = 0;
+            answer
+        };
+        without_used(self) == without_used(other)
+            && self.written.target.len() == other.written.target.len()
+            && self.is_zero_past_record()
+            && other.is_zero_past_record()
+    }
+
+    fn is_zero_past_record(&self) -> bool {
+        let used = self.answer[3] as usize;
+        let rest = self.written.target.get(used..);
+        rest.is_some_and(|rest| rest.iter().all(|&byte| byte == 0))
     }
 
     pub fn position(&self) -> u32 {
@@ -197,7 +231,7 @@ impl fmt::Display for Difference {
 /// The first difference in what two engines gave.
 pub fn first_difference(left: &[Reply], right: &[Reply]) -> Option<Difference> {
     let mut both = left.iter().zip(right);
-    let (left, right) = both.find(|(left, right)| left != right)?;
+    let (left, right) = both.find(|(left, right)| !left.agrees_with(right))?;
     Some(Difference {
         operation: left.operation,
         left: left.answer,

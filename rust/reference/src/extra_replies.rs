@@ -1,7 +1,7 @@
 //! What an engine gives for what a case asks for beside the check, the fresh record, the run and
 //! the close.
 
-use crate::compare::{reply, Engine, Operation, Reply, Request};
+use crate::compare::{reply, Engine, Operation, Reference, Reply, Request};
 use crate::generate::{Case, Extra};
 use crate::request::Written;
 
@@ -21,6 +21,11 @@ pub fn extra_replies(engine: &dyn Engine, case: &Case) -> Vec<Reply> {
             run_files_reply(engine, Operation::RunFiles, case, set, *room),
             run_files_reply(engine, Operation::RunFilesPermuted, case, permuted, *room),
         ],
+        Extra::Plan {
+            set,
+            proposal,
+            room,
+        } => plan_replies(engine, set, proposal, *room),
         Extra::Convert { old, newer, older } => convert_replies(engine, case, old, *newer, *older),
         Extra::Write { room } => write_replies(engine, &case.text, *room),
         Extra::Strike { room, strikes } => strike_replies(engine, &case.text, *room, *strikes),
@@ -41,6 +46,27 @@ fn run_files_reply(
         sheet: &case.sheet,
     };
     reply(engine, operation, &request, Written::with_target(room))
+}
+
+/// A check of the proposal, then a plan, with checks by the engine and by the reference.
+fn plan_replies(engine: &dyn Engine, set: &[u8], proposal: &[u8], room: usize) -> Vec<Reply> {
+    let check = |engine: &dyn Engine, operation, text: &[u8]| {
+        let request = Request::PlanCheck { set, text };
+        reply(engine, operation, &request, Written::default())
+    };
+    let plan = |engine: &dyn Engine| {
+        let request = Request::Plan { set };
+        let written = Written::with_target(room);
+        reply(engine, Operation::Plan, &request, written)
+    };
+    let (own, other) = (plan(engine), plan(&Reference));
+    vec![
+        check(engine, Operation::PlanCheck, proposal),
+        check(engine, Operation::PlanCheckOwn, own.record()),
+        check(engine, Operation::PlanCheckReference, other.record()),
+        check(&Reference, Operation::PlanCheckByReference, own.record()),
+        own,
+    ]
 }
 
 fn write_replies(engine: &dyn Engine, text: &[u8], room: usize) -> Vec<Reply> {

@@ -12,6 +12,8 @@ mod file_sets;
 pub mod joins;
 mod pairs;
 mod patterns;
+mod plan_edges;
+mod plans;
 pub mod record_sets;
 pub mod rng;
 mod rules_text;

@@ -21,6 +21,7 @@ pub mod listing;
 pub mod operations;
 pub mod outcome;
 pub mod pattern;
+pub mod plan;
 pub mod program;
 pub mod property;
 pub mod record;
@@ -35,12 +36,14 @@ pub mod sizes;
 pub mod strike;
 pub mod template;
 pub mod text_form;
+pub mod wanted_set;
 pub mod writer;
 
 pub use device::Device;
 pub use listing::listing;
 pub use operations::{
-    check, close, contest, fresh, newer, older, run, run_files, strike, write, Answer,
+    check, close, contest, fresh, newer, older, plan, plan_check, run, run_files, strike, write,
+    Answer,
 };
 pub use outcome::Outcome;
 pub use sheet::Sheet;

@@ -5,6 +5,7 @@ use crate::device::Device;
 use crate::engine::Runner;
 use crate::file_set::{FileSet, Winner};
 use crate::outcome::{Edition, Outcome};
+use crate::plan::{self, Naming};
 use crate::record_set::{RecordPair, RecordSet};
 use crate::refusal::{Fault, Refusal};
 use crate::rules;
@@ -12,6 +13,7 @@ use crate::run_list::RunList;
 use crate::sheet::Sheet;
 use crate::sizes;
 use crate::strike::{self, Struck};
+use crate::wanted_set::{Wanted, WantedSet};
 use crate::writer;
 
 #[derive(Clone, Copy, Debug, Default, PartialEq, Eq)]
@@ -88,6 +90,23 @@ pub fn close(device: &[u8], outcome: &[u8], target: &mut [u8]) -> Answer {
 /// Writes the holder of each link that the records of a set claim, with the other claimants.
 pub fn contest(set: &[u8], target: &mut [u8]) -> Answer {
     let result = make_contest(set, target.len());
+    deliver(result, target)
+}
+
+/// Whether a text is a plan for the devices of a set; the count is then 1.
+pub fn plan_check(set: &[u8], text: &[u8]) -> Answer {
+    match decode_namings(set) {
+        Ok(namings) => Answer {
+            count: u32::from(plan::is_plan(text, &namings)),
+            ..Answer::default()
+        },
+        Err(refusal) => refusal.into(),
+    }
+}
+
+/// Writes a plan for the devices of a set, and counts 1 if there is one.
+pub fn plan(set: &[u8], target: &mut [u8]) -> Answer {
+    let result = make_plan(set, target.len());
     deliver(result, target)
 }
 
@@ -250,6 +269,30 @@ fn decode_set(set: &[u8]) -> Result<RecordSet, Refusal> {
 fn decode_records(records: &RecordPair) -> Result<Outcome, Refusal> {
     let device = decode_device(&records.device)?;
     decode_outcome(&records.outcome, &device)
+}
+
+fn make_plan(set: &[u8], room: usize) -> Result<Accepted, Refusal> {
+    check_room(room, sizes::TEXT)?;
+    let plan = plan::plan(&decode_namings(set)?);
+    Ok(Accepted {
+        count: u32::from(plan.is_some()),
+        record: plan.unwrap_or_default(),
+        ..Accepted::default()
+    })
+}
+
+fn decode_namings(set: &[u8]) -> Result<Vec<Naming>, Refusal> {
+    let set = WantedSet::decode(set).ok_or(Fault::Set.without_line())?;
+    (1..)
+        .zip(set.entries)
+        .map(|(position, Wanted { device, link })| {
+            let device = decode_device(&device);
+            Ok(Naming {
+                device: device.map_err(|refusal| refusal.at_position(position))?,
+                link,
+            })
+        })
+        .collect()
 }
 
 fn make_newer(device: &[u8], outcome: &[u8], room: usize) -> Result<Accepted, Refusal> {

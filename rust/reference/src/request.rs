@@ -39,6 +39,13 @@ pub enum Request<'a> {
     Strike {
         text: &'a [u8],
     },
+    PlanCheck {
+        set: &'a [u8],
+        text: &'a [u8],
+    },
+    Plan {
+        set: &'a [u8],
+    },
     Newer {
         device: &'a [u8],
         outcome: &'a [u8],
@@ -122,6 +129,8 @@ impl Engine for Reference {
             Request::Contest { set } => operations::contest(set, target),
             Request::Write { text } => operations::write(text, target),
             Request::Strike { text } => operations::strike(text, target, strikes),
+            Request::PlanCheck { set, text } => operations::plan_check(set, text),
+            Request::Plan { set } => operations::plan(set, target),
             Request::Newer { device, outcome } => operations::newer(device, outcome, target),
             Request::Older { device, outcome } => operations::older(device, outcome, target),
         };

@@ -51,6 +51,9 @@ pub const CONTEST_TARGET: usize = SET_RECORDS * LINKS * (3 + LINK);
 /// The files of a set, and the name of one.
 pub const SET_FILES: usize = 32;
 pub const FILE_NAME: usize = 64;
+/// The devices of a set with a wanted link each, and the event path that a plan can name.
+pub const SET_WANTED: usize = 16;
+pub const PLANNED_PATH: usize = 128;
 /// The fullest run list, and so the least room for a target of one.
 pub const RUN_LIST_TARGET: usize = 8_225;
 /// The struck lines of a text, and so the least room for a list of them.

@@ -89,6 +89,22 @@ extern "C" {
         answer: *mut Answer,
     );
 
+    fn spillfinch_plan_check(
+        set: *const u8,
+        set_length: usize,
+        text: *const u8,
+        text_length: usize,
+        answer: *mut Answer,
+    );
+
+    fn spillfinch_plan(
+        set: *const u8,
+        set_length: usize,
+        target: *mut u8,
+        target_length: usize,
+        answer: *mut Answer,
+    );
+
     fn spillfinch_newer(
         device: *const u8,
         device_length: usize,
@@ -226,6 +242,24 @@ pub fn strike(text: &[u8], target: &mut [u8], strikes: &mut [u16], answer: &mut 
             target.len(),
             strikes.as_mut_ptr(),
             strikes.len(),
+            answer,
+        );
+    }
+}
+
+pub fn plan_check(set: &[u8], text: &[u8], answer: &mut Answer) {
+    unsafe {
+        spillfinch_plan_check(set.as_ptr(), set.len(), text.as_ptr(), text.len(), answer);
+    }
+}
+
+pub fn plan(set: &[u8], target: &mut [u8], answer: &mut Answer) {
+    unsafe {
+        spillfinch_plan(
+            set.as_ptr(),
+            set.len(),
+            target.as_mut_ptr(),
+            target.len(),
             answer,
         );
     }

@@ -87,6 +87,7 @@ fn show_replies(case: &Case, replies: &[Reply]) {
             }
             Operation::Write
             | Operation::WriteAgain
+            | Operation::Plan
             | Operation::Strike
             | Operation::StrikeAgain => Some(String::from_utf8_lossy(record).into_owned()),
             Operation::Contest => None,
@@ -95,6 +96,10 @@ fn show_replies(case: &Case, replies: &[Reply]) {
                     .map(|outcome| show_outcome(&outcome))
             }
             Operation::Check
+            | Operation::PlanCheck
+            | Operation::PlanCheckOwn
+            | Operation::PlanCheckReference
+            | Operation::PlanCheckByReference
             | Operation::CheckStruck
             | Operation::Fresh
             | Operation::Run

@@ -3,6 +3,7 @@
 use super::contest_edges::CONTEST_EDGES;
 use super::edge_cases::*;
 use super::file_edges::FILE_EDGES;
+use super::plan_edges::PLAN_EDGES;
 use super::rng::Rng;
 use super::rules_text::broken;
 use super::sheet_edges::SHEET_EDGES;
@@ -854,6 +855,7 @@ pub const EDGES: &[&[Edge]] = &[
     JOIN_EDGES,
     RUN_EDGES,
     DEVICE_EDGES,
+    PLAN_EDGES,
     OUTCOME_EDGES,
     FILE_EDGES,
     ROOM_EDGES,

@@ -2,6 +2,7 @@
 
 use super::damage::damage;
 use super::file_sets::file_sets;
+use super::plans::set_and_proposal;
 use super::record_sets::record_set;
 use super::rng::Rng;
 use super::world::World;
@@ -23,6 +24,12 @@ pub enum Extra {
     RunFiles {
         set: Vec<u8>,
         permuted: Vec<u8>,
+        room: usize,
+    },
+    /// A check of a proposed plan for the wanted links of a set, and a plan for it.
+    Plan {
+        set: Vec<u8>,
+        proposal: Vec<u8>,
         room: usize,
     },
     /// The conversion of a record of edition 1, that of the case's outcome record, and back.
@@ -55,7 +62,17 @@ pub fn extra(rng: &mut Rng, case: &Case) -> Extra {
             set: record_set(rng),
             room: room(rng, sizes::CONTEST_TARGET),
         },
+        23..=27 => plan(rng),
         _ => Extra::Nothing,
+    }
+}
+
+fn plan(rng: &mut Rng) -> Extra {
+    let (set, proposal) = set_and_proposal(rng);
+    Extra::Plan {
+        set,
+        proposal,
+        room: room(rng, sizes::TEXT),
     }
 }
 
