@@ -15,7 +15,8 @@
  *                               visited rule with such keys whose other keys hold, the place of the nearest device that has them all, from 1, or
  *                               the length of the chain if none has; at most the visited count times that length; 0 for all but a run
  *   answer[SPILLFINCH_POSITION] the record or file of a set that is refused, from 1 in the lent order; 0 if the refusal is about none
- *   answer[SPILLFINCH_COUNT]    how many lines were struck, or how many names a contest lists; 0 after a refusal and for all else
+ *   answer[SPILLFINCH_COUNT]    how many lines were struck, or how many names a contest lists; 1 for a text that names all devices as wanted,
+ *                               and for a plan; 0 after a refusal and for all else
  *   answer[7]                   0
  *
  * All bytes of `target` are written in every call, and all numbers of `strikes`: behind what was made they are zero, after a refusal all of
@@ -63,10 +64,13 @@ extern "C" {
 #define SPILLFINCH_OUTPUT_MOST 512
 #define SPILLFINCH_SUBSTITUTED_MOST 512
 
-/* Limits of a set: its records, or its files and the bytes of a file's name; the bytes of each record or text. */
+/* Limits of a set: its records; its files, and the bytes of a file's name; its devices with wanted links, and the bytes of such a link; the bytes
+ * of each record or text. */
 #define SPILLFINCH_RECORDS_MOST 64
 #define SPILLFINCH_FILES_MOST 32
 #define SPILLFINCH_FILE_NAME_MOST 64
+#define SPILLFINCH_WANTED_MOST 16
+#define SPILLFINCH_WANTED_LINK_MOST 255
 #define SPILLFINCH_LENT_MOST 65535
 
 /* Limits of an answer sheet: replies, bytes of a command. */
@@ -197,6 +201,21 @@ void spillfinch_strike(const uint8_t *text, size_t text_length, uint8_t *target,
  * with the position. */
 void spillfinch_contest(const uint8_t *set, size_t set_length, uint8_t *target, size_t target_length,
                         uint32_t answer[SPILLFINCH_ANSWER_LENGTH]);
+
+/* Says whether a rules text names devices as wanted: answer[SPILLFINCH_COUNT] is 1 exactly if its run for each of them, from the fresh record and with
+ * the answer sheet without replies, is not refused and leaves the wanted link and no other. Any other text has 0, whatever is wrong with it.
+ *
+ * The set: a byte with the number of devices, 1 to 16; for each its device record behind its length in two bytes, the higher one first, and the wanted
+ * link behind its length in a byte. Refusals, before the text is looked at: 7; then 3 with the position of the first faulty record. */
+void spillfinch_plan_check(const uint8_t *set, size_t set_length, const uint8_t *text, size_t text_length,
+                           uint32_t answer[SPILLFINCH_ANSWER_LENGTH]);
+
+/* Writes a rules text that names the devices of such a set as wanted: spillfinch_plan_check accepts it for that set. There is one exactly if the paths
+ * of the event devices differ and have at most 128 bytes, all of A-Z a-z 0-9 / : . _ -, and the wanted links differ, are clean (of A-Z a-z 0-9 # + - . :
+ * = @ _ / alone) and would not be refused as 31; answer[SPILLFINCH_COUNT] is then 1, else 0, and nothing is written. The target has
+ * SPILLFINCH_TEXT_MOST bytes. Refusals: 1, 7, 3 with the position. */
+void spillfinch_plan(const uint8_t *set, size_t set_length, uint8_t *target, size_t target_length,
+                     uint32_t answer[SPILLFINCH_ANSWER_LENGTH]);
 
 #ifdef __cplusplus
 }

@@ -1,5 +1,5 @@
 /* The library from C: checks rules texts, takes a device from its fresh outcome record over a run to its run list, asks an answer sheet,
- * runs a set of files, converts the record to edition 1 and back, asks who of two holds a link, and writes rules back. */
+ * runs a set of files, converts the record to edition 1 and back, asks who of two holds a link, plans a link for a device, and writes rules back. */
 #include <stdio.h>
 #include <string.h>
 
@@ -189,6 +189,43 @@ static void contest(size_t outcome_length)
     printf("it is record %u\n", (unsigned)answer[SPILLFINCH_POSITION]);
 }
 
+static void check_plan(const char *what, const uint8_t *set, size_t set_length, const uint8_t *text, size_t text_length)
+{
+    uint32_t answer[SPILLFINCH_ANSWER_LENGTH];
+    spillfinch_plan_check(set, set_length, text, text_length, answer);
+    show_answer(what, answer);
+    printf("as wanted: %s\n", answer[SPILLFINCH_COUNT] == 1 ? "yes" : "no");
+}
+
+/* The link that a device is to have: a plan for it, the check of that plan and of the rules above, and a link that no plan gives. */
+static void plan(void)
+{
+    uint32_t answer[SPILLFINCH_ANSWER_LENGTH];
+    static const uint8_t link[] = "\x0arope/trip0"; /* 10 bytes */
+    uint8_t set[1024] = {1};
+    size_t end = put_record(set, 1, device, device_length);
+    memcpy(set + end, link, sizeof link - 1);
+    end += sizeof link - 1;
+
+    spillfinch_plan(set, end, written, sizeof written, answer);
+    show_answer("plan", answer);
+    const size_t used = answer[SPILLFINCH_USED];
+    printf("%u plan\n%.*s", (unsigned)answer[SPILLFINCH_COUNT], (int)used, (const char *)written);
+    check_plan("check of the plan", set, end, written, used);
+    check_plan("check of the rules above as a plan", set, end, (const uint8_t *)rules, strlen(rules));
+
+    set[end - 1] = ' ';
+    spillfinch_plan(set, end, written, sizeof written, answer);
+    show_answer("plan of a link with a space", answer);
+    printf("%u plans\n", (unsigned)answer[SPILLFINCH_COUNT]);
+    spillfinch_plan(set, end - 1, written, sizeof written, answer);
+    show_answer("plan for a set that is cut short", answer);
+    set[3] = 0;
+    spillfinch_plan(set, end, written, sizeof written, answer);
+    show_answer("plan for a faulty device", answer);
+    printf("it is device %u\n", (unsigned)answer[SPILLFINCH_POSITION]);
+}
+
 int main(void)
 {
     uint32_t answer[SPILLFINCH_ANSWER_LENGTH];
@@ -219,6 +256,7 @@ int main(void)
 
     convert(outcome_length);
     contest(outcome_length);
+    plan();
 
     try_mode(5, outcome_length);
     try_mode(2, outcome_length);

@@ -1,7 +1,8 @@
 //! Which record holds a link that several claim.
 
 use crate::calls::{self, Answer};
-use crate::{sizes, Refusal, RefusedSet};
+use crate::set::{lent, put_long};
+use crate::{accepted_set, sizes, RefusedSet};
 
 /// An outcome record, and the record of the device that it belongs to.
 #[derive(Clone, Copy, Debug, PartialEq, Eq)]
@@ -76,36 +77,18 @@ impl<'a> Iterator for Names<'a> {
 /// For every link that the records claim, the one that holds it: of those that claim it the one
 /// with the highest link priority, and of equals the earliest.
 pub fn contest(records: &[Claimant]) -> Result<Contest, RefusedSet> {
-    let set = lent(records).ok_or(RefusedSet {
-        refusal: Refusal::SetBad,
-        position: 0,
-    })?;
+    let put = |set: &mut Vec<u8>, record: &Claimant| {
+        put_long(set, record.device)?;
+        put_long(set, record.outcome)
+    };
+    let set = lent(records, put).ok_or(RefusedSet::NO_SET)?;
     let mut target = vec![0; sizes::CONTEST_ROOM];
     let mut answer = Answer::default();
     calls::contest(&set, &mut target, &mut answer);
-    match answer[calls::NUMBER] {
-        0 => {
-            target.truncate(answer[calls::USED] as usize);
-            Ok(Contest {
-                rows: target,
-                names: answer[calls::COUNT] as usize,
-            })
-        }
-        number => Err(RefusedSet {
-            refusal: Refusal::of_number(number).expect("the header names every number"),
-            position: answer[calls::POSITION],
-        }),
-    }
-}
-
-/// The bytes of a set, if its counts and lengths can be said.
-fn lent(records: &[Claimant]) -> Option<Vec<u8>> {
-    let mut set = vec![u8::try_from(records.len()).ok()?];
-    for record in records {
-        for bytes in [record.device, record.outcome] {
-            set.extend(u16::try_from(bytes.len()).ok()?.to_be_bytes());
-            set.extend(bytes);
-        }
-    }
-    Some(set)
+    accepted_set(&answer)?;
+    target.truncate(answer[calls::USED] as usize);
+    Ok(Contest {
+        rows: target,
+        names: answer[calls::COUNT] as usize,
+    })
 }

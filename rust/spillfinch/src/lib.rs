@@ -4,11 +4,14 @@
 
 pub mod calls;
 mod contest;
+mod plan;
 mod refusal;
 mod rules_files;
+mod set;
 pub mod sizes;
 
 pub use contest::{contest, Claimant, Contest, Held, Names};
+pub use plan::{plan, plan_check, Wanted};
 pub use refusal::{Refusal, Refused, RefusedFile, RefusedSet};
 pub use rules_files::{run_files, Rank, RulesFile};
 
@@ -112,6 +115,13 @@ fn accepted(answer: &Answer) -> Result<(), Refused> {
         0 => Ok(()),
         number => Err(refused(number, answer[calls::LINE])),
     }
+}
+
+fn accepted_set(answer: &Answer) -> Result<(), RefusedSet> {
+    accepted(answer).map_err(|refused| RefusedSet {
+        refusal: refused.refusal,
+        position: answer[calls::POSITION],
+    })
 }
 
 fn refused(number: u32, line: u32) -> Refused {

@@ -141,6 +141,14 @@ pub struct RefusedSet {
     pub position: u32,
 }
 
+impl RefusedSet {
+    /// Of what cannot be laid out as a set.
+    pub(crate) const NO_SET: RefusedSet = RefusedSet {
+        refusal: SetBad,
+        position: 0,
+    };
+}
+
 impl fmt::Display for RefusedSet {
     fn fmt(&self, f: &mut fmt::Formatter) -> fmt::Result {
         let number = self.refusal.number();

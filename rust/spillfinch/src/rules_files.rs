@@ -1,6 +1,7 @@
 //! Rules files of several directories run as one set.
 
 use crate::calls::{self, Answer};
+use crate::set::{lent, put_long, put_short};
 use crate::{ran, refused, sizes, Ran, Refusal, Refused, RefusedFile};
 
 /// The directory that a rules file stands in, the highest rank first.
@@ -30,7 +31,7 @@ pub fn run_files(
     outcome: &[u8],
     sheet: &[u8],
 ) -> Result<Ran, RefusedFile> {
-    let set = lent(files).ok_or(RefusedFile {
+    let set = lent(files, put).ok_or(RefusedFile {
         refused: Refused {
             refusal: Refusal::SetBad,
             line: 0,
@@ -52,15 +53,8 @@ pub fn run_files(
     }
 }
 
-/// The bytes of a set, if its count and lengths can be said.
-fn lent(files: &[RulesFile]) -> Option<Vec<u8>> {
-    let mut set = vec![u8::try_from(files.len()).ok()?];
-    for file in files {
-        set.push(file.rank as u8);
-        set.push(u8::try_from(file.name.len()).ok()?);
-        set.extend(file.name);
-        set.extend(u16::try_from(file.text.len()).ok()?.to_be_bytes());
-        set.extend(file.text);
-    }
-    Some(set)
+fn put(set: &mut Vec<u8>, file: &RulesFile) -> Option<()> {
+    set.push(file.rank as u8);
+    put_short(set, file.name)?;
+    put_long(set, file.text)
 }

@@ -22,3 +22,6 @@ pub const RECORDS_MOST: usize = 64;
 /// Files of a set, and bytes of the name of one.
 pub const FILES_MOST: usize = 32;
 pub const FILE_NAME_MOST: usize = 64;
+/// Devices of a naming plan, and bytes of a wanted link.
+pub const WANTED_MOST: usize = 16;
+pub const WANTED_LINK_MOST: usize = 255;

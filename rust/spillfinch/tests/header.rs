@@ -43,6 +43,8 @@ fn sizes_are_those_of_the_header() {
         ("RECORDS_MOST", sizes::RECORDS_MOST),
         ("FILES_MOST", sizes::FILES_MOST),
         ("FILE_NAME_MOST", sizes::FILE_NAME_MOST),
+        ("WANTED_MOST", sizes::WANTED_MOST),
+        ("WANTED_LINK_MOST", sizes::WANTED_LINK_MOST),
         ("TEXT_MOST", sizes::TEXT_MOST),
         ("SHEET_MOST", sizes::SHEET_MOST),
         ("LINE_MOST", sizes::LINE_MOST),

@@ -1,8 +1,9 @@
 //! Each operation once accepted and once refused.
 
 use spillfinch::{
-    check, close, contest, fresh, newer, older, run, run_files, sizes, strike, write, Claimant,
-    Held, Rank, Refusal, Refused, RefusedFile, RefusedSet, RulesFile, Struck, EMPTY_SHEET,
+    check, close, contest, fresh, newer, older, plan, plan_check, run, run_files, sizes, strike,
+    write, Claimant, Held, Rank, Refusal, Refused, RefusedFile, RefusedSet, RulesFile, Struck,
+    Wanted, EMPTY_SHEET,
 };
 
 /// ttyUSB0 with one property and no parents.
@@ -170,6 +171,118 @@ fn runs_files() {
     assert_eq!(all(&[long]), refused(Refusal::TextLong, 0, 1));
     let longer = file(Rank::Run, "1.rules", &text);
     assert_eq!(all(&[longer]), refused(Refusal::SetBad, 0, 0));
+}
+
+/// A device of that path, without anything else.
+fn device_at(path: &str) -> Vec<u8> {
+    let length = path.len() as u8;
+    let head = [0x10, 0, 0, 0, 0, 0, 0, length >> 1, length << 7, 0, 0];
+    [&head[..], path.as_bytes()].concat()
+}
+
+fn wanted<'a>(device: &'a [u8], link: &'a str) -> Wanted<'a> {
+    Wanted {
+        device,
+        link: link.as_bytes(),
+    }
+}
+
+/// The links that a text leaves a device, as the record has them behind its header.
+#[track_caller]
+fn assert_named(text: &[u8], wanted: &Wanted) {
+    let start = fresh(wanted.device).expect("a sound device");
+    let ran = run(text, wanted.device, &start, EMPTY_SHEET).expect("an accepted run");
+    let links = &ran.record[13..];
+    assert_eq!(usize::from(links[0]), wanted.link.len());
+    assert_eq!(&links[1..], wanted.link);
+}
+
+#[test]
+fn plans() {
+    let devices = ["/a", "/a/a", "/b"].map(device_at);
+    let links = ["rope/trip0", "#+-.:=@_/...", "x"];
+    let set: Vec<Wanted> = devices
+        .iter()
+        .zip(links)
+        .map(|(device, link)| wanted(device, link))
+        .collect();
+    let text = plan(&set).expect("sound devices").expect("a plan");
+    assert_eq!(plan_check(&set, &text), Ok(true));
+    for wanted in &set {
+        assert_named(&text, wanted);
+    }
+    // A plan is for its set, and names nothing beside it.
+    assert_eq!(plan_check(&set[1..], &text), Ok(true));
+    let other = device_at("/other");
+    let set = [&set[..], &[wanted(&other, "y")]].concat();
+    assert_eq!(plan_check(&set, &text), Ok(false));
+    let more = [&text[..], b"SYMLINK+=\"x\"\n"].concat();
+    assert_eq!(plan_check(&set[..3], &more), Ok(false));
+    for faulty in [&b"GOTO=\"a\""[..], b"PROGRAM=\"a\"", &[b'#'; 65_536]] {
+        assert_eq!(plan_check(&set, faulty), Ok(false));
+    }
+    assert_eq!(plan_check(&[wanted(&other, "")], b""), Ok(false));
+}
+
+#[test]
+fn plans_the_most() {
+    let paths = names(16, 127).map(|name| format!("/{}", String::from_utf8_lossy(&name)));
+    let devices: Vec<Vec<u8>> = paths.map(|path| device_at(&path)).collect();
+    let links: Vec<Vec<u8>> = names(16, 128).collect();
+    let wanted = |(device, link)| Wanted { device, link };
+    let set: Vec<Wanted> = devices
+        .iter()
+        .map(Vec::as_slice)
+        .zip(links.iter().map(Vec::as_slice))
+        .map(wanted)
+        .collect();
+    let text = plan(&set).expect("sound devices").expect("a plan");
+    assert_eq!(plan_check(&set, &text), Ok(true));
+    for wanted in &set {
+        assert_named(&text, wanted);
+    }
+}
+
+#[test]
+fn plans_nothing_else() {
+    let (a, b) = (device_at("/a"), device_at("/b"));
+    let of = |first: &Wanted, second: &Wanted| plan(&[*first, *second]);
+    assert!(matches!(
+        of(&wanted(&a, "x"), &wanted(&b, "y")),
+        Ok(Some(_))
+    ));
+    assert_eq!(of(&wanted(&a, "x"), &wanted(&b, "x")), Ok(None));
+    assert_eq!(of(&wanted(&a, "x"), &wanted(&a, "y")), Ok(None));
+    let long = "l".repeat(255);
+    for link in ["", "/x", "x/../y", "x y", "$kernel", &long[..129], &long] {
+        assert_eq!(plan(&[wanted(&a, link)]), Ok(None), "{link}");
+    }
+    let long = format!("/{}", "p".repeat(128));
+    for path in [&long[..], "/a*", "/a+", "/a b"] {
+        assert_eq!(plan(&[wanted(&device_at(path), "x")]), Ok(None), "{path}");
+    }
+}
+
+#[test]
+fn refuses_sets_of_wanted_links() {
+    let a = device_at("/a");
+    let refused = |set: &[Wanted], refusal, position| {
+        let refused = RefusedSet { refusal, position };
+        assert_eq!(plan(set), Err(refused));
+        assert_eq!(plan_check(set, &[b'x'; 40_000]), Err(refused));
+    };
+    refused(&[], Refusal::SetBad, 0);
+    refused(&[wanted(&a, "x"); 17], Refusal::SetBad, 0);
+    refused(&[wanted(&a, "x"); 256], Refusal::SetBad, 0);
+    refused(&[wanted(&a, &"l".repeat(256))], Refusal::SetBad, 0);
+    refused(&[wanted(&[0; 65_536], "x")], Refusal::SetBad, 0);
+    refused(
+        &[wanted(&a, ""), wanted(b"", ""), wanted(b"", "")],
+        Refusal::DeviceBad,
+        2,
+    );
+    refused(&[wanted(&[0; 65_535], "x")], Refusal::DeviceBad, 1);
+    assert_eq!(plan(&[wanted(&a, "x"); 16]), Ok(None));
 }
 
 /// Names of so many bytes that differ in their first one.
