@@ -2,7 +2,7 @@
 
 use recordings::escape::escape;
 use recordings::{Outcome, RunList};
-use spillfinch::{Ran, Refused, RefusedFile, RulesFile};
+use spillfinch::{Ran, RefusedFile, RulesFile};
 
 /// An accepted run with its close.
 #[derive(Debug)]
@@ -28,21 +28,14 @@ pub fn list(
     let sheet = sheet.unwrap_or(spillfinch::EMPTY_SHEET);
     let outcome = start.unwrap_or(&fresh);
     let ran = match files {
-        [file] => spillfinch::run(file.text, device, outcome, sheet).map_err(of_no_file)?,
+        [file] => spillfinch::run(file.text, device, outcome, sheet)?,
         _ => spillfinch::run_files(files, device, outcome, sheet)?,
     };
-    let list = spillfinch::close(device, &ran.record).map_err(of_no_file)?;
+    let list = spillfinch::close(device, &ran.record)?;
     Ok(Listed {
         listing: lines(&ran, &list),
         record: ran.record,
     })
-}
-
-fn of_no_file(refused: Refused) -> RefusedFile {
-    RefusedFile {
-        refused,
-        position: 0,
-    }
 }
 
 /// The listing of a refusal, with the name of its file if that is one of several.

@@ -117,7 +117,7 @@ impl Rules {
     }
 
     /// The refusal with the file and the line that it is about.
-    fn explain(&self, refused: &RefusedFile, name: &str) -> String {
+    pub fn explain(&self, refused: &RefusedFile, name: &str) -> String {
         let refusal = refused.refused.refusal;
         let number = refusal.number();
         let place = match (refusal, &self.start, &self.sheet) {

@@ -5,8 +5,8 @@ mod common;
 use common::{program, repository, run_in, Folder};
 use std::process::Command;
 
-const COMMANDS: [&str; 9] = [
-    "check", "run", "test", "write", "strike", "show", "import", "convert", "contest",
+const COMMANDS: [&str; 10] = [
+    "check", "run", "test", "write", "strike", "show", "import", "convert", "contest", "plan",
 ];
 
 fn help(command: &str) -> String {

@@ -167,6 +167,16 @@ pub struct RefusedFile {
     pub position: u32,
 }
 
+/// A refusal that is about no file.
+impl From<Refused> for RefusedFile {
+    fn from(refused: Refused) -> RefusedFile {
+        RefusedFile {
+            refused,
+            position: 0,
+        }
+    }
+}
+
 impl fmt::Display for RefusedFile {
     fn fmt(&self, f: &mut fmt::Formatter) -> fmt::Result {
         write!(f, "{} file {}", self.refused, self.position)

@@ -31,12 +31,9 @@ pub fn run_files(
     outcome: &[u8],
     sheet: &[u8],
 ) -> Result<Ran, RefusedFile> {
-    let set = lent(files, put).ok_or(RefusedFile {
-        refused: Refused {
-            refusal: Refusal::SetBad,
-            line: 0,
-        },
-        position: 0,
+    let set = lent(files, put).ok_or(Refused {
+        refusal: Refusal::SetBad,
+        line: 0,
     })?;
     let mut target = vec![0; sizes::OUTCOME_ROOM];
     let mut answer = Answer::default();

@@ -4,6 +4,7 @@ mod check;
 mod contest;
 mod convert;
 mod import;
+mod plan;
 mod run;
 mod show;
 mod strike;
@@ -23,7 +24,7 @@ type Done = Result<Report, Failure>;
 /// A command and what carries it out.
 type Row = (fn() -> Command, fn(&ArgMatches) -> Done);
 
-const COMMANDS: [Row; 9] = [
+const COMMANDS: [Row; 10] = [
     (check::command, check::run),
     (run::command, run::run),
     (test::command, test::run),
@@ -33,6 +34,7 @@ const COMMANDS: [Row; 9] = [
     (import::command, import::run),
     (convert::command, convert::run),
     (contest::command, contest::run),
+    (plan::command, plan::run),
 ];
 
 pub fn command() -> Command {
