@@ -75,6 +75,18 @@ fn the_example() {
 }
 
 #[test]
+fn devices_of_a_recording() {
+    let recording = "examples/devices/counter.umockdev";
+    let usb = "/devices/pci0000:00/0000:00:14.0/usb1/1-2";
+    let line = format!("plan counter {recording} bus {recording}:{usb}");
+    let said = run_in(&repository(), &words(&line), b"");
+    assert_eq!((said.status, said.err.as_str()), (0, ""));
+    let check = line.replacen("plan", "plan --check -", 1);
+    let said = run_in(&repository(), &words(&check), said.out.as_bytes());
+    said.is(0, "2 devices: 2 as wanted, 0 not\n", "");
+}
+
+#[test]
 fn the_most_devices() {
     let folder = Folder::new("plan_most");
     let mut line = String::from("plan");
