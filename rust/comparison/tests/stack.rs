@@ -6,7 +6,7 @@ use reference::compare::replies;
 use reference::generate::case;
 
 /// As include/spillfinch.h says.
-const MOST: usize = 96 * 1024;
+const MOST: usize = 128 * 1024;
 const CASES: u64 = 2_000;
 
 #[test]
