@@ -12,7 +12,9 @@ use Rattle.strike.specs.Struck.{struckOf}
 use Rattle.sets.specs.Answer as sets
 use Rattle.set_answers.specs.Answers as set
 use Rattle.set_answers.specs.declared.Given as set-given
-use Rattle.spillfinch.specs.Exports.{numbers, numbersWith, Gives, StrikeIs, setNumbers, SetGives}
+use Rattle.each.specs.Each.{Each}
+use Rattle.run_each.specs.Runs.{wrote}
+use Rattle.spillfinch.specs.Exports.{numbers, numbersWith, Gives, StrikeIs, setNumbers, SetGives, EachIs}
 
 -- the numbers and the target of an answer
 pub gives : (g : Given) (written target : List ℕ) (a : Answer) → answered g target ≡ a → written ≡ numbers (answered g []) → Gives written target a
@@ -28,3 +30,6 @@ strike-gives r written target list a e w = (
 
 pub set-gives : (g : set-given.Given) (written target : List ℕ) (a : sets.Answer) → set.answered g target ≡ a → written ≡ setNumbers (set.answered g []) → SetGives written target a
 set-gives g written target a e w = (w ∙ ap setNumbers e, ap (λ (b : sets.Answer). b .bytes) e)
+
+pub each-gives : (g : set-given.Given) (written targets answers : List ℕ) (e : Each) → wrote g targets answers ≡ e → written ≡ setNumbers (set.answered g []) → EachIs e written targets answers
+each-gives g written targets answers e is w = (set-gives g written targets (e .own) (ap (λ (x : Each). x .own) is) w, ap (λ (x : Each). x .answers) is)

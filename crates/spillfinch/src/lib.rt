@@ -7,7 +7,7 @@ ghost use lib.ListN.{length};
 ghost use Rattle.answers.specs.Answers.{answered};
 ghost use Rattle.set_answers.specs.Answers.{answered as answered-set};
 ghost use Rattle.engine.specs.Operations.{fresh as fresh-answer, close as close-answer};
-ghost use Rattle.spillfinch.specs.Exports.{numbers, numbersWith, Gives, CheckGives, RunGives, WriteGives, NewerGives, OlderGives, StrikeGives, setNumbers, ContestGives, FilesGives, PlanCheckGives, PlanGives};
+ghost use Rattle.spillfinch.specs.Exports.{numbers, numbersWith, Gives, CheckGives, RunGives, WriteGives, NewerGives, OlderGives, StrikeGives, setNumbers, ContestGives, FilesGives, PlanCheckGives, PlanGives, EachGives};
 
 fn put_answer(given: Given, answer: &mut [u32; 8])
     ensures { λ _. ⌜ now (answer .exit) ≡ numbers (answered given []) ⌝ }
@@ -182,4 +182,22 @@ pub extern "C" fn spillfinch_plan(set: &[u8], target: &mut [u8], answer: &mut [u
     ensures { λ _. ⌜ PlanGives (now (set .entry)) (length (now (target .entry))) (now (answer .exit)) (now (target .exit)) ⌝ }
 {
     put_set_answer(planner::plan(set, target), answer);
+}
+
+// A text over each record of a set.
+#[no_mangle]
+pub extern "C" fn spillfinch_run_each(
+    text: &[u8],
+    set: &[u8],
+    sheet: &[u8],
+    targets: &mut [u8],
+    answers: &mut [u32],
+    answer: &mut [u32; 8],
+)
+    ensures { λ _. ⌜ EachGives (now (text .entry)) (now (set .entry)) (now (sheet .entry)) (length (now (targets .entry))) (length (now (answers .entry))) (now (answer .exit)) (now (targets .exit)) (now (answers .exit)) ⌝ }
+{
+    put_set_answer(
+        run_each::run_each(text, set, sheet, targets, answers),
+        answer,
+    );
 }
