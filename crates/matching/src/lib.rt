@@ -3,7 +3,7 @@
 
 ghost use mathlib.Core.Path.{_≡_};
 ghost use mathlib.Core.Bool.{_||_};
-ghost use Prim.Native.Nat.{_≤_};
+ghost use Prim.Native.Nat.{_≤_, _<_};
 ghost use Rattle.glob.specs.Plain.{PlainIf};
 ghost use Rattle.keys.specs.Table.{keyOf, operatorOf};
 ghost use Rattle.table.specs.Table.{entryOf, Segment, EntryIn};
@@ -310,13 +310,35 @@ pub enum Matched {
     Missed(usize),
 }
 
+// The row before a place, if it is one of these rows; or the place behind the last.
+fn row_ahead(from: usize, to: usize, first: usize) -> usize
+    requires { ⌜ from ≤ to ⌝ }
+    ensures { λ r. ⌜ (from ≤ r) × (r ≤ to) ⌝ }
+{
+    if first <= from {
+        return to;
+    }
+    if to < first {
+        return to;
+    }
+    first - 1
+}
+
+// That row, or the one at hand.
+fn row_next(ahead: usize, i: usize, to: usize) -> usize
+    ensures { λ r. ⌜ (ahead < to → r ≡ ahead) × (to ≤ ahead → r ≡ i) ⌝ }
+{
+    if ahead < to { ahead } else { i }
+}
+
 // Whether all keys but PROGRAM and RESULT hold of the rule whose rows stand from a place to another, and at which device: the parent keys
-// behind all others.
+// behind all others, and the row before `first`, if it is one of them, before all others too.
 pub fn match_rule(
     values: &[u8],
     rows: &[u16],
     from: usize,
     to: usize,
+    first: usize,
     dev: &[u8],
     chain: Chain,
     t: &[u8],
@@ -327,11 +349,13 @@ pub fn match_rule(
 {
     let places = chain.at;
     let event = places[0];
-    let mut first = to;
+    let mut parents = to;
     let mut asks = false;
+    let mut ahead = row_ahead(from, to, first);
     let mut i = from;
     while i < to {
-        let entry = table::pair_at(rows, i);
+        let row = row_next(ahead, i, to);
+        let entry = table::pair_at(rows, row);
         let key = entry.key;
         let operator = entry.operator;
         let subject = subject_of(key);
@@ -346,14 +370,18 @@ pub fn match_rule(
         ) {
             return Matched::Missed(0);
         }
-        first = first_of(first, to, is_parent(subject), i);
-        asks = asks_by(asks, key);
-        i += 1;
+        if ahead < to {
+            ahead = to;
+        } else {
+            parents = first_of(parents, to, is_parent(subject), i);
+            asks = asks_by(asks, key);
+            i += 1;
+        }
     }
-    if first == to {
+    if parents == to {
         return Matched::At(0, asks);
     }
-    match nearest(values, rows, first, to, dev, chain, t, layout) {
+    match nearest(values, rows, parents, to, dev, chain, t, layout) {
         Near::At(place) => Matched::At(place, asks),
         Near::Missed(tried) => Matched::Missed(tried),
     }

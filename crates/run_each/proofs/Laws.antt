@@ -10,6 +10,7 @@ use borrow.Author.Tests.{le-leb, lt-leb}
 use lib.ListN.{length, take, drop, getD, replicate, length-append, length-map}
 use lib.Seq.{take-at, drop-drop, drop-length, length-take-le}
 use Rattle.lists.specs.Lists.{isSome, cat}
+use Rattle.lists.specs.Checked.{ok}
 use Rattle.lists.specs.Refusal.{target-short, set-bad}
 use Rattle.lists.specs.Sizes.{mostRules, fullestOutcome}
 use Rattle.lists.proofs.Lists.{is-none}
@@ -23,6 +24,7 @@ use Rattle.reader.specs.Texts.{TextIs}
 use Rattle.reader.specs.declared.TextRead.{TextRead}
 use Rattle.reader.specs.declared.TextRead.the-variants as read
 use Rattle.runner.proofs.Running.{runnable}
+use Rattle.action_rows.proofs.Tables.{rules-same, runnable-same}
 use Rattle.answers.specs.Answers.{answered}
 use Rattle.answers.specs.declared.Given.{Given}
 use Rattle.sets.specs.Lent.{mostRecords, Lent, oneLent, decodeLent}
@@ -35,7 +37,7 @@ use Rattle.set_rows.specs.declared.LentPlace.{LentPlace}
 use Rattle.set_rows.proofs.Walk.{set-read, turn, first-got, many-length}
 use Rattle.numbers.specs.Numbers.{mostNumbers, numbers}
 use Rattle.each.specs.Each.{runOf, eachRuns, targetsOf, answersOf, Each, filled, counted, eachOf, eachChecked, eachAnswer}
-use Rattle.run_each.specs.Runs.{Readable, ReadAs, orNone, lentsIn, Going, RunsIn, wrote}
+use Rattle.run_each.specs.Runs.{Readable, ReadAs, Noted, orNone, lentsIn, Going, RunsIn, wrote}
 
 -- ---- lists
 
@@ -70,6 +72,15 @@ readable x v r t l js (read.Refused f n) w a b = w .0
 pub read-as : (x v r t l js : List ℕ) (o : TextRead) → TextIs x v r t l js o → ReadAs x v r t o
 read-as x v r t l js (read.Accepted c) w = w .is
 read-as x v r t l js (read.Refused f n) w = w .1
+
+-- the table is the same one with its actions noted
+pub noted-readable : (v r t t′ js : List ℕ) (o : TextRead) → Noted r t t′ o → Readable v r t js o → Readable v r t′ js o
+noted-readable v r t t′ js (read.Accepted c) w h = runnable-same v r t t′ (c .rules) w js h
+noted-readable v r t t′ js (read.Refused f n) w h = h
+
+pub noted-read-as : (x v r t t′ : List ℕ) (o : TextRead) → Noted r t t′ o → ReadAs x v r t o → ReadAs x v r t′ o
+noted-read-as x v r t t′ (read.Accepted c) w h = h ∙ ap ok (rules-same v r t t′ (c .rules) w (c .rules) 0)
+noted-read-as x v r t t′ (read.Refused f n) w h = h
 
 -- ---- the runs so far
 

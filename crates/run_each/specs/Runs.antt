@@ -15,6 +15,7 @@ use Rattle.refusals.specs.Refusals.{refusalOf}
 use Rattle.reader.specs.declared.TextRead.{TextRead}
 use Rattle.reader.specs.declared.TextRead.the-variants as read
 use Rattle.runner.specs.Runs.{Runnable}
+use Rattle.action_rows.specs.Actions.{ActionsPut}
 use Rattle.run.specs.Running.{Holds}
 use Rattle.sets.specs.Lent.{mostRecords, Lent, oneLent, decodeLent}
 use Rattle.set_answers.specs.Answers.{answered}
@@ -33,6 +34,11 @@ Readable v r t js (read.Refused f n) = n < 65536
 abbrev pub ReadAs : List ℕ → List ℕ → List ℕ → List ℕ → TextRead → Type 0
 ReadAs text v r t (read.Accepted c) = Holds text v r t (c .rules)
 ReadAs text v r t (read.Refused f n) = readText reader text ≡ refused (line n (refusalOf f))
+
+-- the row of each rule's ACTION is noted, if it is accepted
+abbrev pub Noted : List ℕ → List ℕ → List ℕ → TextRead → Type 0
+Noted r t t′ (read.Accepted c) = ActionsPut r t t′ (c .rules)
+Noted r t t′ (read.Refused f n) = t′ ≡ t
 
 -- ---- the records
 

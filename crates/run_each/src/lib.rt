@@ -20,7 +20,7 @@ ghost use Rattle.set_answers.specs.Answers.{answered as answered-set};
 ghost use Rattle.numbers.specs.Numbers.{numbers};
 ghost use Rattle.reader.specs.Read.{Lends};
 ghost use Rattle.each.specs.Each.{eachAnswer};
-ghost use Rattle.run_each.specs.Runs.{Readable, ReadAs, Going, RunsIn, wrote};
+ghost use Rattle.run_each.specs.Runs.{Noted, Readable, ReadAs, Going, RunsIn, wrote};
 
 // ---- the numbers of runs
 
@@ -152,6 +152,17 @@ fn run_records(
 
 // ---- room for the text
 
+// The row of each rule's ACTION is noted, if the text is accepted.
+fn note_actions(read: TextRead, rows: &[u16], rules: &mut [u16])
+    requires { ⌜ ((v : List ℕ) × ((js : List ℕ) × Readable v (now rows) (now rules) js read)) ⌝ }
+    ensures { λ _. ⌜ Noted (now (rows .entry)) (now (rules .entry)) (now (rules .exit)) read ⌝ }
+{
+    match read {
+        TextRead::Accepted(counts) => action_rows::put_actions(rows, rules, counts.rules),
+        TextRead::Refused(_, _) => {}
+    }
+}
+
 // The runs with room for the text that a caller lends.
 fn each_lent(
     text: &[u8],
@@ -170,6 +181,7 @@ fn each_lent(
     ensures { λ _. ⌜ RunsIn (now (text .entry)) (now (set .entry)) (now (sheet .entry)) (length (now (targets .entry))) (length (now (answers .entry))) (now (targets .exit)) (now (answers .exit)) ⌝ }
 {
     let read = reader::read_text(text, values, rows, rules, labels, jumps);
+    note_actions(read, rows, rules);
     run_records(
         read,
         values,

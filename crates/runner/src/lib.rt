@@ -55,7 +55,8 @@ fn run_rule(
 {
     let from = table::number_at(rules, i * 4 + 1);
     let to = table::number_at(rules, i * 4 + 2);
-    match step::step(values, rows, from, to, dev, chain, sheet, t, layout) {
+    let first = table::number_at(rules, i * 4 + 3);
+    match step::step(values, rows, from, to, first, dev, chain, sheet, t, layout) {
         Stepped::Missed(tried) => RuleRan::Next(layout, i + 1, tried),
         Stepped::Failed(left, tried) => RuleRan::Next(left, i + 1, tried),
         Stepped::Left(left, tried) => RuleRan::Next(left, behind(jumps, i), tried),

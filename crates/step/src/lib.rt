@@ -104,6 +104,7 @@ pub fn step(
     rows: &[u16],
     from: usize,
     to: usize,
+    first: usize,
     dev: &[u8],
     chain: Chain,
     sheet: &[u8],
@@ -113,7 +114,7 @@ pub fn step(
     requires { ⌜ RuleRows (now values) (now rows) from to × Ready (now dev) chain (now t) layout × (isSome (decode (now sheet)) ≡ true) ⌝ }
     ensures { λ r. ⌜ Steps (now (values .entry)) (now (rows .entry)) from to (now (dev .entry)) chain (now (sheet .entry)) (now (t .entry)) layout (now (t .exit)) r ⌝ }
 {
-    match matching::match_rule(values, rows, from, to, dev, chain, t, layout) {
+    match matching::match_rule(values, rows, from, to, first, dev, chain, t, layout) {
         Matched::At(place, asks) => step_at(
             values,
             rows,

@@ -9,10 +9,10 @@ use Rattle.runner.proofs.run_rule.Tie as tie
 
 step-requires : tie.Need-step-requires
 step-requires c κs =
-    let entry = c .before .before .before .before .before .before .before .before .before .before in
+    let entry = c .before .before .before .before .before .before .before .before .before .before .before in
     let a = entry .args in
-    let from = c .before .before .number-at in
-    let to = c .before .number-at2 in (
+    let from = c .before .before .before .number-at in
+    let to = c .before .before .number-at2 in (
       rule-rows (a .values .now) (a .rows .now) (a .rules .now) (a .jumps .now) (a .count) (a .i) (entry .pre .0) (entry .pre .1)
           (from .result) (to .result) (from .ensures .0) (to .ensures .0),
       entry .pre .2,
@@ -21,10 +21,10 @@ step-requires c κs =
 
 returns : tie.Need-returns
 returns c =
-    let entry = c .before .before .before .before .before .before .before .before .before .before .before .before .before .before .before .before in
+    let entry = c .before .before .before .before .before .before .before .before .before .before .before .before .before .before .before .before .before in
     let a = entry .args in
-    let from = c .before .before .before .before .before .before .before .before .number-at in
-    let to = c .before .before .before .before .before .before .before .number-at2 in
+    let from = c .before .before .before .before .before .before .before .before .before .number-at in
+    let to = c .before .before .before .before .before .before .before .before .number-at2 in
     let step = c .before .before .before .before .before .step in
     record {
       says =
@@ -36,10 +36,10 @@ returns c =
 
 returns-2 : tie.Need-returns-2
 returns-2 c =
-    let entry = c .before .before .before .before .before .before .before .before .before .before .before .before .before .before .before .before in
+    let entry = c .before .before .before .before .before .before .before .before .before .before .before .before .before .before .before .before .before in
     let a = entry .args in
-    let from = c .before .before .before .before .before .before .before .before .number-at in
-    let to = c .before .before .before .before .before .before .before .number-at2 in
+    let from = c .before .before .before .before .before .before .before .before .before .number-at in
+    let to = c .before .before .before .before .before .before .before .before .number-at2 in
     let step = c .before .before .before .before .before .step in
     record {
       says =
@@ -51,10 +51,10 @@ returns-2 c =
 
 returns-3 : tie.Need-returns-3
 returns-3 c =
-    let entry = c .before .before .before .before .before .before .before .before .before .before .before .before .before .before .before .before .before in
+    let entry = c .before .before .before .before .before .before .before .before .before .before .before .before .before .before .before .before .before .before in
     let a = entry .args in
-    let from = c .before .before .before .before .before .before .before .before .before .number-at in
-    let to = c .before .before .before .before .before .before .before .before .number-at2 in
+    let from = c .before .before .before .before .before .before .before .before .before .before .number-at in
+    let to = c .before .before .before .before .before .before .before .before .before .number-at2 in
     let step = c .before .before .before .before .before .before .step in
     record {
       says =
@@ -66,10 +66,10 @@ returns-3 c =
 
 returns-4 : tie.Need-returns-4
 returns-4 c =
-    let entry = c .before .before .before .before .before .before .before .before .before .before .before .before .before .before .before .before in
+    let entry = c .before .before .before .before .before .before .before .before .before .before .before .before .before .before .before .before .before in
     let a = entry .args in
-    let from = c .before .before .before .before .before .before .before .before .number-at in
-    let to = c .before .before .before .before .before .before .before .number-at2 in
+    let from = c .before .before .before .before .before .before .before .before .before .number-at in
+    let to = c .before .before .before .before .before .before .before .before .number-at2 in
     let step = c .before .before .before .before .before .step in
     record {
       says =
@@ -89,13 +89,16 @@ run-rule-spec =
     (λ c. let entry = c .before .before .before .before .before .before .before .before in omega (arith, entry .pre .0, entry .pre .1 .few))
     (λ c. let entry = c .before .before .before .before .before .before .before .before in omega (arith, entry .pre .0, entry .pre .1 .few))
     (λ c κs. let entry = c .before .before .before .before .before .before .before .before in omega (arith, entry .pre .0, entry .pre .1 .rules-room))
+    (λ c. let entry = c .before .before .before .before .before .before .before .before .before in omega (arith, entry .pre .0, entry .pre .1 .few))
+    (λ c. let entry = c .before .before .before .before .before .before .before .before .before in omega (arith, entry .pre .0, entry .pre .1 .few))
+    (λ c κs. let entry = c .before .before .before .before .before .before .before .before .before in omega (arith, entry .pre .0, entry .pre .1 .rules-room))
     step-requires
     (λ c. search needs)
-    (λ c. let entry = c .before .before .before .before .before .before .before .before .before .before .before .before .before .before .before .before in omega (arith, entry .pre .0, entry .pre .1 .few))
+    (λ c. let entry = c .before .before .before .before .before .before .before .before .before .before .before .before .before .before .before .before .before in omega (arith, entry .pre .0, entry .pre .1 .few))
     (λ c. search needs)
-    (λ c. let entry = c .before .before .before .before .before .before .before .before .before .before .before .before .before .before .before .before in omega (arith, entry .pre .0, entry .pre .1 .few))
+    (λ c. let entry = c .before .before .before .before .before .before .before .before .before .before .before .before .before .before .before .before .before in omega (arith, entry .pre .0, entry .pre .1 .few))
     (λ c. search needs)
-    (λ c κs. let entry = c .before .before .before .before .before .before .before .before .before .before .before .before .before .before .before .before in omega (arith, entry .pre .0, entry .pre .1 .jumps-room))
+    (λ c κs. let entry = c .before .before .before .before .before .before .before .before .before .before .before .before .before .before .before .before .before in omega (arith, entry .pre .0, entry .pre .1 .jumps-room))
     (λ c. search needs)
     (λ c. search needs)
     returns
