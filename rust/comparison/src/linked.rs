@@ -22,7 +22,11 @@ impl Engine for Linked {
 }
 
 fn call(request: &Request, written: &mut Written, answer: &mut AnswerArray) {
-    let Written { target, strikes } = written;
+    let Written {
+        target,
+        strikes,
+        answers,
+    } = written;
     match *request {
         Request::Check { text } => calls::check(text, answer),
         Request::Fresh { device } => calls::fresh(device, target, answer),
@@ -38,6 +42,9 @@ fn call(request: &Request, written: &mut Written, answer: &mut AnswerArray) {
             outcome,
             sheet,
         } => calls::run_files(set, device, outcome, sheet, target, answer),
+        Request::RunEach { text, set, sheet } => {
+            calls::run_each(text, set, sheet, target, answers, answer);
+        }
         Request::Close { device, outcome } => calls::close(device, outcome, target, answer),
         Request::Contest { set } => calls::contest(set, target, answer),
         Request::Write { text } => calls::write(text, target, answer),
@@ -79,6 +86,11 @@ impl Engine for LinkedApart {
                 set: &own(set),
                 device: &own(device),
                 outcome: &own(outcome),
+                sheet: &own(sheet),
+            }),
+            Request::RunEach { text, set, sheet } => call(Request::RunEach {
+                text: &own(text),
+                set: &own(set),
                 sheet: &own(sheet),
             }),
             Request::Close { device, outcome } => call(Request::Close {

@@ -39,6 +39,14 @@ pub fn write_case(directory: &Path, case: &Case) -> io::Result<()> {
             fs::write(directory.join("proposal"), proposal)?;
             rooms += &format!("plan {room}\n");
         }
+        Extra::RunEach {
+            set,
+            targets,
+            answers,
+        } => {
+            fs::write(directory.join("set"), set)?;
+            rooms += &format!("targets {targets}\nanswers {answers}\n");
+        }
         Extra::Convert { old, newer, older } => {
             fs::write(directory.join("old"), old)?;
             rooms += &format!("newer {newer}\nolder {older}\n");
@@ -82,6 +90,12 @@ pub fn read_case(directory: &Path) -> io::Result<Case> {
             set: fs::read(directory.join("set"))?,
             proposal: fs::read(directory.join("proposal"))?,
             room,
+        }
+    } else if let Ok(targets) = room("targets") {
+        Extra::RunEach {
+            set: fs::read(directory.join("set"))?,
+            targets,
+            answers: room("answers")?,
         }
     } else if let Ok(room) = room("write") {
         Extra::Write { room }

@@ -1,10 +1,11 @@
 //! What the papers say of several answers together, checked of an engine's replies for a case.
 
-use crate::compare::{check_reply, Engine, Operation, Reply};
+use crate::compare::{check_reply, run_reply, Engine, Operation, Reply};
 use crate::file_set::{FileSet, RulesFile};
 use crate::generate::joins::JoinList;
 use crate::generate::{Case, Extra};
 use crate::joined::runs_in_a_row;
+use crate::record_set::{RecordPair, RecordSet};
 use crate::sizes;
 
 /// What does not hold of the replies, if anything.
@@ -18,8 +19,31 @@ pub fn broken_claim(engine: &dyn Engine, case: &Case, replies: &[Reply]) -> Opti
             order_matters(&set, run, &permuted, other)
                 .or_else(|| differs_from_runs_in_a_row(engine, case, &set, run))
         }
+        Extra::RunEach { set, .. } => {
+            let set = RecordSet::decode(set)?;
+            let each = replies.last()?;
+            (each.number() == 0).then(|| differs_from_single_runs(engine, case, &set, each))?
+        }
         _ => None,
     }
+}
+
+/// Each record has what a run with it alone gives.
+fn differs_from_single_runs(
+    engine: &dyn Engine,
+    case: &Case,
+    set: &RecordSet,
+    each: &Reply,
+) -> Option<String> {
+    let targets = each.written.target.chunks(sizes::OUTCOME_TARGET);
+    let answers = each.written.answers.chunks(sizes::ANSWER);
+    let mut written = set.entries.iter().zip(targets.zip(answers));
+    written.find_map(|(RecordPair { device, outcome }, (target, answer))| {
+        let room = sizes::OUTCOME_TARGET;
+        let run = run_reply(engine, &case.text, device, outcome, &case.sheet, room);
+        let is_same = run.answer == answer && run.written.target == target;
+        (!is_same).then(|| format!("a record is answered {answer:?}, alone {:?}", run.answer))
+    })
 }
 
 /// The order in which files are lent shows in nothing but their positions.

@@ -9,6 +9,7 @@ use crate::generate::{self, Case};
 use crate::joined;
 use crate::request::Written;
 pub use crate::request::{AnswerArray, Engine, Reference, Request};
+use crate::sizes;
 
 #[derive(Clone, Copy, Debug, PartialEq, Eq, PartialOrd, Ord)]
 pub enum Operation {
@@ -22,6 +23,7 @@ pub enum Operation {
     RunFiles,
     /// With the files in another order.
     RunFilesPermuted,
+    RunEach,
     PlanCheck,
     Plan,
     /// Of the engine's plan.
@@ -106,6 +108,12 @@ impl Reply {
     pub fn strikes(&self) -> impl Iterator<Item = &[u16]> {
         let entries = self.written.strikes.chunks_exact(2);
         entries.take(self.count() as usize)
+    }
+
+    /// The answers for the records of a set.
+    pub fn answers(&self) -> impl Iterator<Item = &[u32]> {
+        let answers = self.written.answers.chunks_exact(sizes::ANSWER);
+        answers.take(self.count() as usize)
     }
 
     /// The target, cut at the used length.

@@ -26,6 +26,19 @@ pub fn extra_replies(engine: &dyn Engine, case: &Case) -> Vec<Reply> {
             proposal,
             room,
         } => plan_replies(engine, set, proposal, *room),
+        Extra::RunEach {
+            set,
+            targets,
+            answers,
+        } => {
+            let request = Request::RunEach {
+                text: &case.text,
+                set,
+                sheet: &case.sheet,
+            };
+            let written = Written::with_target(*targets).with_answers(*answers);
+            vec![reply(engine, Operation::RunEach, &request, written)]
+        }
         Extra::Convert { old, newer, older } => convert_replies(engine, case, old, *newer, *older),
         Extra::Write { room } => write_replies(engine, &case.text, *room),
         Extra::Strike { room, strikes } => strike_replies(engine, &case.text, *room, *strikes),

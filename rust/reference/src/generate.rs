@@ -3,6 +3,7 @@
 
 mod contest_edges;
 mod damage;
+mod each_edges;
 mod edge_cases;
 pub mod edges;
 mod extra;

@@ -42,8 +42,8 @@ pub mod writer;
 pub use device::Device;
 pub use listing::listing;
 pub use operations::{
-    check, close, contest, fresh, newer, older, plan, plan_check, run, run_files, strike, write,
-    Answer,
+    check, close, contest, fresh, newer, older, plan, plan_check, run, run_each, run_files, strike,
+    write, Answer,
 };
 pub use outcome::Outcome;
 pub use sheet::Sheet;

@@ -8,6 +8,7 @@ use crate::outcome::{Edition, Outcome};
 use crate::plan::{self, Naming};
 use crate::record_set::{RecordPair, RecordSet};
 use crate::refusal::{Fault, Refusal};
+use crate::request::AnswerArray;
 use crate::rules;
 use crate::run_list::RunList;
 use crate::sheet::Sheet;
@@ -79,6 +80,35 @@ pub fn run_files(
 ) -> Answer {
     let result = make_run_files(set, device, outcome, sheet, target.len());
     deliver(result, target)
+}
+
+/// Runs the rules of a text for each record of a set, and writes for each what a run would: the
+/// record to targets, the numbers to answers.
+pub fn run_each(
+    text: &[u8],
+    set: &[u8],
+    sheet: &[u8],
+    targets: &mut [u8],
+    answers: &mut [u32],
+) -> Answer {
+    targets.fill(0);
+    answers.fill(0);
+    let records = match decode_set_for(set, targets.len(), answers.len()) {
+        Ok(set) => set.entries,
+        Err(refusal) => return refusal.into(),
+    };
+    let targets = targets.chunks_exact_mut(sizes::OUTCOME_TARGET);
+    let answers = answers.chunks_exact_mut(sizes::ANSWER);
+    for (RecordPair { device, outcome }, (target, numbers)) in
+        records.iter().zip(targets.zip(answers))
+    {
+        let answer = run(text, device, outcome, sheet, target);
+        numbers.copy_from_slice(&AnswerArray::from(answer));
+    }
+    Answer {
+        count: records.len() as u32,
+        ..Answer::default()
+    }
 }
 
 /// Writes the run list of an outcome.
@@ -264,6 +294,14 @@ fn make_contest(set: &[u8], room: usize) -> Result<Accepted, Refusal> {
 
 fn decode_set(set: &[u8]) -> Result<RecordSet, Refusal> {
     RecordSet::decode(set).ok_or(Fault::Set.without_line())
+}
+
+/// The set, if there is room for a run of each of its records.
+fn decode_set_for(set: &[u8], targets: usize, answers: usize) -> Result<RecordSet, Refusal> {
+    let set = decode_set(set)?;
+    check_room(targets, set.entries.len() * sizes::OUTCOME_TARGET)?;
+    check_room(answers, set.entries.len() * sizes::ANSWER)?;
+    Ok(set)
 }
 
 fn decode_records(records: &RecordPair) -> Result<Outcome, Refusal> {

@@ -1,9 +1,10 @@
 //! What an engine is asked for, and the engine of this crate.
 
 use crate::operations::{self, Answer};
+use crate::sizes;
 
 /// Number, line, visited, used, tried, position and count, then a zero.
-pub type AnswerArray = [u32; 8];
+pub type AnswerArray = [u32; sizes::ANSWER];
 
 /// An operation with all that it is lent.
 #[derive(Clone, Copy, Debug)]
@@ -24,6 +25,11 @@ pub enum Request<'a> {
         set: &'a [u8],
         device: &'a [u8],
         outcome: &'a [u8],
+        sheet: &'a [u8],
+    },
+    RunEach {
+        text: &'a [u8],
+        set: &'a [u8],
         sheet: &'a [u8],
     },
     Close {
@@ -62,10 +68,13 @@ pub struct Written {
     pub target: Vec<u8>,
     /// The list of struck lines, two numbers an entry.
     pub strikes: Vec<u16>,
+    /// The answers for the records of a set.
+    pub answers: Vec<u32>,
 }
 
 const UNWRITTEN: u8 = 0xAA;
 const UNWRITTEN_STRIKE: u16 = 0xAAAA;
+const UNWRITTEN_ANSWER: u32 = 0xAAAA_AAAA;
 
 impl Written {
     /// A target of that length, of bytes that show where nothing is written.
@@ -83,15 +92,27 @@ impl Written {
         }
     }
 
+    pub fn with_answers(self, numbers: usize) -> Written {
+        Written {
+            answers: vec![UNWRITTEN_ANSWER; numbers],
+            ..self
+        }
+    }
+
     /// Where two of them differ first.
     pub fn first_difference(&self, other: &Written) -> Option<String> {
         let strikes = || {
             first_difference(&self.strikes, &other.strikes)
                 .map(|number| format!("strikes differ from number {number}"))
         };
+        let answers = || {
+            first_difference(&self.answers, &other.answers)
+                .map(|number| format!("answers differ from number {number}"))
+        };
         first_difference(&self.target, &other.target)
             .map(|byte| format!("targets differ from byte {byte}"))
             .or_else(strikes)
+            .or_else(answers)
     }
 }
 
@@ -109,7 +130,11 @@ pub struct Reference;
 
 impl Engine for Reference {
     fn answer(&self, request: &Request, written: &mut Written) -> AnswerArray {
-        let Written { target, strikes } = written;
+        let Written {
+            target,
+            strikes,
+            answers,
+        } = written;
         let answer = match *request {
             Request::Check { text } => operations::check(text),
             Request::Fresh { device } => operations::fresh(device, target),
@@ -125,6 +150,9 @@ impl Engine for Reference {
                 outcome,
                 sheet,
             } => operations::run_files(set, device, outcome, sheet, target),
+            Request::RunEach { text, set, sheet } => {
+                operations::run_each(text, set, sheet, target, answers)
+            }
             Request::Close { device, outcome } => operations::close(device, outcome, target),
             Request::Contest { set } => operations::contest(set, target),
             Request::Write { text } => operations::write(text, target),

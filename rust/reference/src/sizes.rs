@@ -39,6 +39,9 @@ pub const SHEET: usize = 32_768;
 pub const SHEET_ENTRIES: usize = 64;
 pub const COMMAND: usize = 512;
 
+/// The numbers of an answer.
+pub const ANSWER: usize = 8;
+
 /// The fullest outcome record, and so the least room for a target of one.
 pub const OUTCOME_TARGET: usize = 18_125;
 /// The same of edition 1.

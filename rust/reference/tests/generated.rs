@@ -58,6 +58,7 @@ const EXTRA_ANSWERS: &[(Operation, &[u32])] = &[
         &[0, 1, 2, 3, 4, 6, 7, 11, 19, 20, 21, 30, 31, 33, 34, 35, 36],
     ),
     (Operation::RunFilesPermuted, &[0, 1, 3, 4, 6, 11, 21, 31]),
+    (Operation::RunEach, &[0, 1, 7]),
     (Operation::PlanCheck, &[0, 3, 7]),
     (Operation::Plan, &[0, 1, 3, 7]),
     (Operation::PlanCheckOwn, &[0, 3, 7]),

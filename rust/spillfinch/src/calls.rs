@@ -53,6 +53,20 @@ extern "C" {
         answer: *mut Answer,
     );
 
+    fn spillfinch_run_each(
+        text: *const u8,
+        text_length: usize,
+        set: *const u8,
+        set_length: usize,
+        sheet: *const u8,
+        sheet_length: usize,
+        targets: *mut u8,
+        targets_length: usize,
+        answers: *mut u32,
+        answers_length: usize,
+        answer: *mut Answer,
+    );
+
     fn spillfinch_close(
         device: *const u8,
         device_length: usize,
@@ -190,6 +204,31 @@ pub fn run_files(
             sheet.len(),
             target.as_mut_ptr(),
             target.len(),
+            answer,
+        );
+    }
+}
+
+pub fn run_each(
+    text: &[u8],
+    set: &[u8],
+    sheet: &[u8],
+    targets: &mut [u8],
+    answers: &mut [u32],
+    answer: &mut Answer,
+) {
+    unsafe {
+        spillfinch_run_each(
+            text.as_ptr(),
+            text.len(),
+            set.as_ptr(),
+            set.len(),
+            sheet.as_ptr(),
+            sheet.len(),
+            targets.as_mut_ptr(),
+            targets.len(),
+            answers.as_mut_ptr(),
+            answers.len(),
             answer,
         );
     }

@@ -75,6 +75,9 @@ fn show_replies(case: &Case, replies: &[Reply]) {
     for reply in replies {
         let record = reply.record();
         println!("{:?} {:?}", reply.operation, reply.answer);
+        for (position, answer) in (1..).zip(reply.answers()) {
+            println!("    record {position} {answer:?}");
+        }
         for strike in reply.strikes() {
             println!("    line {} struck for {}", strike[0], strike[1]);
         }
@@ -90,7 +93,7 @@ fn show_replies(case: &Case, replies: &[Reply]) {
             | Operation::Plan
             | Operation::Strike
             | Operation::StrikeAgain => Some(String::from_utf8_lossy(record).into_owned()),
-            Operation::Contest => None,
+            Operation::Contest | Operation::RunEach => None,
             Operation::Older | Operation::OlderAfterNewer => {
                 Outcome::decode_edition(Edition::First, record, chain_length)
                     .map(|outcome| show_outcome(&outcome))

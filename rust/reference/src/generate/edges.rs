@@ -1,6 +1,7 @@
 //! Cases at and just past each limit, and records with a single fault.
 
 use super::contest_edges::CONTEST_EDGES;
+use super::each_edges::EACH_EDGES;
 use super::edge_cases::*;
 use super::file_edges::FILE_EDGES;
 use super::plan_edges::PLAN_EDGES;
@@ -856,6 +857,7 @@ pub const EDGES: &[&[Edge]] = &[
     RUN_EDGES,
     DEVICE_EDGES,
     PLAN_EDGES,
+    EACH_EDGES,
     OUTCOME_EDGES,
     FILE_EDGES,
     ROOM_EDGES,

@@ -3,12 +3,13 @@
 use super::damage::damage;
 use super::file_sets::file_sets;
 use super::plans::set_and_proposal;
-use super::record_sets::record_set;
+use super::record_sets::{record_set, record_set_with};
 use super::rng::Rng;
 use super::world::World;
 use super::Case;
 use crate::device::Device;
 use crate::outcome::{Edition, Outcome, Watch};
+use crate::record_set::{RecordPair, RecordSet};
 use crate::sizes;
 
 #[derive(Clone, Debug, PartialEq, Eq)]
@@ -31,6 +32,13 @@ pub enum Extra {
         set: Vec<u8>,
         proposal: Vec<u8>,
         room: usize,
+    },
+    /// A run for each record of a set, with the case's text and sheet.
+    RunEach {
+        set: Vec<u8>,
+        targets: usize,
+        /// In numbers.
+        answers: usize,
     },
     /// The conversion of a record of edition 1, that of the case's outcome record, and back.
     Convert {
@@ -63,7 +71,24 @@ pub fn extra(rng: &mut Rng, case: &Case) -> Extra {
             room: room(rng, sizes::CONTEST_TARGET),
         },
         23..=27 => plan(rng),
+        28..=31 => run_each(rng, case),
         _ => Extra::Nothing,
+    }
+}
+
+fn run_each(rng: &mut Rng, case: &Case) -> Extra {
+    let set = record_set_with(
+        rng,
+        &RecordPair {
+            device: case.device.clone(),
+            outcome: case.outcome.clone(),
+        },
+    );
+    let records = RecordSet::decode(&set).map_or(1, |set| set.entries.len());
+    Extra::RunEach {
+        set,
+        targets: room(rng, records * sizes::OUTCOME_TARGET),
+        answers: room(rng, records * sizes::ANSWER),
     }
 }
 
@@ -95,6 +120,7 @@ pub fn strike(rng: &mut Rng) -> Extra {
 /// The room that is needed, seldom less or more.
 fn room(rng: &mut Rng, needed: usize) -> usize {
     match rng.below(100) {
+        _ if needed == 0 => rng.pick(&[0, 0, 9]),
         0..=89 => needed,
         90..=94 => needed + rng.below(100),
         95..=97 => needed - 1,

@@ -7,7 +7,22 @@ use crate::record_set::{RecordPair, RecordSet};
 use crate::sizes;
 
 pub fn record_set(rng: &mut Rng) -> Vec<u8> {
+    let set = sound_set(rng);
+    maybe_damaged(rng, set)
+}
+
+/// A set with the pair among its records.
+pub fn record_set_with(rng: &mut Rng, pair: &RecordPair) -> Vec<u8> {
     let mut set = sound_set(rng);
+    for entry in &mut set.entries {
+        if rng.percent(40) {
+            *entry = pair.clone();
+        }
+    }
+    maybe_damaged(rng, set)
+}
+
+fn maybe_damaged(rng: &mut Rng, mut set: RecordSet) -> Vec<u8> {
     if !set.entries.is_empty() && rng.percent(25) {
         make_faulty(rng, &mut set.entries);
     }
