@@ -3,8 +3,8 @@
  * Every function takes any bytes of any length and comes back; there is no state between calls and no memory of the heap. A call
  * takes less than 128 KB of stack; 115 KB were measured of a check of a plan, 94 KB of a strike, 80 KB of a run.
  *
- * A pointer must not be null, not even beside a length of 0. What is written (target, answer) must not overlap anything else that
- * the same call is given.
+ * A pointer must not be null, not even beside a length of 0. What is written (target, targets, strikes, answers, answer) must not overlap anything
+ * else that the same call is given.
  *
  * All 8 numbers of `answer` are written in every call:
  *   answer[SPILLFINCH_NUMBER]   0, or why the input is refused (enum spillfinch_refusal)
@@ -15,12 +15,12 @@
  *                               visited rule with such keys whose other keys hold, the place of the nearest device that has them all, from 1, or
  *                               the length of the chain if none has; at most the visited count times that length; 0 for all but a run
  *   answer[SPILLFINCH_POSITION] the record or file of a set that is refused, from 1 in the lent order; 0 if the refusal is about none
- *   answer[SPILLFINCH_COUNT]    how many lines were struck, or how many names a contest lists; 1 for a text that names all devices as wanted,
- *                               and for a plan; 0 after a refusal and for all else
+ *   answer[SPILLFINCH_COUNT]    how many lines were struck, how many names a contest lists, or how many records of a set were run; 1 for a text
+ *                               that names all devices as wanted, and for a plan; 0 after a refusal and for all else
  *   answer[7]                   0
  *
- * All bytes of `target` are written in every call, and all numbers of `strikes`: behind what was made they are zero, after a refusal all of
- * them are.
+ * All bytes of `target` and `targets` are written in every call, and all numbers of `strikes` and `answers`: behind what was made they are zero,
+ * after a refusal all of them are.
  */
 #ifndef SPILLFINCH_H
 #define SPILLFINCH_H
@@ -148,6 +148,18 @@ void spillfinch_fresh(const uint8_t *device, size_t device_length, uint8_t *targ
 void spillfinch_run(const uint8_t *text, size_t text_length, const uint8_t *device, size_t device_length, const uint8_t *outcome,
                     size_t outcome_length, const uint8_t *sheet, size_t sheet_length, uint8_t *target, size_t target_length,
                     uint32_t answer[SPILLFINCH_ANSWER_LENGTH]);
+
+/* Runs a rules text for each record of a set, with one answer sheet. The text is read once and the sheet judged once, and nothing of one run is seen by
+ * another: `targets` holds SPILLFINCH_OUTCOME_ROOM bytes for each record, one behind the other in lent order, `answers` SPILLFINCH_ANSWER_LENGTH
+ * numbers, and what is written there is what spillfinch_run writes for the text with that device, record and sheet. So a text that is refused is
+ * refused in the answer of each record, and a faulty record in its own.
+ *
+ * The set is that of spillfinch_contest, which takes what the runs leave, each cut at its used length. `answer` is about the set. Refusals: 7; then 1,
+ * for targets or answers that are too short for its records. Else the number is 0, whatever the runs give, answer[SPILLFINCH_COUNT] is the number of
+ * records, and all else in it is 0. */
+void spillfinch_run_each(const uint8_t *text, size_t text_length, const uint8_t *set, size_t set_length, const uint8_t *sheet,
+                         size_t sheet_length, uint8_t *targets, size_t targets_length, uint32_t *answers, size_t answers_length,
+                         uint32_t answer[SPILLFINCH_ANSWER_LENGTH]);
 
 /* Runs a set of rules files for a device. Files whose name does not end in `.rules` are ignored, and of files with one name only that of the
  * highest rank counts; if its text is empty, the name is disabled. Those that count run in the byte order of their names, each from what the

@@ -1,5 +1,6 @@
 /* The library from C: checks rules texts, takes a device from its fresh outcome record over a run to its run list, asks an answer sheet,
- * runs a set of files, converts the record to edition 1 and back, asks who of two holds a link, plans a link for a device, and writes rules back. */
+ * runs a set of files, converts the record to edition 1 and back, asks who of two holds a link, runs a text for two devices at once, plans a link
+ * for a device, and writes rules back. */
 #include <stdio.h>
 #include <string.h>
 
@@ -26,6 +27,8 @@ static uint8_t old[SPILLFINCH_OLD_OUTCOME_ROOM];
 static uint8_t run_list[SPILLFINCH_RUN_LIST_ROOM];
 static uint8_t written[SPILLFINCH_TEXT_MOST];
 static uint8_t list[SPILLFINCH_CONTEST_ROOM];
+static uint8_t targets[2 * SPILLFINCH_OUTCOME_ROOM];
+static uint32_t answers[2 * SPILLFINCH_ANSWER_LENGTH];
 
 static void show_answer(const char *what, const uint32_t *answer)
 {
@@ -189,6 +192,44 @@ static void contest(size_t outcome_length)
     printf("it is record %u\n", (unsigned)answer[SPILLFINCH_POSITION]);
 }
 
+/* A text for two devices with one fresh record, ttyUSB0 and ttyUSB1; the records that it leaves stand in their places of `targets`. */
+static void run_each(const char *text, const uint8_t *set, size_t set_length)
+{
+    uint32_t answer[SPILLFINCH_ANSWER_LENGTH];
+
+    spillfinch_run_each((const uint8_t *)text, strlen(text), set, set_length, no_replies, sizeof no_replies, targets, sizeof targets, answers,
+                        sizeof answers / sizeof *answers, answer);
+    show_answer("run for each", answer);
+    printf("%u records run\n", (unsigned)answer[SPILLFINCH_COUNT]);
+    show_answer("the first", answers);
+    show_answer("the second", answers + SPILLFINCH_ANSWER_LENGTH);
+}
+
+/* From two devices to the holders of their links. */
+static void two_devices(size_t fresh_length)
+{
+    uint32_t answer[SPILLFINCH_ANSWER_LENGTH];
+    uint8_t set[1024] = {2};
+    uint8_t other[sizeof device];
+
+    memcpy(other, device, sizeof device);
+    other[device_length - 4] = '1';
+    size_t end = put_record(set, 1, device, device_length);
+    end = put_record(set, end, fresh, fresh_length);
+    end = put_record(set, end, other, device_length);
+    end = put_record(set, end, fresh, fresh_length);
+    run_each("GOTO=\"end\"\n", set, end);
+    run_each("SYMLINK+=\"counter%n all\"\nKERNEL==\"ttyUSB1\", OPTIONS=\"link_priority=1\"\n", set, end);
+
+    end = put_record(set, 1, device, device_length);
+    end = put_record(set, end, targets, answers[SPILLFINCH_USED]);
+    end = put_record(set, end, other, device_length);
+    end = put_record(set, end, targets + SPILLFINCH_OUTCOME_ROOM, answers[SPILLFINCH_ANSWER_LENGTH + SPILLFINCH_USED]);
+    spillfinch_contest(set, end, list, sizeof list, answer);
+    show_answer("contest of both", answer);
+    show_bytes(list, answer[SPILLFINCH_USED]);
+}
+
 static void check_plan(const char *what, const uint8_t *set, size_t set_length, const uint8_t *text, size_t text_length)
 {
     uint32_t answer[SPILLFINCH_ANSWER_LENGTH];
@@ -256,6 +297,7 @@ int main(void)
 
     convert(outcome_length);
     contest(outcome_length);
+    two_devices(fresh_length);
     plan();
 
     try_mode(5, outcome_length);

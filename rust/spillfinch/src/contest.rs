@@ -1,15 +1,8 @@
 //! Which record holds a link that several claim.
 
 use crate::calls::{self, Answer};
-use crate::set::{lent, put_long};
+use crate::record_set::{lent_records, RecordPair};
 use crate::{accepted_set, sizes, RefusedSet};
-
-/// An outcome record, and the record of the device that it belongs to.
-#[derive(Clone, Copy, Debug, PartialEq, Eq)]
-pub struct Claimant<'a> {
-    pub device: &'a [u8],
-    pub outcome: &'a [u8],
-}
 
 /// A name that is claimed. Positions count from 1 in the order in which the records were lent.
 #[derive(Clone, Copy, Debug, PartialEq, Eq)]
@@ -76,12 +69,8 @@ impl<'a> Iterator for Names<'a> {
 
 /// For every link that the records claim, the one that holds it: of those that claim it the one
 /// with the highest link priority, and of equals the earliest.
-pub fn contest(records: &[Claimant]) -> Result<Contest, RefusedSet> {
-    let put = |set: &mut Vec<u8>, record: &Claimant| {
-        put_long(set, record.device)?;
-        put_long(set, record.outcome)
-    };
-    let set = lent(records, put).ok_or(RefusedSet::NO_SET)?;
+pub fn contest(records: &[RecordPair]) -> Result<Contest, RefusedSet> {
+    let set = lent_records(records).ok_or(RefusedSet::NO_SET)?;
     let mut target = vec![0; sizes::CONTEST_ROOM];
     let mut answer = Answer::default();
     calls::contest(&set, &mut target, &mut answer);

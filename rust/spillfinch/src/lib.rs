@@ -5,15 +5,19 @@
 pub mod calls;
 mod contest;
 mod plan;
+mod record_set;
 mod refusal;
 mod rules_files;
+mod run_each;
 mod set;
 pub mod sizes;
 
-pub use contest::{contest, Claimant, Contest, Held, Names};
+pub use contest::{contest, Contest, Held, Names};
 pub use plan::{plan, plan_check, Wanted};
+pub use record_set::RecordPair;
 pub use refusal::{Refusal, Refused, RefusedFile, RefusedSet};
 pub use rules_files::{run_files, Rank, RulesFile};
+pub use run_each::{run_each, RunEach};
 
 use calls::Answer;
 
@@ -29,6 +33,17 @@ pub struct Ran {
     pub tried: u32,
     /// The outcome record.
     pub record: Vec<u8>,
+}
+
+impl Ran {
+    /// By the answer of its run.
+    fn of(answer: &Answer, record: Vec<u8>) -> Ran {
+        Ran {
+            visited: answer[calls::VISITED],
+            tried: answer[calls::TRIED],
+            record,
+        }
+    }
 }
 
 /// What is left of a text without its faulty lines.
@@ -61,7 +76,7 @@ pub fn run(text: &[u8], device: &[u8], outcome: &[u8], sheet: &[u8]) -> Result<R
     let (answer, record) = written(sizes::OUTCOME_ROOM, |target, answer| {
         calls::run(text, device, outcome, sheet, target, answer);
     })?;
-    Ok(ran(&answer, record))
+    Ok(Ran::of(&answer, record))
 }
 
 /// The run list of an outcome record.
@@ -128,14 +143,6 @@ fn refused(number: u32, line: u32) -> Refused {
     Refused {
         refusal: Refusal::of_number(number).expect("the header names every number"),
         line,
-    }
-}
-
-fn ran(answer: &Answer, record: Vec<u8>) -> Ran {
-    Ran {
-        visited: answer[calls::VISITED],
-        tried: answer[calls::TRIED],
-        record,
     }
 }
 

@@ -2,7 +2,7 @@
 
 use crate::calls::{self, Answer};
 use crate::set::{lent, put_long, put_short};
-use crate::{ran, refused, sizes, Ran, Refusal, Refused, RefusedFile};
+use crate::{refused, sizes, Ran, Refusal, Refused, RefusedFile};
 
 /// The directory that a rules file stands in, the highest rank first.
 #[derive(Clone, Copy, Debug, PartialEq, Eq, PartialOrd, Ord)]
@@ -41,7 +41,7 @@ pub fn run_files(
     match answer[calls::NUMBER] {
         0 => {
             target.truncate(answer[calls::USED] as usize);
-            Ok(ran(&answer, target))
+            Ok(Ran::of(&answer, target))
         }
         number => Err(RefusedFile {
             refused: refused(number, answer[calls::LINE]),

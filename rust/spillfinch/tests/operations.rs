@@ -2,7 +2,7 @@
 
 use spillfinch::{
     check, close, contest, fresh, newer, older, plan, plan_check, run, run_files, sizes, strike,
-    write, Claimant, Held, Rank, Refusal, Refused, RefusedFile, RefusedSet, RulesFile, Struck,
+    write, Held, Rank, RecordPair, Refusal, Refused, RefusedFile, RefusedSet, RulesFile, Struck,
     Wanted, EMPTY_SHEET,
 };
 
@@ -61,7 +61,7 @@ fn contests() {
     };
     let low = ran("SYMLINK+=\"rope a\", OPTIONS=\"link_priority=-1\"");
     let high = ran("SYMLINK+=\"b rope\", OPTIONS=\"link_priority=1\"");
-    let claimant = |outcome| Claimant {
+    let claimant = |outcome| RecordPair {
         device: DEVICE,
         outcome,
     };
@@ -85,7 +85,7 @@ fn contests() {
     assert_eq!((none.names().count(), none.is_empty()), (0, true));
 
     let refused = |refusal, position| Err(RefusedSet { refusal, position });
-    let faulty = Claimant {
+    let faulty = RecordPair {
         device: b"",
         outcome: b"",
     };

@@ -10,6 +10,7 @@ use std::time::Instant;
 use comparison::workloads::{all_workloads, counter, family, faulty_lines, Workload};
 use comparison::Linked;
 use reference::compare::{run_reply, Engine, Reference, Request};
+use reference::record_set::{RecordPair, RecordSet};
 use reference::request::Written;
 use reference::{generate, sizes, Outcome, Sheet};
 
@@ -17,11 +18,14 @@ const USAGE: &str = "usage: bench
        bench list                       name, bytes and rules of each text
        bench text TEXT                  a text itself
        bench count ENGINE TEXT TIMES    run a text so often with an engine, linked or reference
+       bench each TEXT DEVICES          run a text for so many devices in one call
        bench call OPERATION TEXT TIMES  check or strike a text so often, faulty_lines among them
        bench worst CASES                the generated cases whose runs take longest beside the reference";
 
 /// How often each text is run by each engine, in turns; the best time of all counts.
 const RUNS: usize = 400;
+/// The same for runs for many devices.
+const RUNS_OF_MANY: usize = 40;
 /// The same for the texts that time one match, which is a small difference.
 const RUNS_FOR_DIFFERENCES: usize = 4_000;
 
@@ -41,6 +45,7 @@ fn main() -> ExitCode {
         }
         ["text", text] => show_text(text),
         ["count", engine, text, times] => count(engine, text, times),
+        ["each", text, devices] => each(text, devices),
         ["call", operation, text, times] => call(operation, text, times),
         ["worst", cases] => show_worst(cases),
         _ => None,
@@ -108,6 +113,43 @@ impl Bench {
     }
 }
 
+/// A run of a text for so many devices in one call, each of them the counter.
+struct BenchEach {
+    set: Vec<u8>,
+    sheet: Vec<u8>,
+    written: Written,
+}
+
+impl BenchEach {
+    fn new(workload: &Workload, devices: usize) -> BenchEach {
+        let pair = RecordPair {
+            device: counter().encode(),
+            outcome: workload.outcome.encode(),
+        };
+        let set = RecordSet {
+            entries: vec![pair; devices],
+        };
+        let targets = Written::with_target(devices * sizes::OUTCOME_TARGET);
+        BenchEach {
+            set: set.encode(),
+            sheet: workload.sheet.encode(),
+            written: targets.with_answers(devices * sizes::ANSWER),
+        }
+    }
+
+    /// Runs a text and gives the nanoseconds that it took.
+    fn run(&mut self, text: &[u8]) -> f64 {
+        let request = Request::RunEach {
+            text,
+            set: &self.set,
+            sheet: &self.sheet,
+        };
+        let start = Instant::now();
+        black_box(Linked.answer(black_box(&request), &mut self.written));
+        start.elapsed().as_nanos() as f64
+    }
+}
+
 /// The best times of runs that are taken in turns, so many of each.
 fn best<const N: usize>(runs: usize, mut run: impl FnMut(usize) -> f64) -> [f64; N] {
     let mut best = [f64::INFINITY; N];
@@ -124,6 +166,16 @@ fn times_of_both(workload: &Workload) -> [f64; 2] {
     let mut bench = Bench::new(&workload.outcome, &workload.sheet);
     bench.assert_engines_agree(&workload.text);
     bench.times_of_both(RUNS, &workload.text)
+}
+
+/// What a device more takes in one call, by the best times for one and for all that a call takes.
+fn time_of_a_device_more(workload: &Workload) -> f64 {
+    let [mut one, mut most] = [1, sizes::SET_RECORDS].map(|n| BenchEach::new(workload, n));
+    let [of_one, of_most] = best(RUNS_OF_MANY, |which| match which {
+        0 => one.run(&workload.text),
+        _ => most.run(&workload.text),
+    });
+    (of_most - of_one) / (sizes::SET_RECORDS - 1) as f64
 }
 
 // ---- texts
@@ -163,6 +215,13 @@ fn count(engine: &str, text: &str, times: &str) -> Option<()> {
     Some(())
 }
 
+fn each(text: &str, devices: &str) -> Option<()> {
+    let workload = workload_of(text)?;
+    let devices: usize = devices.parse().ok()?;
+    BenchEach::new(&workload, devices).run(&workload.text);
+    Some(())
+}
+
 /// Calls an operation that takes only a text.
 fn call(operation: &str, text: &str, times: &str) -> Option<()> {
     let text = match text {
@@ -184,13 +243,21 @@ fn call(operation: &str, text: &str, times: &str) -> Option<()> {
 
 fn show_texts() {
     println!(
-        "{:14} {:>6} {:>6} {:>9} {:>8} {:>8} {:>13} {:>8}",
-        "text", "bytes", "rules", "us a run", "ns/rule", "ns/byte", "reference us", "ratio"
+        "{:14} {:>6} {:>6} {:>9} {:>8} {:>8} {:>13} {:>8} {:>16}",
+        "text",
+        "bytes",
+        "rules",
+        "us a run",
+        "ns/rule",
+        "ns/byte",
+        "reference us",
+        "ratio",
+        "us a device more"
     );
     for workload in all_workloads() {
         let [ours, reference] = times_of_both(&workload);
         println!(
-            "{:14} {:6} {:6} {:9.1} {:8.1} {:8.2} {:13.1} {:8.2}",
+            "{:14} {:6} {:6} {:9.1} {:8.1} {:8.2} {:13.1} {:8.2} {:16.1}",
             workload.name,
             workload.text.len(),
             workload.rules(),
@@ -199,6 +266,7 @@ fn show_texts() {
             ours / workload.text.len() as f64,
             reference / 1e3,
             ours / reference,
+            time_of_a_device_more(&workload) / 1e3,
         );
     }
 }
