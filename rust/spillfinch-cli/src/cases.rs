@@ -94,15 +94,18 @@ impl Case {
         };
         let rules = Rules::read(&self.rules, beside)?;
         let text = rules.text();
-        let mut outcome = Outcome::default();
+        let mut devices = Vec::new();
         for path in &self.devices {
-            let device = device::read(path.as_os_str(), &text)?;
+            devices.push(device::read(path.as_os_str(), &text)?);
+        }
+        let runs = rules.run_each(&devices).into_iter().zip(devices);
+        let mut outcome = Outcome::default();
+        for (path, (given, device)) in self.devices.iter().zip(runs) {
             if self.devices.len() > 1 {
                 let name = path.file_name().map(Path::new).unwrap_or(path);
                 outcome.listing += &head(&files::shown(name));
                 outcome.listing.push('\n');
             }
-            let given = rules.run(&device);
             outcome.listing += &given.listing;
             outcome.refused.extend(given.record.err());
             outcome.left_out.extend(device.left_out);

@@ -61,21 +61,78 @@ pub fn at_line(file: &Path, error: &FormError) -> Failure {
     Failure(format!("{}:{line}: {message}", files::shown(file)))
 }
 
+/// What a file holds.
+enum Content {
+    Alone(Vec<u8>),
+    Recording(Vec<Block>),
+}
+
+fn content(file: &Path) -> Result<Content, Failure> {
+    let bytes = files::read(file)?;
+    if !is_recording(&bytes) {
+        return Ok(Content::Alone(bytes));
+    }
+    let blocks = read_recording(&bytes).map_err(|error| at_line(file, &error))?;
+    Ok(Content::Recording(blocks))
+}
+
 /// The packed record of a device. Of a recording, what the rules name is kept first.
 pub fn read(argument: &OsStr, rules: &[u8]) -> Result<Recorded, Failure> {
     let source = Source::of(argument);
-    let bytes = files::read(&source.file)?;
-    let name = files::shown(Path::new(argument));
-    if is_recording(&bytes) {
-        let blocks = read_recording(&bytes).map_err(|error| at_line(&source.file, &error))?;
-        let event = event(&source, &blocks)?;
-        let imported = import_block(&source.file, &blocks, event, rules)?;
-        return Ok(Recorded {
-            name,
-            record: packed(&source.file, imported.device.encode())?,
-            left_out: imported.left_out,
-        });
+    one_of(argument, &source, content(&source.file)?, rules)
+}
+
+/// The same, and all devices of a recording of which none is picked.
+pub fn read_all(argument: &OsStr, rules: &[u8]) -> Result<Vec<Recorded>, Failure> {
+    let source = Source::of(argument);
+    let file = &source.file;
+    match content(file)? {
+        Content::Recording(blocks) if source.device.is_none() => {
+            let of_block = |event: usize| {
+                let path = escape(&blocks[event].path);
+                let name = format!("{}:{path}", files::shown(file));
+                recorded(name, file, &blocks, event, rules)
+            };
+            (0..blocks.len()).map(of_block).collect()
+        }
+        content => Ok(vec![one_of(argument, &source, content, rules)?]),
     }
+}
+
+fn one_of(
+    argument: &OsStr,
+    source: &Source,
+    content: Content,
+    rules: &[u8],
+) -> Result<Recorded, Failure> {
+    let name = files::shown(Path::new(argument));
+    match content {
+        Content::Alone(bytes) => read_alone(name, source, bytes),
+        Content::Recording(blocks) => {
+            let event = event(source, &blocks)?;
+            recorded(name, &source.file, &blocks, event, rules)
+        }
+    }
+}
+
+/// A device of a recording.
+fn recorded(
+    name: String,
+    file: &Path,
+    blocks: &[Block],
+    event: usize,
+    rules: &[u8],
+) -> Result<Recorded, Failure> {
+    let imported = import_block(file, blocks, event, rules)?;
+    Ok(Recorded {
+        name,
+        record: packed(file, imported.device.encode())?,
+        left_out: imported.left_out,
+    })
+}
+
+/// A device in a file of its own.
+fn read_alone(name: String, source: &Source, bytes: Vec<u8>) -> Result<Recorded, Failure> {
     if source.device.is_some() {
         let file = files::shown(&source.file);
         return Err(Failure(format!(

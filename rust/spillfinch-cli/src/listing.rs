@@ -2,7 +2,7 @@
 
 use recordings::escape::escape;
 use recordings::{Outcome, RunList};
-use spillfinch::{Ran, RefusedFile, RulesFile};
+use spillfinch::{Ran, RecordPair, RefusedFile, RulesFile};
 
 /// An accepted run with its close.
 #[derive(Debug)]
@@ -12,30 +12,53 @@ pub struct Listed {
     pub record: Vec<u8>,
 }
 
-/// Runs files for a device, from an outcome record or from the fresh one, with an answer sheet or
-/// with the empty one, and closes. One alone is run whatever its name is.
-pub fn list(
+/// Runs files for devices, each from an outcome record or from its fresh one, with an answer sheet
+/// or with the empty one, and closes. One file alone is run whatever its name is.
+pub fn list_each(
     files: &[RulesFile],
-    device: &[u8],
+    devices: &[&[u8]],
     start: Option<&[u8]>,
     sheet: Option<&[u8]>,
-) -> Result<Listed, RefusedFile> {
-    let fresh = match start {
-        Some(_) => Vec::new(),
+) -> Vec<Result<Listed, RefusedFile>> {
+    let start_of = |device: &&[u8]| match start {
+        Some(start) => start.to_vec(),
         // A faulty device has no fresh record; the run refuses it, a faulty text first.
         None => spillfinch::fresh(device).unwrap_or_default(),
     };
+    let starts: Vec<Vec<u8>> = devices.iter().map(start_of).collect();
+    let pairs = devices
+        .iter()
+        .zip(&starts)
+        .map(|(device, outcome)| RecordPair { device, outcome });
     let sheet = sheet.unwrap_or(spillfinch::EMPTY_SHEET);
-    let outcome = start.unwrap_or(&fresh);
-    let ran = match files {
-        [file] => spillfinch::run(file.text, device, outcome, sheet)?,
-        _ => spillfinch::run_files(files, device, outcome, sheet)?,
+    let closed = |(ran, device): (Result<Ran, RefusedFile>, &&[u8])| {
+        let ran = ran?;
+        let list = spillfinch::close(device, &ran.record)?;
+        Ok(Listed {
+            listing: lines(&ran, &list),
+            record: ran.record,
+        })
     };
-    let list = spillfinch::close(device, &ran.record)?;
-    Ok(Listed {
-        listing: lines(&ran, &list),
-        record: ran.record,
-    })
+    let runs = run_each(files, pairs, sheet);
+    runs.into_iter().zip(devices).map(closed).collect()
+}
+
+fn run_each<'a>(
+    files: &'a [RulesFile],
+    pairs: impl Iterator<Item = RecordPair<'a>>,
+    sheet: &'a [u8],
+) -> Vec<Result<Ran, RefusedFile>> {
+    match files {
+        [file] => {
+            let runs = spillfinch::run_each(file.text, pairs, sheet);
+            runs.map(|ran| ran.map_err(RefusedFile::from)).collect()
+        }
+        _ => {
+            let run =
+                |pair: RecordPair| spillfinch::run_files(files, pair.device, pair.outcome, sheet);
+            pairs.map(run).collect()
+        }
+    }
 }
 
 /// The listing of a refusal, with the name of its file if that is one of several.

@@ -6,6 +6,7 @@ use std::path::{Path, PathBuf};
 use spillfinch::{Rank, Refusal, RefusedFile, RulesFile};
 
 use crate::device::{self, Recorded};
+use crate::listing::Listed;
 use crate::report::Failure;
 use crate::rules_files::rank_of;
 use crate::{files, listing};
@@ -100,11 +101,14 @@ impl Rules {
         texts.join(&b'\n')
     }
 
-    pub fn run(&self, device: &Recorded) -> Given {
+    /// What each of the devices gets, in their order.
+    pub fn run_each(&self, devices: &[Recorded]) -> Vec<Given> {
         let start = self.start.as_ref().map(|start| start.packed.as_slice());
         let sheet = self.sheet.as_ref().map(|sheet| sheet.packed.as_slice());
         let files: Vec<RulesFile> = self.files.iter().map(File::as_lent).collect();
-        match listing::list(&files, &device.record, start, sheet) {
+        let records: Vec<&[u8]> = devices.iter().map(|device| &device.record[..]).collect();
+        let listed = listing::list_each(&files, &records, start, sheet);
+        let given = |(listed, device): (Result<Listed, RefusedFile>, &Recorded)| match listed {
             Ok(listed) => Given {
                 listing: listed.listing,
                 record: Ok(listed.record),
@@ -113,7 +117,8 @@ impl Rules {
                 listing: listing::refused(&files, &refused),
                 record: Err(self.explain(&refused, &device.name)),
             },
-        }
+        };
+        listed.into_iter().zip(devices).map(given).collect()
     }
 
     /// The refusal with the file and the line that it is about.

@@ -106,11 +106,99 @@ fn refused() {
 }
 
 #[test]
+fn holders_of_a_whole_box() {
+    let line = "contest --rules examples/ropes/counters.rules examples/ropes/box.umockdev";
+    let said = run_in(&repository(), &words(line), b"");
+    let holders = repository().join("examples/ropes/holders");
+    let holders = fs::read_to_string(holders).expect("an example");
+    said.is(0, &holders, "");
+    let picked = "/devices/pci0000:00/0000:00:14.0/usb1/1-4/1-4:1.0/ttyUSB2/tty/ttyUSB2";
+    let file = format!("examples/ropes/box.umockdev:{picked}");
+    let said = run_in(&repository(), &words(&format!("{line}:{picked}")), b"");
+    let links = "link rope/trip1\n  holder FILE\nlink counter/2\n  holder FILE\n";
+    said.is(0, &links.replace("FILE", &file), "");
+}
+
+#[test]
+fn devices_as_a_run_leaves_them() {
+    let folder = folder("contest_rules");
+    let by_rules = folder.run(&words("contest --rules counters.rules a.device b.device"));
+    let form = folder.run(&words("contest a a.device b b.device"));
+    let named = form.out.replace(" a\n", " a.device\n");
+    by_rules.is(0, &named.replace(" b\n", " b.device\n"), "");
+    // Only what claims a link counts among the 64.
+    folder.file("few.rules", "KERNEL==\"ttyUSB1\", SYMLINK+=\"x\"\n");
+    let many = format!(
+        "contest --rules few.rules b.device{}",
+        " a.device".repeat(200)
+    );
+    folder
+        .run(&words(&many))
+        .is(0, "link x\n  holder b.device\n", "");
+}
+
+#[test]
+fn files_of_a_box() {
+    let folder = folder("contest_box");
+    let etc = "box/etc/udev/rules.d/70-counters.rules";
+    folder
+        .file(etc, "SYMLINK+=\"etc\"\n")
+        .file(
+            "box/lib/udev/rules.d/70-counters.rules",
+            "SYMLINK+=\"lib\"\n",
+        )
+        .file(
+            "more.rules",
+            "KERNEL==\"ttyUSB1\", OPTIONS=\"link_priority=1\"\n",
+        );
+    let line = words("contest --rules box --rules more.rules a.device b.device");
+    folder
+        .run(&line)
+        .is(0, "link etc\n  holder b.device\n  other a.device\n", "");
+    folder.file(etc, "\nSYMLINK\n");
+    folder.run(&line).is(
+        1,
+        "",
+        &format!("{etc}:2: refused 13: operator missing, or not one of this key\n"),
+    );
+}
+
+#[test]
+fn a_refused_run_has_no_holders() {
+    let folder = folder("contest_rules_refused");
+    folder.file("bad.device", b"\x10\0\0");
+    let line = "contest --rules counters.rules a.device bad.device b.device";
+    folder.run(&words(line)).is(
+        1,
+        "",
+        "bad.device: refused 3: the device record is faulty\n",
+    );
+    folder.file("asks.rules", "PROGRAM==\"id %k\", SYMLINK+=\"%c\"\n");
+    let line = "contest --rules asks.rules a.device b.device";
+    folder.run(&words(line)).is(
+        1,
+        "",
+        "asks.rules:1: refused 35: command that is not on the answer sheet; no sheet is given, for a.device\n\
+         asks.rules:1: refused 35: command that is not on the answer sheet; no sheet is given, for b.device\n",
+    );
+    folder.file(
+        "sheet",
+        "command id ttyUSB0\n  success\n  output x\ncommand id ttyUSB1\n  success\n  output x\n",
+    );
+    let line = "contest --rules asks.rules --sheet sheet a.device b.device";
+    folder
+        .run(&words(line))
+        .is(0, "link x\n  holder a.device\n  other b.device\n", "");
+}
+
+#[test]
 fn bad_usage() {
     let folder = folder("contest_usage");
     let run = |line: &str| folder.run(&words(line));
     run("contest a a.device b").is(2, "", "spillfinch: b: no device follows it\n");
-    assert_eq!(run("contest a").status, 2);
+    run("contest a").is(2, "", "spillfinch: a: no device follows it\n");
+    assert_eq!(run("contest --rules counters.rules").status, 2);
+    assert_eq!(run("contest --sheet a a a.device").status, 2);
     assert_eq!(run("contest").status, 2);
     run("contest gone a.device").is(2, "", "spillfinch: gone: No such file or directory\n");
 }

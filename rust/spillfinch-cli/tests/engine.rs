@@ -5,7 +5,7 @@ use std::path::PathBuf;
 use reference::generate::case;
 use spillfinch::{Rank, Refusal, Refused, RulesFile, EMPTY_SHEET};
 use spillfinch_cli::check::{check, Subject};
-use spillfinch_cli::listing::{list, refused};
+use spillfinch_cli::listing::{list_each, refused};
 use spillfinch_cli::syntax::line::read_line;
 use spillfinch_cli::syntax::{lines, quote, Key, Line};
 
@@ -97,7 +97,8 @@ fn every_fault_is_found() {
 #[test]
 fn listings_are_those_of_the_reference() {
     for seed in 0..CASES {
-        let case = case(seed);
+        let (other, case) = (case(seed + 1), case(seed));
+        let devices = [&other.device[..], &case.device];
         for (start, sheet) in [
             (None, None),
             (Some(&case.outcome[..]), Some(&case.sheet[..])),
@@ -107,12 +108,16 @@ fn listings_are_those_of_the_reference() {
                 name: b"",
                 text: &case.text,
             }];
-            let listing = match list(&files, &case.device, start, sheet) {
-                Ok(listed) => listed.listing,
-                Err(found) => refused(&files, &found),
-            };
-            let expected = reference::listing(&case.text, &case.device, start, sheet);
-            assert_eq!(listing, String::from_utf8_lossy(&expected), "seed {seed}");
+            let listed = list_each(&files, &devices, start, sheet);
+            assert_eq!(listed.len(), devices.len());
+            for (listed, device) in listed.into_iter().zip(devices) {
+                let listing = match listed {
+                    Ok(listed) => listed.listing,
+                    Err(found) => refused(&files, &found),
+                };
+                let expected = reference::listing(&case.text, device, start, sheet);
+                assert_eq!(listing, String::from_utf8_lossy(&expected), "seed {seed}");
+            }
         }
     }
 }

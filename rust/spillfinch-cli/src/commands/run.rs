@@ -78,21 +78,21 @@ pub fn run(matches: &ArgMatches) -> Done {
     let text = rules.text();
     let mut recorded = Vec::new();
     for name in &devices {
-        recorded.push(device::read(name, &text)?);
+        let mut device = device::read(name, &text)?;
+        if let Some(action) = action {
+            device.record = device::with_action(device.record, action);
+        }
+        recorded.push(device);
     }
 
     let mut report = Report::default();
-    for mut device in recorded {
+    for (given, device) in rules.run_each(&recorded).into_iter().zip(&recorded) {
         for note in &device.left_out {
             report.message_once(note);
-        }
-        if let Some(action) = action {
-            device.record = device::with_action(device.record, action);
         }
         if devices.len() > 1 {
             report.result(&head(&device.name));
         }
-        let given = rules.run(&device);
         report.results.extend(given.listing.into_bytes());
         match (given.record, record_file) {
             (Ok(record), Some(file)) => files::write_all(&[(file.clone(), record)])?,
