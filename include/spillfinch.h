@@ -174,8 +174,8 @@ void spillfinch_run_files(const uint8_t *set, size_t set_length, const uint8_t *
                           size_t outcome_length, const uint8_t *sheet, size_t sheet_length, uint8_t *target, size_t target_length,
                           uint32_t answer[SPILLFINCH_ANSWER_LENGTH]);
 
-/* Writes the run list of an outcome record: each program or builtin, its template substituted with the record's properties and with
- * the device. Refusals: 1, 3, 4, 30, all with line 0. */
+/* Writes the run list of an outcome record: each program or builtin, its template substituted with the record's properties and
+ * output and with the device. Refusals: 1, 3, 4, 30, all with line 0. */
 void spillfinch_close(const uint8_t *device, size_t device_length, const uint8_t *outcome, size_t outcome_length, uint8_t *target,
                       size_t target_length, uint32_t answer[SPILLFINCH_ANSWER_LENGTH]);
 
@@ -189,8 +189,8 @@ void spillfinch_newer(const uint8_t *device, size_t device_length, const uint8_t
 void spillfinch_older(const uint8_t *device, size_t device_length, const uint8_t *outcome, size_t outcome_length, uint8_t *target,
                       size_t target_length, uint32_t answer[SPILLFINCH_ANSWER_LENGTH]);
 
-/* Writes the rules of a text back: a line for each, nothing between their parts, one comma between pairs, one newline after each rule,
- * comments and blank lines gone. A value is written as e"..." only where it holds a newline or ends in a backslash. What is written reads back to
+/* Writes the rules of a text back, each on a line of its own that ends in a newline: its pairs with a comma and nothing else between them, and neither
+ * comments nor blank lines. A value has the form e"..." only if there is a newline in it, or a backslash at its end. What is written reads back to
  * the same rules in the same order, is written the same again, and is no longer than the text and one newline. Refusals: 1, 2, those of the
  * check with their lines, and last 2 where the written text has 32,769 bytes, with line 0. */
 void spillfinch_write(const uint8_t *text, size_t text_length, uint8_t *target, size_t target_length,
@@ -207,7 +207,7 @@ void spillfinch_strike(const uint8_t *text, size_t text_length, uint8_t *target,
 /* Lists every link that outcome records claim, each once, in the order of the first claims: which record holds it, and which others claim it.
  * Of the records that claim a link the one with the highest link priority (with its sign) holds it, of equals the earliest.
  *
- * The set: a byte with the number of records; for each its device record and then the outcome record, each behind its length in two bytes,
+ * The set: a byte with the number of records, 0 to 64; for each its device record and then the outcome record, each behind its length in two bytes,
  * the higher one first. The list: for each name a byte with its length, one with the holder's position (from 1 in the lent order), one with the
  * number of other claimants; the name; the positions of those others, a byte each, in lent order. Refusals: 1, 7; then record by record 3 and 4
  * with the position. */
@@ -223,7 +223,7 @@ void spillfinch_plan_check(const uint8_t *set, size_t set_length, const uint8_t 
                            uint32_t answer[SPILLFINCH_ANSWER_LENGTH]);
 
 /* Writes a rules text that names the devices of such a set as wanted: spillfinch_plan_check accepts it for that set. There is one exactly if the paths
- * of the event devices differ and have at most 128 bytes, all of A-Z a-z 0-9 / : . _ -, and the wanted links differ, are clean (of A-Z a-z 0-9 # + - . :
+ * of the event devices differ and have no more than 128 bytes, each one of A-Z a-z 0-9 / : . _ -, and the wanted links differ, are clean (of A-Z a-z 0-9 # + - . :
  * = @ _ / alone) and would not be refused as 31; answer[SPILLFINCH_COUNT] is then 1, else 0, and nothing is written. The target has
  * SPILLFINCH_TEXT_MOST bytes. Refusals: 1, 7, 3 with the position. */
 void spillfinch_plan(const uint8_t *set, size_t set_length, uint8_t *target, size_t target_length,

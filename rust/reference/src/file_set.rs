@@ -1,6 +1,6 @@
 //! A set of rules files, whether their texts are accepted or not.
 
-use crate::record::{BitReader, BitWriter};
+use crate::record::{read_entries, write_entries, BitReader, BitWriter};
 use crate::sizes;
 
 #[derive(Clone, Debug, Default, PartialEq, Eq)]
@@ -39,26 +39,13 @@ pub struct Winner<'a> {
 impl FileSet {
     /// The files of a set, or `None` if it is over its size or against its layout.
     pub fn decode(set: &[u8]) -> Option<FileSet> {
-        let mut reader = BitReader::new(set);
-        let count = reader.count(8)?;
-        if count > sizes::SET_FILES {
-            return None;
-        }
-        let files = (0..count)
-            .map(|_| RulesFile::read(&mut reader))
-            .collect::<Option<_>>()?;
-        reader.end()?;
+        let files = read_entries(set, 0..=sizes::SET_FILES, RulesFile::read)?;
         Some(FileSet { files })
     }
 
     /// The set of files whose number and lengths fit into their fields.
     pub fn encode(&self) -> Vec<u8> {
-        let mut writer = BitWriter::new();
-        writer.count(8, self.files.len());
-        for file in &self.files {
-            file.write(&mut writer);
-        }
-        writer.finish()
+        write_entries(&self.files, RulesFile::write)
     }
 
     /// Whether two files have the same name in the same directory.

@@ -8,7 +8,7 @@ use crate::record::{BitReader, BitWriter};
 use crate::sizes;
 use crate::template::Template;
 
-/// The layouts of the record. All but the converters read and write the second.
+/// The layouts of the record: the second everywhere, and the first for the converters alone.
 #[derive(Clone, Copy, Debug, PartialEq, Eq)]
 pub enum Edition {
     First,

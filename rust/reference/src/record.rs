@@ -1,5 +1,7 @@
 //! Packed records: fields of bits, most significant first, and texts of whole bytes.
 
+use std::ops::RangeInclusive;
+
 pub struct BitReader<'a> {
     record: &'a [u8],
     /// Counted in bits.
@@ -124,4 +126,35 @@ impl BitWriter {
     pub fn finish(self) -> Vec<u8> {
         self.record
     }
+}
+
+// ---- sets
+
+/// The entries of a set: their number in a byte, then one behind the other, and nothing behind the last. `None` if there are not as
+/// many as a set may have, or if one is not there.
+pub fn read_entries<T>(
+    set: &[u8],
+    counts: RangeInclusive<usize>,
+    read: impl Fn(&mut BitReader) -> Option<T>,
+) -> Option<Vec<T>> {
+    let mut reader = BitReader::new(set);
+    let count = reader.count(8)?;
+    if !counts.contains(&count) {
+        return None;
+    }
+    let entries = (0..count)
+        .map(|_| read(&mut reader))
+        .collect::<Option<_>>()?;
+    reader.end()?;
+    Some(entries)
+}
+
+/// The set of entries whose number and lengths fit into their fields.
+pub fn write_entries<T>(entries: &[T], write: impl Fn(&T, &mut BitWriter)) -> Vec<u8> {
+    let mut writer = BitWriter::new();
+    writer.count(8, entries.len());
+    for entry in entries {
+        write(entry, &mut writer);
+    }
+    writer.finish()
 }

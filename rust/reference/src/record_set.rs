@@ -1,6 +1,6 @@
 //! A set of outcome records, each with its device record, whether these are sound or not.
 
-use crate::record::{BitReader, BitWriter};
+use crate::record::{read_entries, write_entries, BitReader, BitWriter};
 use crate::sizes;
 
 #[derive(Clone, Debug, Default, PartialEq, Eq)]
@@ -17,26 +17,13 @@ pub struct RecordPair {
 impl RecordSet {
     /// The records of a set, or `None` if it is over its size or against its layout.
     pub fn decode(set: &[u8]) -> Option<RecordSet> {
-        let mut reader = BitReader::new(set);
-        let count = reader.count(8)?;
-        if count > sizes::SET_RECORDS {
-            return None;
-        }
-        let entries = (0..count)
-            .map(|_| RecordPair::read(&mut reader))
-            .collect::<Option<_>>()?;
-        reader.end()?;
+        let entries = read_entries(set, 0..=sizes::SET_RECORDS, RecordPair::read)?;
         Some(RecordSet { entries })
     }
 
     /// The set of records whose number and lengths fit into their fields.
     pub fn encode(&self) -> Vec<u8> {
-        let mut writer = BitWriter::new();
-        writer.count(8, self.entries.len());
-        for entry in &self.entries {
-            entry.write(&mut writer);
-        }
-        writer.finish()
+        write_entries(&self.entries, RecordPair::write)
     }
 }
 

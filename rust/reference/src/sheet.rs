@@ -1,7 +1,7 @@
 //! The answer sheet: what the programs said that rules may ask.
 
 use crate::bytes::all_distinct;
-use crate::record::{BitReader, BitWriter};
+use crate::record::{read_entries, write_entries, BitReader, BitWriter};
 use crate::sizes;
 
 /// The packed sheet without entries.
@@ -30,27 +30,14 @@ impl Sheet {
         if packed.len() > sizes::SHEET {
             return None;
         }
-        let mut reader = BitReader::new(packed);
-        let count = reader.count(8)?;
-        if count > sizes::SHEET_ENTRIES {
-            return None;
-        }
-        let entries: Vec<SheetEntry> = (0..count)
-            .map(|_| SheetEntry::read(&mut reader))
-            .collect::<Option<_>>()?;
-        reader.end()?;
+        let entries = read_entries(packed, 0..=sizes::SHEET_ENTRIES, SheetEntry::read)?;
         all_distinct(entries.iter().map(|entry| entry.command.as_slice()))
             .then_some(Sheet { entries })
     }
 
     /// The packed sheet of entries whose number and lengths fit into their fields.
     pub fn encode(&self) -> Vec<u8> {
-        let mut writer = BitWriter::new();
-        writer.count(8, self.entries.len());
-        for entry in &self.entries {
-            entry.write(&mut writer);
-        }
-        writer.finish()
+        write_entries(&self.entries, SheetEntry::write)
     }
 }
 

@@ -142,7 +142,7 @@ fn read_letter(rest: &[u8]) -> Option<(Piece, &[u8])> {
     Some((piece, after))
 }
 
-/// Parts of the output cannot be inserted yet.
+/// The whole output is inserted: a brace directly behind it is a content fault.
 fn read_result(after: &[u8]) -> Option<(Piece, &[u8])> {
     (!after.starts_with(b"{")).then_some((Piece::Result, after))
 }

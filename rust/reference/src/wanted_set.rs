@@ -1,6 +1,6 @@
 //! A set of device records, whether these are sound or not, each with its wanted link.
 
-use crate::record::{BitReader, BitWriter};
+use crate::record::{read_entries, write_entries, BitReader, BitWriter};
 use crate::sizes;
 
 #[derive(Clone, Debug, PartialEq, Eq)]
@@ -17,26 +17,13 @@ pub struct Wanted {
 impl WantedSet {
     /// The records and links of a set, or `None` if it is outside its size or against its layout.
     pub fn decode(set: &[u8]) -> Option<WantedSet> {
-        let mut reader = BitReader::new(set);
-        let count = reader.count(8)?;
-        if !(1..=sizes::SET_WANTED).contains(&count) {
-            return None;
-        }
-        let entries = (0..count)
-            .map(|_| Wanted::read(&mut reader))
-            .collect::<Option<_>>()?;
-        reader.end()?;
+        let entries = read_entries(set, 1..=sizes::SET_WANTED, Wanted::read)?;
         Some(WantedSet { entries })
     }
 
     /// The set of records and links whose number and lengths fit into their fields.
     pub fn encode(&self) -> Vec<u8> {
-        let mut writer = BitWriter::new();
-        writer.count(8, self.entries.len());
-        for entry in &self.entries {
-            entry.write(&mut writer);
-        }
-        writer.finish()
+        write_entries(&self.entries, Wanted::write)
     }
 }
 

@@ -67,8 +67,8 @@ impl<'a> Iterator for Names<'a> {
     }
 }
 
-/// For every link that the records claim, the one that holds it: of those that claim it the one
-/// with the highest link priority, and of equals the earliest.
+/// For every claimed link the record that holds it: the claimant with the highest link priority,
+/// and of equals the earliest.
 pub fn contest(records: &[RecordPair]) -> Result<Contest, RefusedSet> {
     let set = lent_records(records).ok_or(RefusedSet::NO_SET)?;
     let mut target = vec![0; sizes::CONTEST_ROOM];

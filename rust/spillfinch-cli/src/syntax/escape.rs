@@ -28,7 +28,7 @@ fn hex(digits: &[u8]) -> Result<(u8, usize), (usize, &'static str)> {
     }
 }
 
-/// A value in its marks: behind an `e` where it holds a newline or ends in a backslash, which the
+/// A value in its marks: behind an `e` for a newline in it or a backslash at its end, which the
 /// plain form cannot say.
 pub fn written(value: &[u8]) -> Vec<u8> {
     let is_coded = value.contains(&b'\n') || value.ends_with(b"\\");
