@@ -7,8 +7,8 @@ use lib.Dec.{ltb}
 use lib.ListN.{length, getD}
 use Rattle.lists.specs.Lists.{pick}
 
--- one more than the first of k rows from the i-th on whose key is ACTION, or 0; ACTION is the key with the number 0, and 16 times that of its key
--- is the least number of a row
+-- one more than the first of k rows from the i-th on whose key is ACTION, or 0: the first number of a row is its kind, 16 times the number of its key
+-- and less than 16 more for its operator and mark, and ACTION has the number 0
 unfoldable pub actionIn : List ℕ → ℕ → ℕ → ℕ
 actionIn rows i zero = 0
 actionIn rows i (suc k) = pick (ltb (getD rows (i * 4) 0) 16) (i + 1) (actionIn rows (suc i) k)

@@ -124,7 +124,7 @@ shut : (b : Bool) (w : Work) (c : Checked Refusal Work) → b ≡ true → _≡_
 shut true w c h = refl
 shut false w c h = let z : _≡_ {A = ℕ} 0 1 = cc in absurd (omega arith)
 
--- an assignment to a closed key is skipped
+-- a closed key takes no assignment, and refuses none
 skipped : (k : ClosingKey) (d : Device) (place : ℕ) (p : Pair) (w : Work) → isClosed k (w .state) ≡ true → assigned (keyOf k) d place p w ≡ ok w
 unfolding assigned
 skipped links d place p w h = shut (w .state .closed .links) w (leaves w (linked d place p w)) h

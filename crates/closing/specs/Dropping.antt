@@ -13,8 +13,8 @@ use Rattle.striking.specs.Striking.{together}
 use Rattle.closing.specs.Closing.{ClosingKey, dropRule}
 
 module _ (k : ClosingKey) where
-  -- what is left of a rule, written as Item 2 does in its first physical line, the newlines of its joins behind it; other lines stay as they
-  -- are
+  -- what is left of a rule, as the writer of Item 2 puts it, then the newlines of its joins, so that no line behind it moves; other lines stay as
+  -- they are
   abbrev pub leftOf : List ℕ → LineRead Rule → List ℕ
   leftOf l skip = l
   leftOf l (fault f) = l

@@ -46,7 +46,7 @@ pub record ClosedStays (k : ClosingKey) (text dev out sheet : List ℕ) (d : Dev
   pub lines : newlines (dropText k text) ≡ newlines text
   pub dropped : given (run (dropText k text) dev out sheet room) ≡ given (run text dev out sheet room)
 
--- for every accepted text, device, sheet and starting record in which the key is closed
+-- whatever is run, wherever it starts, as long as the check accepts the text and the key is closed there
 pub record ClosedMeansClosed : Type 0 where
   pub shown : (k : ClosingKey) (text dev out sheet : List ℕ) (d : Device) (s : State) (a : Sheet) (room : ℕ) → Accepted text → Bytes out → Bytes sheet
       → D.decode dev ≡ some d → decodeFor d out ≡ some s → Sheets.decode sheet ≡ some a → isClosed k s ≡ true → ClosedStays k text dev out sheet d s room

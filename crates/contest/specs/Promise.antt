@@ -30,7 +30,7 @@ pub record Held (ss : List State) (e : Listed) : Type 0 where
   pub others : e .others ≡ reject (λ p. eqb p (e .holder)) (positions (claimants (e .name) 1 ss))
 
 pub record Contested (ss : List State) (es : List Listed) : Type 0 where
-  -- a name is listed exactly when some record claims it
+  -- the names of the list are those that have a claimant
   pub listed : (x : List ℕ) → (among x (names es) ≡ true) ↔ ((k : ℕ) × Claims x ss k)
   -- each once
   pub once : distinct (names es) ≡ true

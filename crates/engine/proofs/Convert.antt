@@ -1,4 +1,4 @@
--- Document 02, Item 5: there and back gives the first bytes again, both ways; and every answer of a converter has as many bytes as its target.
+-- Document 02, Item 5: one converter undoes the other, byte for byte, in either order; and every answer of a converter has as many bytes as its target.
 -- Assumes nothing.
 use Prim.Native.Nat.{ℕ, suc, _-_, _≤_}
 use mathlib.Core.Path.{_≡_, refl, sym, ap, _∙_, subst}

@@ -1,4 +1,4 @@
--- Document 01, Packed records: the entries that both records hold, a text behind its length and a property.
+-- Document 01, Packed records: entries that records and sets hold, a text behind its length and a property.
 -- Assumes nothing.
 use Prim.Native.Nat.{ℕ, _+_}
 use mathlib.Core.Bool.{Bool, true, false, _&&_}
@@ -17,7 +17,7 @@ use Rattle.entries.specs.Parse.{Parse, bad, bind, keep}
 abbrev pub exactly : ℕ → List ℕ → Parse (List ℕ)
 exactly n bs = keep (leb n (length bs)) (take n bs) (drop n bs)
 
--- a text behind its length of 8 bits: links and tags
+-- a text behind its length of 8 bits: links and tags, and in sets the names of files and wanted links
 abbrev pub encText : List ℕ → List ℕ
 encText x = length x ∷ x
 

@@ -9,7 +9,8 @@ pub data Refusal : Type 0 where
   substitution-long link-bad list-full owner-bad mode-bad command-missing mode-shared : Refusal
 
 abbrev pub number : Refusal → ℕ
--- target below 18,125 bytes (close: 8,225; converting to edition 1: 17,611)
+-- less room than an operation may need: 18,125 bytes for an outcome record (edition 1: 17,611), 8,225 for a run list, 32,768 for a text, 134,144 for
+-- the holders of links; 32,768 numbers for strikes; of many devices the room of a record and 8 numbers for each
 number target-short = 1
 -- text over 32,768 bytes
 number text-long = 2
@@ -21,7 +22,7 @@ number key-bad = 11
 number argument-bad = 12
 -- operator missing or not that key's
 number operator-bad = 13
--- a value without its marks, or of more than 256 bytes
+-- a value without its marks, with an escape that there is not, or of more than 256 bytes
 number value-bad = 14
 -- content fault
 number content-bad = 15

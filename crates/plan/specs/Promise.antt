@@ -25,7 +25,7 @@ made a = take (a .used) (a .bytes)
 abbrev pub runFrom : List ℕ → Naming → List ℕ → Answer
 runFrom text n start = run text (n .bytes-lent) start (sheet.encode unanswered) fullestOutcome
 
--- such a run from the fresh record is not refused, and the device ends with its wanted link and no other
+-- such a run from the fresh record is accepted, and leaves the link that is wanted and nothing else in the list of links
 pub record Named (text : List ℕ) (n : Naming) : Type 0 where
   pub start : List ℕ
   pub begun : made (fresh (n .bytes-lent) fullestOutcome) ≡ start

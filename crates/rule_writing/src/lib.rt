@@ -49,7 +49,7 @@ pub fn put_text(out: &mut [u8], used: usize, text: &[u8]) -> usize
 
 // ---- a value
 
-// Whether a value holds a newline or ends in a backslash.
+// Whether the plain form cannot say a value: for a newline in it, or a backslash at its end.
 fn needs_code(value: &[u8]) -> bool
     ensures { λ r. ⌜ r ≡ needsCode (now (value .entry)) ⌝ }
 {

@@ -6,7 +6,7 @@ use mathlib.Core.List.{List, _++_}
 use lib.ListN.{length, replicate}
 use Rattle.lists.specs.Refusal.{Refusal, number}
 
--- why a set is refused; the position counts from 1 in the lent order, and 0 is the set as a whole; line 0 is none
+-- why a call with a set is refused; the position counts from 1 in the lent order, and 0 is none; line 0 is none
 pub record Fault : Type 0 where
   pub why : Refusal
   pub position : ℕ

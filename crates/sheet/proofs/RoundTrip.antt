@@ -1,5 +1,5 @@
 -- Document 02, Item 6: a sheet is read back from its bytes, what was read was so written, refusal 6 is for all other bytes and no more, and
--- the layout spends at most 8 bytes on the sheet and 8 on each entry beside its texts.
+-- the layout takes no more than the 8 bytes allowed for the sheet, and for each of its entries, beside the texts.
 -- Assumes nothing.
 use Prim.Native.Nat.{ℕ, zero, suc, _+_, _*_, _≤_, _<_}
 use mathlib.Core.Path.{_≡_, refl, sym, ap, ap₂, _∙_, subst}
@@ -163,7 +163,7 @@ back (k ∷ bs) rs by e = at (leb (length (k ∷ bs)) mostSheet) refl
           short = leb-true (length (k ∷ bs)) mostSheet h;
         }
 
--- refusal 6 is given exactly for bytes that are no packing of a sheet
+-- 6 is the answer to bytes that pack no sheet, and to no others
 pub refused-exactly : (bs : List ℕ) → Bytes bs → (decode bs ≡ none) ↔ ((rs : Sheet) → Packing bs rs → ⊥)
 refused-exactly bs by = (never, at (decode bs) refl)
   where

@@ -3,7 +3,7 @@
 use std::os::unix::ffi::OsStrExt;
 use std::path::{Path, PathBuf};
 
-use spillfinch::{Rank, Refusal, RefusedFile, RulesFile};
+use spillfinch::{sizes, Rank, Refusal, RefusedFile, RulesFile};
 
 use crate::device::{self, Recorded};
 use crate::listing::Listed;
@@ -143,6 +143,11 @@ impl Rules {
             }
             (Refusal::CommandMissing, _, None) => String::from("; no sheet is given"),
             (Refusal::FileTwice, ..) => self.equal_files(),
+            (Refusal::SetBad, ..) => format!(
+                ": at most {} files, each with a name of at most {} bytes",
+                sizes::FILES_MOST,
+                sizes::FILE_NAME_MOST
+            ),
             _ => String::new(),
         };
         format!("{place}refused {number}: {refusal}{hint}{of_device}")

@@ -99,7 +99,7 @@ fn refused() {
     run(&many).is(
         1,
         "",
-        "refused 7: the set is over its size, or is not laid out as one\n",
+        "refused 7: the set is over its size, or is not laid out as one: a contest has at most 64 records, and there are 65\n",
     );
     let most = format!("contest{}", " a a.device".repeat(64));
     assert_eq!(run(&most).status, 0);

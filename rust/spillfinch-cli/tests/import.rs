@@ -51,7 +51,7 @@ fn every_device_is_written() {
     said.is(0, written, &format!("{NOTES}{without}"));
     assert_eq!(folder.read("out/devices/tty-ttyUSB0.device"), FORM);
     let said = folder.run(&["import", "a.umockdev", "-o", "out/devices"]);
-    let there = "spillfinch: out/devices/tty-ttyUSB0.device: it is there; --force writes over it\n";
+    let there = "spillfinch: out/devices/tty-ttyUSB0.device: the file exists; --force overwrites it\n";
     said.is(2, "", there);
     let said = folder.run(&[
         "import",

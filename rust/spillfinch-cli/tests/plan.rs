@@ -193,36 +193,36 @@ fn no_plan() {
     );
     none(
         "x a.device y b.device z a.device",
-        "  a.device and a.device: one path\n",
+        "  a.device and a.device have the same path\n",
     );
     none(
         "$kernel a.device",
-        "  link $kernel: no clean name of 1 to 128 bytes\n",
+        "  link $kernel: not a clean link name of 1 to 128 bytes\n",
     );
     none(
         "/x a.device",
-        "  link /x: no clean name of 1 to 128 bytes\n",
+        "  link /x: not a clean link name of 1 to 128 bytes\n",
     );
     none(
         "x/.. a.device",
-        "  link x/..: no clean name of 1 to 128 bytes\n",
+        "  link x/..: not a clean link name of 1 to 128 bytes\n",
     );
     let long = "l".repeat(129);
     none(
         &format!("{long} a.device"),
-        &format!("  link {long}: no clean name of 1 to 128 bytes\n"),
+        &format!("  link {long}: not a clean link name of 1 to 128 bytes\n"),
     );
     let path = "its path has more than 128 bytes, or others than A-Z a-z 0-9 / : . _ -";
     none("x long", &format!("  long: {path}\n"));
     none(
         "x plus / long",
-        &format!("  plus: {path}\n  link /: no clean name of 1 to 128 bytes\n  long: {path}\n"),
+        &format!("  plus: {path}\n  link /: not a clean link name of 1 to 128 bytes\n  long: {path}\n"),
     );
     let empty = folder.run(&["plan", "", "a.device"]);
     assert!(
         empty
             .err
-            .ends_with("  link : no clean name of 1 to 128 bytes\n"),
+            .ends_with("  link : not a clean link name of 1 to 128 bytes\n"),
         "{}",
         empty.err
     );

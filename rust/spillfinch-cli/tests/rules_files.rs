@@ -151,7 +151,7 @@ fn refusals_name_the_file() {
     run().is(
         1,
         "refused 34 line 2 file 10-first.rules\n",
-        "etc/udev/rules.d/10-first.rules:2: refused 34: faulty mode, for ttyUSB0.device\n",
+        "etc/udev/rules.d/10-first.rules:2: refused 34: mode that is not 1 to 4 octal digits, for ttyUSB0.device\n",
     );
     folder.file("etc/udev/rules.d/10-first.rules", vec![b'#'; 32_769]);
     run().is(
@@ -189,7 +189,7 @@ fn a_set_over_its_size() {
         folder.file(&format!("site/{number:02}.rules"), "TAG+=\"a\"\n");
     }
     let said = folder.run(&["run", "site", "--device", "tty.device"]);
-    let message = "refused 7: the set is over its size, or is not laid out as one\n";
+    let message = "refused 7: the set is over its size, or is not laid out as one: at most 32 files, each with a name of at most 64 bytes\n";
     said.is(1, "refused 7 line 0\n", message);
     fs::remove_file(folder.path.join("site/32.rules")).expect("a file of the test");
     let said = folder.run(&["run", "site", "--device", "tty.device"]);
@@ -237,7 +237,7 @@ fn a_case_with_several_files() {
     let said = folder.run(&["test", "own"]);
     let out = "--- own/expected\n+++ own now\n@@ -1 +1 @@\n-refused 33 line 2 file b.rules\n\
         +refused 33 line 1 file b.rules\n1 case: 0 passed, 1 failed\n";
-    let message = "own/b.rules:1: refused 33: faulty owner or group, for own/tty.device\n";
+    let message = "own/b.rules:1: refused 33: owner or group that is no name of 1 to 32 bytes, for own/tty.device\n";
     said.is(1, out, message);
 }
 

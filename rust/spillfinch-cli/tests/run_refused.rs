@@ -26,7 +26,7 @@ fn refusals() {
     run("link.rules", &[]).is(
         1,
         "refused 31 line 2\n",
-        "link.rules:2: refused 31: faulty link name, for tty.device\n",
+        "link.rules:2: refused 31: link name over 128 bytes, or absolute, or with an empty, `.` or `..` part, for tty.device\n",
     );
     run("long.rules", &[]).is(
         1,

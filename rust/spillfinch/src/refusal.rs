@@ -101,10 +101,10 @@ impl Refusal {
             LineOpen => "backslash at the end that no line follows",
             FileTwice => "two files with one name and one rank",
             SubstitutionLong => "substituted text longer than 512 bytes",
-            LinkBad => "faulty link name",
+            LinkBad => "link name over 128 bytes, or absolute, or with an empty, `.` or `..` part",
             ListFull => "no room for one more link, tag, program or property",
-            OwnerBad => "faulty owner or group",
-            ModeBad => "faulty mode",
+            OwnerBad => "owner or group that is no name of 1 to 32 bytes",
+            ModeBad => "mode that is not 1 to 4 octal digits",
             CommandMissing => "command that is not on the answer sheet",
             ModeShared => "mode that lets others write",
         }

@@ -6,7 +6,7 @@ use std::path::{Path, PathBuf};
 use clap::{ArgAction, ArgMatches, Command};
 use recordings::escape::escape;
 use recordings::Outcome;
-use spillfinch::{contest, Held, RecordPair, Refusal, RefusedSet};
+use spillfinch::{contest, sizes, Held, RecordPair, Refusal, RefusedSet};
 
 use super::{device as device_argument, file, names, path, paths, Done};
 use crate::device::{self, Recorded};
@@ -177,6 +177,11 @@ fn reason(lents: &[Lent], refused: RefusedSet) -> String {
     let (number, refusal) = (refused.refusal.number(), refused.refusal);
     let reason = format!("refused {number}: {refusal}");
     match (refused.position as usize).checked_sub(1) {
+        None if refusal == Refusal::SetBad => format!(
+            "{reason}: a contest has at most {} records, and there are {}",
+            sizes::RECORDS_MOST,
+            lents.len()
+        ),
         None => reason,
         Some(index) if refusal == Refusal::DeviceBad => {
             format!("{}: {reason}", lents[index].device.name)

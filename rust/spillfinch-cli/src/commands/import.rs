@@ -153,7 +153,7 @@ fn write(
         if path.exists() && !is_forced {
             let path = files::shown(&path);
             return Err(Failure(format!(
-                "{path}: it is there; --force writes over it"
+                "{path}: the file exists; --force overwrites it"
             )));
         }
         report.result(&files::shown(&path));

@@ -117,7 +117,7 @@ fn grounds(wanted: &[Wanted]) -> Vec<String> {
     for (at, one) in wanted.iter().enumerate() {
         let (link, name) = (escape(one.link), &one.device.name);
         if !is_clean_link(one.link) {
-            grounds.push(format!("link {link}: no clean name of 1 to 128 bytes"));
+            grounds.push(format!("link {link}: not a clean link name of 1 to 128 bytes"));
         }
         if !is_plain_path(&one.path()) {
             let text = "its path has more than 128 bytes, or others than A-Z a-z 0-9 / : . _ -";
@@ -129,7 +129,7 @@ fn grounds(wanted: &[Wanted]) -> Vec<String> {
                 grounds.push(format!("link {link}: wanted for {name} and {other_name}"));
             }
             if one.path() == other.path() {
-                grounds.push(format!("{name} and {other_name}: one path"));
+                grounds.push(format!("{name} and {other_name} have the same path"));
             }
         }
     }
