@@ -1,5 +1,8 @@
 // The rules of a table that is run for many devices, each with the row of its ACTION noted: that key is judged at least cost, and what it rules
 // out need not be looked at further.
+
+#![tactic(auto)]
+
 ghost use Rattle.std.specs.Prelude.{◌≡◌, ℕ, ◌-◌, ◌*◌, ◌≤◌, ◌<◌, length};
 ghost use Rattle.lists.specs.Sizes.{most_rules};
 ghost use Rattle.action_rows.specs.Actions.{action_in, Within, ActionsPut};

@@ -1,12 +1,14 @@
 // What every public operation gives back beside the target: document 01's numbers, and the devices tried of document 02, Item 9.
 
+#![tactic(auto)]
+
 ghost use Rattle.std.specs.Prelude.{◌≡◌, ◌<◌};
 ghost use Rattle.refusals.specs.Refusals.{refusal_of};
 ghost use Rattle.answers.specs.Answers.{Refuses, Accepts};
 
 use refusals::Refusal;
 
-#[derive(Drop)]
+#[derive(Clone, Copy)]
 pub struct Given {
     pub number: u32,
     pub line: u32,

@@ -1,4 +1,7 @@
 // ENV: a property set to a value as it is written, or removed by the empty one.
+
+#![tactic(auto)]
+
 ghost use Rattle.std.specs.Prelude.{◌≡◌, true, ℕ, ◌≤◌, length};
 ghost use Rattle.lists.specs.Bytes.{clean, ok_text};
 ghost use Rattle.lists.specs.Sizes.{most_key, most_value};
@@ -13,7 +16,7 @@ use records::Change;
 use refusals::Refusal;
 
 // A rule's latest `string_escape`.
-#[derive(Drop)]
+#[derive(Clone, Copy)]
 pub enum Escape {
     Unset,
     AsIs,

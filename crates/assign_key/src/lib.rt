@@ -1,4 +1,7 @@
 // One assignment by its key: skipped where the key is closed, else what the key asks for.
+
+#![tactic(auto)]
+
 ghost use Rattle.std.specs.Prelude.{◌≡◌, true, ℕ, ◌≤◌, length};
 ghost use Rattle.lists.specs.Bytes.{clean};
 ghost use Rattle.lists.specs.Sizes.{most_value};

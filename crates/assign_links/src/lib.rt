@@ -1,4 +1,7 @@
 // SYMLINK: the substituted text split into names, each cleaned, judged (31) and added or removed (32).
+
+#![tactic(auto)]
+
 ghost use Rattle.std.specs.Prelude.{◌≡◌, true, ℕ, ◌≤◌, length};
 ghost use Rattle.lists.specs.Bytes.{clean};
 ghost use Rattle.template.specs.Template.{well_formed};

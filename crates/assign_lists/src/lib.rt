@@ -1,4 +1,7 @@
 // TAG and RUN: the change of a list that asks for no substitution; an entry added or removed by the operator.
+
+#![tactic(auto)]
+
 ghost use Rattle.std.specs.Prelude.{◌≡◌, true, ℕ, ◌≤◌, length};
 ghost use Rattle.lists.specs.Bytes.{clean};
 ghost use Rattle.lists.specs.Sizes.{most_tag, most_value, most_chain};

@@ -1,4 +1,7 @@
 // What an operator does around the change of a key: `=` and `:=` begin with an empty list, `:=` closes the key.
+
+#![tactic(auto)]
+
 ghost use Rattle.std.specs.Prelude.{◌≤◌, length};
 ghost use Rattle.keys.specs.Table.{operator_of};
 ghost use Rattle.engine.specs.Assign.{closing};

@@ -1,4 +1,7 @@
 // OWNER, GROUP and MODE: the substituted text judged (33, 34, 36) and set.
+
+#![tactic(auto)]
+
 ghost use Rattle.std.specs.Prelude.{◌≡◌, true, ℕ, ◌≤◌};
 ghost use Rattle.template.specs.Template.{well_formed};
 ghost use Rattle.keys.specs.Table.{operator_of};

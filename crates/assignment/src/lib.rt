@@ -1,4 +1,7 @@
 // The assignments of a rule that matched, from left to right.
+
+#![tactic(auto)]
+
 ghost use Rattle.std.specs.Prelude.{◌≡◌, false, ◌≤◌};
 ghost use Rattle.keys.specs.Table.{operator_of};
 ghost use Rattle.rules.specs.Key as rules;

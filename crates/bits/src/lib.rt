@@ -1,5 +1,7 @@
 // A bit cursor by value over a lent slice, most significant bit first, and 32 bits in two's complement.
 
+#![tactic(auto)]
+
 ghost use Rattle.std.specs.Prelude.{◌≡◌, ◌+◌, ◌-◌, ◌*◌, ◌/◌, ◌%◌, ◌^◌, ◌≤◌, ◌<◌, ◌++◌, length, take, drop};
 ghost use Rattle.bits.specs.Bits.{to_bits, bytes_of, number_at};
 ghost use Rattle.bits.specs.Cursor.{Taken, Put, Spanned};

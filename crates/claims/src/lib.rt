@@ -1,6 +1,8 @@
 // What the outcome records of a lent set claim, read where they lie (document 02, Item 7): whether the records are sound, whether one of them
 // claims a name, and who does.
 
+#![tactic(auto)]
+
 ghost use Rattle.std.specs.Prelude.{◌≡◌, ℕ, ◌≤◌, ◌<◌, List, length, take, drop};
 ghost use Rattle.std.specs.Int.Signed.{lt_z};
 ghost use Rattle.lists.specs.Lists.{any};
@@ -148,7 +150,7 @@ pub fn claimed_before(set: &[u8], n: usize, name: &[u8]) -> bool
 }
 
 // A record that claims a name.
-#[derive(Drop)]
+#[derive(Clone, Copy)]
 pub struct Claimant {
     pub position: usize,
     pub priority: i32,

@@ -1,5 +1,7 @@
 // The close, a public operation: the run list of an outcome record beside a device record.
 
+#![tactic(auto)]
+
 ghost use Rattle.std.specs.Prelude.{◌≡◌, ◌≤◌, length, replicate};
 ghost use Rattle.lists.specs.Sizes.{fullest_run_list};
 ghost use Rattle.engine.specs.Operations.{commands, given, close as close_answer};

@@ -1,6 +1,8 @@
 // Closes outcome records that hold an output, three properties and one run: each line of the input is the place of the matched device, a blank and the
 // run's template, and behind the line stands the text of its command or the number of the refusal.
 
+#![tactic(auto)]
+
 ghost use Rattle.std.specs.Prelude.{◌≤◌, length};
 
 use bits::BitCursor;

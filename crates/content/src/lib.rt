@@ -1,5 +1,7 @@
 // What a link, an owner, a group, a mode and an output may be: check 31, and the tests of 33, 34 and 36.
 
+#![tactic(auto)]
+
 ghost use Rattle.std.specs.Prelude.{◌≡◌, ◌<◌};
 ghost use Rattle.outcome.specs.Content.{ok_part, ok_name, ok_link, owner_byte, ok_owner, ok_output, others_write};
 ghost use Rattle.content.specs.Mode.{mode_of, Small};

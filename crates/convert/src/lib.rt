@@ -1,6 +1,8 @@
 // The converters between the editions of the outcome record (document 02, Item 5), public operations. Edition 2 has two bytes more behind the
 // bits that both have, and then the output, which edition 1 cannot say.
 
+#![tactic(auto)]
+
 ghost use Rattle.std.specs.Prelude.{◌≡◌, true, ◌+◌, ◌≤◌, length, get_or, replicate};
 ghost use Rattle.lists.specs.Sizes.{fullest_outcome, fullest_old};
 ghost use Rattle.engine.specs.Operations.{given};

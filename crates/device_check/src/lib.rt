@@ -1,5 +1,7 @@
 // Whether a device record is sound, judged where it lies.
 
+#![tactic(auto)]
+
 ghost use Rattle.std.specs.Prelude.{◌≡◌, ◌&&◌, ◌||◌, ◌+◌, ◌≤◌, eqb, length, drop};
 ghost use Rattle.lists.specs.Lists.{is_some};
 ghost use Rattle.lists.specs.Sizes.{most_device};

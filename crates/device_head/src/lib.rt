@@ -1,5 +1,7 @@
 // The numbers in a device record's header and in front of each device, by the bit cursor.
 
+#![tactic(auto)]
+
 ghost use Rattle.std.specs.Prelude.{◌≡◌, ◌+◌, ◌≤◌, length};
 ghost use Rattle.lists.specs.Sizes.{most_device};
 ghost use Rattle.device_head.specs.Read.{HeadRead, LensRead, path_len, path_in};
@@ -7,7 +9,7 @@ ghost use Rattle.device_head.specs.Read.{HeadRead, LensRead, path_len, path_in};
 use bits::BitCursor;
 
 // 4 bits of edition, 4 of chain length (less one), 3 of action, 1 that tells of a node, 12 of major, 20 of minor number, 6 of property count; 6 bits unused.
-#[derive(Drop)]
+#[derive(Clone, Copy)]
 pub struct Head {
     pub edition: usize,
     pub above: usize,

@@ -1,5 +1,7 @@
 // What a sound device record holds, read where it lies: the places of its devices, their texts, attributes and properties.
 
+#![tactic(auto)]
+
 ghost use Rattle.std.specs.Prelude.{◌≡◌, ◌+◌, ◌≤◌, length, drop};
 ghost use Rattle.lists.specs.Lists.{cat};
 ghost use Rattle.entries.specs.Entry.{enc_prop, lookup, or_empty};
@@ -11,7 +13,7 @@ use bits::BitCursor;
 use rows::{Found, Kind};
 
 // How many devices a record has, and where each of them begins.
-#[derive(Drop)]
+#[derive(Clone, Copy)]
 pub struct Chain {
     pub len: usize,
     pub at: [usize; 16],

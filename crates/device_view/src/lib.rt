@@ -1,6 +1,8 @@
 // A view of one device of a record: the record as it is lent, and the offset at which the device begins. What the device says is read in place.
 // Each method takes the view apart and leaves the work to a function on the record and the offset.
 
+#![tactic(auto)]
+
 ghost use Rattle.std.specs.Prelude.{◌≡◌, ◌-◌, ◌≤◌, length, get_or};
 ghost use Rattle.lists.specs.Sizes.{most_chain};
 ghost use Rattle.entries.specs.Entry.{or_empty};

@@ -1,1 +1,3 @@
 // A text run over each record of a lent set; no code.
+
+#![tactic(auto)]

@@ -1,4 +1,7 @@
 // A value with an `e` directly before its mark (document 02, Item 1): where it is closed, its length and its bytes.
+
+#![tactic(auto)]
+
 ghost use Rattle.std.specs.Prelude.{◌≡◌, ◌+◌, ◌-◌, ◌≤◌, ◌<◌, length, get_or, drop};
 ghost use Rattle.rules.specs.Coded.{escapes, escape_in, hex_digit, hex_byte, taking, escaped, coded_byte};
 ghost use Rattle.escapes.specs.Values.{PutAt};

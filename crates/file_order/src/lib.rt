@@ -1,6 +1,8 @@
 // Which files of a lent set count, and the order of their names (document 02, Item 11). A file's number is its place in the lent order, from 0;
 // `starts` holds where each of the n files begins.
 
+#![tactic(auto)]
+
 ghost use Rattle.std.specs.Prelude.{◌≡◌, ◌+◌, ◌≤◌, ◌<◌, length, get_or, drop};
 ghost use Rattle.lists.specs.Lists.{any};
 ghost use Rattle.lists.specs.Quoted.{bytes};

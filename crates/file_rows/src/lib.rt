@@ -1,5 +1,7 @@
 // A lent set of files where it lies (document 02, Item 11): where each file begins, its rank, its name and its text.
 
+#![tactic(auto)]
+
 ghost use Rattle.std.specs.Prelude.{◌≡◌, ◌≤◌, ◌<◌, length};
 ghost use Rattle.files.specs.Files.{most_files};
 ghost use Rattle.file_rows.specs.Places.{file_at, Stands, NameFrom, NameIs, NameReads, FileReads, FilesAre};

@@ -1,4 +1,7 @@
 // The text of a template from the device record, and the properties and the output in the target.
+
+#![tactic(auto)]
+
 ghost use Rattle.std.specs.Prelude.{◌≡◌, true, ◌≤◌, length};
 ghost use Rattle.lists.specs.Sizes.{most_substituted};
 ghost use Rattle.template.specs.Template.{well_formed};

@@ -1,5 +1,7 @@
 // The fresh outcome record of a device record, a public operation.
 
+#![tactic(auto)]
+
 ghost use Rattle.std.specs.Prelude.{◌≡◌, ◌≤◌, length, replicate};
 ghost use Rattle.lists.specs.Sizes.{fullest_outcome};
 ghost use Rattle.device_lookup.specs.Lookup.{Sound};

@@ -1,4 +1,7 @@
 // Whether a pattern is well formed, and whether it matches a value: greedy, with one remembered star.
+
+#![tactic(auto)]
+
 ghost use Rattle.std.specs.Prelude.{◌≡◌, false, not, ◌||◌, ◌+◌, ◌≤◌, ◌<◌, ◌^◌, length, get_or, drop};
 ghost use Rattle.lists.specs.Bytes.{between};
 ghost use Rattle.pattern.specs.Pattern.{is_special, is_plain, set_at, any_suffix, well_formed, matches};

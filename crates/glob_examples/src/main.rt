@@ -1,4 +1,7 @@
 // Runs the matcher on a table: each line of the input is a pattern, a tab and a value. Each is written out with what was found.
+
+#![tactic(auto)]
+
 use libc::{STDIN_FILENO, STDOUT_FILENO};
 
 fn judge(pattern: &[u8], value: &[u8]) {

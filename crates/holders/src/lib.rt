@@ -1,5 +1,7 @@
 // Who holds each link that the records of a lent set claim, a public operation (document 02, Item 7): the list written into the target.
 
+#![tactic(auto)]
+
 ghost use Rattle.std.specs.Prelude.{◌≡◌, ◌+◌, ◌≤◌, ◌<◌, eqb, length, replicate};
 ghost use Rattle.lists.specs.Lists.{reject};
 ghost use Rattle.splice.specs.Moves.{stored};

@@ -1,5 +1,7 @@
 // Insertion of a part of a lent record behind what a buffer holds so far, with whitespace made `_` where that is asked.
 
+#![tactic(auto)]
+
 ghost use Rattle.std.specs.Prelude.{◌≡◌, ◌+◌, ◌≤◌, [], ◌∷◌, map, length};
 ghost use Rattle.lists.specs.Bytes.{no_space};
 ghost use Rattle.splice.specs.Moves.{stored};

@@ -1,4 +1,7 @@
 // The rule that a GOTO goes to.
+
+#![tactic(auto)]
+
 ghost use Rattle.std.specs.Prelude.{◌≡◌, List, ℕ, ◌+◌, ◌*◌, ◌≤◌, ◌<◌, length, get_or};
 ghost use Rattle.lists.specs.Sizes.{most_rules};
 ghost use Rattle.table.specs.Rules.{Rules};

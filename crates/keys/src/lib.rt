@@ -1,4 +1,7 @@
 // The keys of a rule: the table of what each allows, and the key that a run of letters names.
+
+#![tactic(auto)]
+
 ghost use Rattle.std.specs.Prelude.{◌≡◌, ◌≤◌, ◌<◌, take};
 ghost use Rattle.std.proofs.Math.Option.{some};
 ghost use Rattle.lists.specs.Lists.{nth};
@@ -7,7 +10,7 @@ ghost use Rattle.rules.specs.Key as rules;
 ghost use Rattle.keys.specs.Table.{key_of, operator_of, allowed_of, row_of, found_of};
 ghost use Rattle.keys.specs.Slots.{slot_of, IsPlace};
 
-#[derive(Drop)]
+#[derive(Clone, Copy)]
 pub enum Key {
     Action,
     Devpath,
@@ -34,7 +37,7 @@ pub enum Key {
 }
 
 // `==` `!=` `=` `+=` `-=` `:=`
-#[derive(Drop)]
+#[derive(Clone, Copy)]
 pub enum Operator {
     Equal,
     Unequal,
@@ -45,7 +48,7 @@ pub enum Operator {
 }
 
 // The argument in braces that a key takes: none; one; or the type of a program, which may be absent.
-#[derive(Drop)]
+#[derive(Clone, Copy)]
 pub enum Takes {
     Nothing,
     One,
@@ -72,7 +75,7 @@ const JUDGED: u8 = EQUAL + UNEQUAL;
 const EVERY: u8 = JUDGED + ASSIGN + ADD + REMOVE + FINAL;
 
 // The name is the first len bytes of name; it is repeated to fill them, since a row that ends in zeros is put on the stack in more pieces.
-#[derive(Drop)]
+#[derive(Clone, Copy)]
 pub struct Row {
     pub name: [u8; 12],
     pub len: u8,

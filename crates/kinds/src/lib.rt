@@ -1,4 +1,7 @@
 // The kind of a pair: its key, its operator and whether its value is marked as plain, as one number, and back.
+
+#![tactic(auto)]
+
 ghost use Rattle.std.specs.Prelude.{◌≡◌};
 ghost use Rattle.rules.specs.Key.{PROGRAM, RESULT, key_number, same_key, op_number};
 ghost use Rattle.keys.specs.Table.{key_of, operator_of};

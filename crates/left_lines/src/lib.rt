@@ -1,5 +1,8 @@
 // The text that is left once lines with faults are struck, and the list of strikes (document 02, Item 12): from what is noted of the lines of a text,
 // and from the rules of its table.
+
+#![tactic(auto)]
+
 ghost use Rattle.std.specs.Prelude.{◌≡◌, List, ◌∷◌, ℕ, ◌+◌, ◌-◌, ◌*◌, ◌≤◌, ◌<◌, length, replicate};
 ghost use Rattle.lists.specs.Checked.{Placed, line};
 ghost use Rattle.lists.specs.Sizes.{most_text};
@@ -16,7 +19,7 @@ use lines::JoinedEnd;
 // ---- a line
 
 // Where a line ends, and how many newlines it joins.
-#[derive(Drop)]
+#[derive(Clone, Copy)]
 pub struct Extent {
     pub end: usize,
     pub newlines: usize,

@@ -1,4 +1,7 @@
 // The lines of a rules text: where each ends, and its bytes without its joins (document 02, Item 10). Only this crate knows of joins.
+
+#![tactic(auto)]
+
 ghost use Rattle.std.specs.Prelude.{◌≡◌, ◌≤◌, ◌<◌, length};
 ghost use Rattle.lists.specs.Bytes.{part};
 ghost use Rattle.lines.specs.Ends.{ends_slash, goes, held_in, CleanLine, EndsAt, JoinedAt, UnjoinedIs, FoundIs};
@@ -153,7 +156,7 @@ fn unjoin(text: &[u8], at: usize, end: usize, line: &mut [u8]) -> Unjoined
 
 // ---- a line and its bytes
 
-#[derive(Drop)]
+#[derive(Clone, Copy)]
 pub struct Line {
     // the place of the newline that ends the line, or the end of the text
     pub end: usize,

@@ -1,4 +1,7 @@
 // The names in a substituted text: the byte rule, and one name after the other.
+
+#![tactic(auto)]
+
 ghost use Rattle.std.specs.Prelude.{◌≡◌, Bool, List, [], ◌∷◌, map, ◌≤◌, length};
 ghost use Rattle.lists.specs.Bytes.{is_letter};
 ghost use Rattle.engine.specs.Assign.{clean_byte};

@@ -2,6 +2,8 @@
 // SHEET a packed answer sheet. Without OUTCOME, or with - in its place, the run starts from the device's fresh record; without SHEET no
 // program is answered.
 
+#![tactic(auto)]
+
 ghost use Rattle.std.specs.Prelude.{◌≤◌, length};
 ghost use Rattle.io.specs.Counts.{IsPrefixLen};
 

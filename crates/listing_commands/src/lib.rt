@@ -1,5 +1,7 @@
 // A line of the listing for each entry of a run list.
 
+#![tactic(auto)]
+
 ghost use Rattle.std.specs.Prelude.{◌≡◌, ◌≤◌, length, drop};
 ghost use Rattle.bits.specs.Bits.{number_at};
 ghost use Rattle.engine.specs.Listing.{command_line};

@@ -1,6 +1,8 @@
 // Prints the listings of rules texts that were judged by hand: for one device from its fresh record, then from an outcome record, then for
 // faulty records, with an answer sheet and with a faulty one.
 
+#![tactic(auto)]
+
 use insertion::Put;
 use libc::STDOUT_FILENO;
 

@@ -1,5 +1,7 @@
 // Lines of the listing, one behind the other in a buffer.
 
+#![tactic(auto)]
+
 ghost use Rattle.std.specs.Prelude.{◌≡◌, not, ◌&&◌, [], ◌∷◌, ◌++◌, ◌+◌, ◌<◌, eqb, length, nat_abs};
 ghost use Rattle.lists.specs.Bytes.{between};
 ghost use Rattle.template.specs.Decimal.{decimal};

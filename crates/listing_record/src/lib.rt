@@ -1,5 +1,7 @@
 // The lines of the listing for a run's counts and the outcome record in the target.
 
+#![tactic(auto)]
+
 ghost use Rattle.std.specs.Prelude.{length};
 ghost use Rattle.lists.specs.Quoted.{bytes};
 ghost use Rattle.bits.specs.Signed.{to_signed};

@@ -1,5 +1,7 @@
 // A line of the listing for each entry of a row of a record.
 
+#![tactic(auto)]
+
 ghost use Rattle.std.specs.Prelude.{◌≤◌, length, drop};
 ghost use Rattle.rows.specs.Row.{Row};
 ghost use Rattle.listing_lines.specs.Behind.{Within, Behind};

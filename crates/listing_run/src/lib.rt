@@ -1,5 +1,7 @@
 // The listing of a run and its close.
 
+#![tactic(auto)]
+
 ghost use Rattle.std.specs.Prelude.{◌≡◌, ◌≤◌, length};
 ghost use Rattle.engine.specs.Listing.{listing_from, listing};
 ghost use Rattle.insertion.specs.Append.{Appended};

@@ -125,10 +125,18 @@ behind-many : (c : ℕ) (s : List ℕ) → Many ([] ∷ split_at c s)
 behind-many c s = rw (split-first c s) tt
 
 step-many : (t : Bool) (b : ℕ) (ls : List (List ℕ)) → Many ls → Many (split_step t b ls)
+step-many false b [] m = elim m [ ]
+step-many false b (x ∷ []) m = elim m [ ]
+step-many true b [] m = elim m [ ]
+step-many true b (x ∷ []) m = elim m [ ]
 step-many true b (x ∷ y ∷ ys) m = tt
 step-many false b (x ∷ y ∷ ys) m = tt
 
 last_step : (t : Bool) (b : ℕ) (ls : List (List ℕ)) → Many ls → last_of (split_step t b ls) ≡ last_of ls
+last_step false b [] m = elim m [ ]
+last_step false b (x ∷ []) m = elim m [ ]
+last_step true b [] m = elim m [ ]
+last_step true b (x ∷ []) m = elim m [ ]
 last_step true b (x ∷ y ∷ ys) m = refl
 last_step false b (x ∷ y ∷ ys) m = refl
 

@@ -1,5 +1,8 @@
 // The rules of a table whose GOTO no later rule answers that is kept (document 02, Item 12): from the last rule backwards each of them is left
 // without pairs, and so without its LABEL, on line 0.
+
+#![tactic(auto)]
+
 ghost use Rattle.std.specs.Prelude.{◌≡◌, List, ℕ, ◌+◌, ◌-◌, ◌*◌, ◌≤◌, ◌<◌, length};
 ghost use Rattle.lists.specs.Lists.{is_some};
 ghost use Rattle.lists.specs.Sizes.{most_rules};

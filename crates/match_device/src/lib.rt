@@ -1,5 +1,7 @@
 // Whether a match key holds of what the device record says: of one device of its chain, and of its action.
 
+#![tactic(auto)]
+
 ghost use Rattle.std.specs.Prelude.{◌≡◌};
 ghost use Rattle.pattern.specs.Pattern.{matches};
 ghost use Rattle.device.specs.Device.{action_of, attr_of};
@@ -14,7 +16,7 @@ use device_lookup::Value;
 use keys::Operator;
 
 // What a match key can ask of one device. An attribute is the one that the key's argument names.
-#[derive(Drop)]
+#[derive(Clone, Copy)]
 pub enum Part {
     Path,
     Name,

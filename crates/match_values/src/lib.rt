@@ -1,6 +1,8 @@
 // Whether a match key holds of a value, of an attribute, of an action's name, of a list of texts. Its match value comes with a mark: if it is
 // set the value is plain.
 
+#![tactic(auto)]
+
 ghost use Rattle.std.specs.Prelude.{◌≡◌, ◌≤◌, ◌<◌, length, take, drop};
 ghost use Rattle.lists.specs.Lists.{nth};
 ghost use Rattle.entries.specs.Entry.{or_empty};

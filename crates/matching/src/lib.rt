@@ -1,6 +1,8 @@
 // Whether a rule matches: its match keys at the event device and the outcome, and the nearest device at which its parent
 // keys hold.
 
+#![tactic(auto)]
+
 ghost use Rattle.std.specs.Prelude.{◌≡◌, ◌||◌, ◌≤◌, ◌<◌};
 ghost use Rattle.glob.specs.Plain.{PlainIf};
 ghost use Rattle.keys.specs.Table.{key_of, operator_of};
@@ -20,7 +22,7 @@ use table::Entry;
 
 // The action, a part of the event device, a part of a device of the chain (parent keys), a property, links or tags;
 // nothing for keys that only assign, and for PROGRAM and RESULT, which are judged behind all others.
-#[derive(Drop)]
+#[derive(Clone, Copy)]
 pub enum Subject {
     Action,
     Device(Part),
@@ -298,7 +300,7 @@ fn asks_by(asks: bool, key: Key) -> bool
 
 // The place of the matched device, 0 without parent keys, and whether the rule has a PROGRAM or RESULT, which are still to be judged; or
 // how many devices were tried in vain.
-#[derive(Drop)]
+#[derive(Clone, Copy)]
 pub enum Matched {
     At(usize, bool),
     Missed(usize),

@@ -1,5 +1,7 @@
 // The outcome record checked where it lies (refusal 4): its header, its parts in their order, nothing behind them, no entry twice.
 
+#![tactic(auto)]
+
 ghost use Rattle.std.specs.Prelude.{◌≡◌, ◌≤◌, ◌||◌, eqb, length, take, drop};
 ghost use Rattle.entries.specs.Parse.{many};
 ghost use Rattle.entries.specs.Entry.{one_text};
@@ -17,7 +19,7 @@ use rows::{EntryRead, Kind, RowEnd};
 // ---- the header
 
 // The numbers of the header that the check needs.
-#[derive(Drop)]
+#[derive(Clone, Copy)]
 pub struct Counts {
     pub edition: usize,
     pub owner: usize,

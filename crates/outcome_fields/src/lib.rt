@@ -1,5 +1,7 @@
 // Closed keys, mode, link priority, watch, output, owner and group of the outcome record in the target.
 
+#![tactic(auto)]
+
 ghost use Rattle.std.specs.Prelude.{◌≡◌, true, ◌≤◌, ◌<◌, length};
 ghost use Rattle.outcome.specs.Head.{header_size};
 ghost use Rattle.outcome.specs.Content.{ok_owner, ok_output};
@@ -12,7 +14,7 @@ use outcome_target::{HeadField, Layout};
 
 // ---- closed keys
 
-#[derive(Drop)]
+#[derive(Clone, Copy)]
 pub enum Closable {
     Links,
     Tags,

@@ -1,5 +1,7 @@
 // Links, tags and runs of the outcome record in the target: a row emptied, an entry added or removed.
 
+#![tactic(auto)]
+
 ghost use Rattle.std.specs.Prelude.{◌≡◌, true};
 ghost use Rattle.lists.specs.Sizes.{most_runs};
 ghost use Rattle.bits.specs.Fields.{bit};

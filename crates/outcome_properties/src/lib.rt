@@ -1,5 +1,7 @@
 // Properties of the outcome record in the target: one set anew or added, one removed.
 
+#![tactic(auto)]
+
 ghost use Rattle.std.specs.Prelude.{◌≡◌, true};
 ghost use Rattle.entries.specs.Entry.{ok_prop};
 ghost use Rattle.outcome.specs.Change.{with_properties};

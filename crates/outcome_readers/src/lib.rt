@@ -1,5 +1,7 @@
 // What an outcome record holds, read where it lies: a property's value, the output, and the rows for a walk over their entries.
 
+#![tactic(auto)]
+
 ghost use Rattle.std.specs.Prelude.{◌≡◌, ◌+◌, ◌≤◌, length};
 ghost use Rattle.bits.specs.Bits.{number_at};
 ghost use Rattle.outcome.specs.Head.{header_size};

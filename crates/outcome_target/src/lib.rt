@@ -1,5 +1,7 @@
 // The outcome record where it lies in the target: where its rows are, the fields of its header, and how it comes there.
 
+#![tactic(auto)]
+
 ghost use Rattle.std.specs.Prelude.{◌≡◌, ◌+◌, ◌*◌, ◌^◌, ◌≤◌, ◌<◌, length};
 ghost use Rattle.bits.specs.Bits.{number_at, put_at};
 ghost use Rattle.outcome.specs.Head.{header_size};
@@ -12,7 +14,7 @@ use bits::BitCursor;
 // ---- where the rows are
 
 // Where each row begins, and where the last one ends.
-#[derive(Drop)]
+#[derive(Clone, Copy)]
 pub struct Layout {
     pub links: usize,
     pub properties: usize,
@@ -21,7 +23,7 @@ pub struct Layout {
     pub end: usize,
 }
 
-#[derive(Drop)]
+#[derive(Clone, Copy)]
 pub enum Section {
     Links,
     Properties,
@@ -30,7 +32,7 @@ pub enum Section {
 }
 
 // The two lists of texts.
-#[derive(Drop)]
+#[derive(Clone, Copy)]
 pub enum Texts {
     Links,
     Tags,

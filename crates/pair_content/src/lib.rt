@@ -1,4 +1,7 @@
 // The content of a pair, refusal 15, and with it the whole pair.
+
+#![tactic(auto)]
+
 ghost use Rattle.std.specs.Prelude.{◌≡◌, not, ◌&&◌, ◌≤◌, length, drop};
 ghost use Rattle.lists.specs.Lists.{is_some};
 ghost use Rattle.lists.specs.Bytes.{part};

@@ -1,4 +1,7 @@
 // One pair of a rule's line, by places: its key, argument, operator and value, or refusals 11 to 14.
+
+#![tactic(auto)]
+
 ghost use Rattle.std.specs.Prelude.{◌≡◌, List, ℕ, ◌+◌, ◌≤◌, ◌<◌, ◌&&◌, eqb, length, get_or, drop};
 ghost use Rattle.lists.specs.Bytes.{part};
 ghost use Rattle.rules.specs.Reading as reading;

@@ -1,1 +1,3 @@
 // Definitions and laws of patterns; no code.
+
+#![tactic(auto)]

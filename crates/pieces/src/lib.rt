@@ -1,6 +1,9 @@
 // Reads a template piece by piece, and writes a number in decimal.
+
+#![tactic(auto)]
+
 ghost use Rattle.std.specs.Prelude.{◌≡◌, ◌+◌, ◌≤◌, ◌<◌, length, get_or, drop};
-ghost use Rattle.template.specs.Template.{result, attr, env, whole, formed, text_in, with_text, well_formed};
+ghost use Rattle.template.specs.Template.{result as output, attr, env, whole, formed, text_in, with_text, well_formed};
 ghost use Rattle.pieces.specs.Number.{DigitsOf};
 ghost use Rattle.pieces.specs.Read.{meaning, told, item_read, read_at, after_percent, after_dollar, if_named, PieceWithin, Within, text_told, TextWithin, PassesWritten};
 
@@ -31,7 +34,7 @@ pub enum PieceRead {
 }
 
 // A text in braces: its start and its length.
-#[derive(Drop)]
+#[derive(Clone, Copy)]
 pub enum Text {
     At(usize, usize),
     Fault,
@@ -40,7 +43,7 @@ pub enum Text {
 // ---- braces
 
 fn text_at(template: &[u8], at: usize) -> Text
-    ensures* { λ r. ⌜ (text_told r template.now ≡ text_in (drop at template.now)) × TextWithin r template.now at ⌝ }
+    ensures { (text_told result template.now ≡ text_in (drop at template.now)) × TextWithin result template.now at }
 {
     if scan::byte_at(template, at) != b'{' {
         return Text::Fault;
@@ -57,7 +60,7 @@ fn text_at(template: &[u8], at: usize) -> Text
 }
 
 fn attr_at(template: &[u8], at: usize) -> PieceRead
-    ensures* { λ r. ⌜ (told r template.now ≡ item_read (with_text attr 0 (text_in (drop at template.now))) at) × Within r template.now at ⌝ }
+    ensures { (told result template.now ≡ item_read (with_text attr 0 (text_in (drop at template.now))) at) × Within result template.now at }
 {
     match text_at(template, at) {
         Text::At(start, len) => PieceRead::Read(Piece::Attr(start, len), start + len + 1),
@@ -66,7 +69,7 @@ fn attr_at(template: &[u8], at: usize) -> PieceRead
 }
 
 fn env_at(template: &[u8], at: usize) -> PieceRead
-    ensures* { λ r. ⌜ (told r template.now ≡ item_read (with_text env 0 (text_in (drop at template.now))) at) × Within r template.now at ⌝ }
+    ensures { (told result template.now ≡ item_read (with_text env 0 (text_in (drop at template.now))) at) × Within result template.now at }
 {
     match text_at(template, at) {
         Text::At(start, len) => PieceRead::Read(Piece::Env(start, len), start + len + 1),
@@ -79,7 +82,7 @@ fn env_at(template: &[u8], at: usize) -> PieceRead
 // The output behind a name of n bytes, which no brace may follow.
 fn result_at(template: &[u8], at: usize, n: usize) -> PieceRead
     requires { (at + n ≤ length template.now) × (0 < n) }
-    ensures* { λ r. ⌜ (told r template.now ≡ item_read (formed (whole result) n (drop (at + n) template.now)) at) × Within r template.now at ⌝ }
+    ensures { (told result template.now ≡ item_read (formed (whole output) n (drop (at + n) template.now)) at) × Within result template.now at }
 {
     if scan::byte_at(template, at + n) == b'{' {
         PieceRead::Fault
@@ -93,7 +96,7 @@ fn result_at(template: &[u8], at: usize, n: usize) -> PieceRead
 // The piece of a letter.
 fn letter_at(template: &[u8], at: usize) -> PieceRead
     requires { (at ≤ length template.now) × (get_or template.now at 0 ≡ 37 → ⊥) }
-    ensures* { λ r. ⌜ (told r template.now ≡ after_percent template.now at) × Within r template.now at ⌝ }
+    ensures { (told result template.now ≡ after_percent template.now at) × Within result template.now at }
 {
     match scan::byte_at(template, at) {
         b'k' => PieceRead::Read(Piece::Kernel, at + 1),
@@ -112,7 +115,7 @@ fn letter_at(template: &[u8], at: usize) -> PieceRead
 // A letter, or a second per cent sign.
 fn after_percent(template: &[u8], at: usize) -> PieceRead
     requires { at ≤ length template.now }
-    ensures* { λ r. ⌜ (told r template.now ≡ after_percent template.now at) × Within r template.now at ⌝ }
+    ensures { (told result template.now ≡ after_percent template.now at) × Within result template.now at }
 {
     match scan::byte_at(template, at) {
         b'a'..=b'z' | b'A'..=b'Z' => letter_at(template, at),
@@ -126,7 +129,7 @@ fn after_percent(template: &[u8], at: usize) -> PieceRead
 // A piece if its name begins at a place.
 fn if_named(template: &[u8], at: usize, name: &[u8], p: Piece) -> PieceRead
     requires { (at ≤ length template.now) × (0 < length name.now) × PieceWithin p template.now }
-    ensures* { λ r. ⌜ (told r template.now ≡ if_named name.now (meaning p template.now) template.now at) × Within r template.now at ⌝ }
+    ensures { (told result template.now ≡ if_named name.now (meaning p template.now) template.now at) × Within result template.now at }
 {
     if scan::starts_at(template, at, name) {
         PieceRead::Read(p, at + name.len())
@@ -137,7 +140,7 @@ fn if_named(template: &[u8], at: usize, name: &[u8], p: Piece) -> PieceRead
 
 fn name_at(template: &[u8], at: usize) -> PieceRead
     requires { (at ≤ length template.now) × (get_or template.now at 0 ≡ 36 → ⊥) }
-    ensures* { λ r. ⌜ (told r template.now ≡ after_dollar template.now at) × Within r template.now at ⌝ }
+    ensures { (told result template.now ≡ after_dollar template.now at) × Within result template.now at }
 {
     match scan::byte_at(template, at) {
         b'k' => if_named(template, at, b"kernel", Piece::Kernel),
@@ -175,7 +178,7 @@ fn name_at(template: &[u8], at: usize) -> PieceRead
 // A name, which begins with a small letter, or a second dollar sign.
 fn after_dollar(template: &[u8], at: usize) -> PieceRead
     requires { at ≤ length template.now }
-    ensures* { λ r. ⌜ (told r template.now ≡ after_dollar template.now at) × Within r template.now at ⌝ }
+    ensures { (told result template.now ≡ after_dollar template.now at) × Within result template.now at }
 {
     match scan::byte_at(template, at) {
         b'a'..=b'z' => name_at(template, at),
@@ -187,7 +190,7 @@ fn after_dollar(template: &[u8], at: usize) -> PieceRead
 // ---- pieces
 
 pub fn piece_at(template: &[u8], at: usize) -> PieceRead
-    ensures* { λ r. ⌜ (told r template.now ≡ read_at template.now at) × Within r template.now at ⌝ }
+    ensures { (told result template.now ≡ read_at template.now at) × Within result template.now at }
 {
     if template.len() <= at {
         return PieceRead::End;
@@ -202,7 +205,7 @@ pub fn piece_at(template: &[u8], at: usize) -> PieceRead
 // The place behind the written bytes that stand from a place on.
 fn written_end(template: &[u8], at: usize) -> usize
     requires { at ≤ length template.now }
-    ensures* { λ r. ⌜ PassesWritten template.now at r ⌝ }
+    ensures { PassesWritten template.now at result }
 {
     let mut i = at;
     while i < template.len() {
@@ -219,7 +222,7 @@ fn written_end(template: &[u8], at: usize) -> usize
 }
 
 pub fn well_formed(template: &[u8]) -> bool
-    ensures* { λ r. ⌜ r ≡ well_formed template.now ⌝ }
+    ensures { result ≡ well_formed template.now }
 {
     let mut i: usize = 0;
     loop {
@@ -248,13 +251,13 @@ pub struct Digits {
 
 fn digit(d: u32) -> u8
     requires { d < 10 }
-    ensures* { λ r. ⌜ r ≡ 48 + d ⌝ }
+    ensures { result ≡ 48 + d }
 {
     b'0' + d as u8
 }
 
 pub fn decimal(n: u32) -> Digits
-    ensures* { λ r. ⌜ DigitsOf n r ⌝ }
+    ensures { DigitsOf n result }
 {
     let mut digits = [0u8; 10];
     let mut start: usize = 9;

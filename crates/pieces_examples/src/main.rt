@@ -1,5 +1,8 @@
 // Runs the reader of templates on a table: each line of the input is a template, and its pieces are written behind it.
 // A line that begins with `#` is a name, and its number is written behind it. Some numbers in decimal follow.
+
+#![tactic(auto)]
+
 use libc::{STDIN_FILENO, STDOUT_FILENO};
 use pieces::{Piece, PieceRead};
 

@@ -1,6 +1,8 @@
 // The checker of naming plans, a public operation (document 02, Item 14): whether a rules text, run on each device of a lent set from its
 // fresh record with an answer sheet of no replies, leaves the device its wanted link and no other. The text is read once.
 
+#![tactic(auto)]
+
 ghost use Rattle.std.specs.Prelude.{List, [], ◌≡◌, ℕ, ◌*◌, ◌≤◌, length};
 ghost use Rattle.lists.specs.Sizes.{fullest_outcome, most_rules, most_text};
 ghost use Rattle.device_lookup.specs.Lookup.{Sound, OfDevice};

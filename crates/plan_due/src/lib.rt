@@ -1,4 +1,7 @@
 // When a naming plan is due (document 02, Item 14): all event paths differ, all wanted links differ, and a plan can speak of each of both.
+
+#![tactic(auto)]
+
 ghost use Rattle.std.specs.Prelude.{true, ◌&&◌, ◌||◌, not, List, ◌≡◌, ℕ, length};
 ghost use Rattle.lists.specs.Lists.{all};
 ghost use Rattle.lists.specs.Bytes.{between, is_letter, holds, same_bytes};

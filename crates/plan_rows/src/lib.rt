@@ -1,5 +1,7 @@
 // A lent set of devices with their wanted links where it lies (document 02, Item 14): where the two stand, and whether all devices are sound.
 
+#![tactic(auto)]
+
 ghost use Rattle.std.specs.Prelude.{◌≡◌, ◌≤◌, length};
 ghost use Rattle.lists.specs.Lists.{is_some};
 ghost use Rattle.plan.specs.Operations.{decode_wishes};

@@ -1,6 +1,8 @@
 // The planner of a naming plan, a public operation (document 02, Item 14): where a plan is due, a rule for each device of a lent set that is
 // told by its event path and gives it its wanted link.
 
+#![tactic(auto)]
+
 ghost use Rattle.std.specs.Prelude.{◌≡◌, ◌+◌, ◌≤◌, length};
 ghost use Rattle.insertion.specs.Append.{Placed};
 ghost use Rattle.set_answers.specs.Answers.{answered};

@@ -1,4 +1,7 @@
 // The PROGRAM and RESULT keys of a rule whose other keys hold, by an answer sheet (document 02, Item 6).
+
+#![tactic(auto)]
+
 ghost use Rattle.std.specs.Prelude.{◌≡◌, true, ◌-◌, ◌≤◌};
 ghost use Rattle.lists.specs.Lists.{is_some};
 ghost use Rattle.template.specs.Template.{well_formed};

@@ -1,4 +1,7 @@
 // A rules text, read into a table: 2, then 20 and 10 to 18 line by line, then 19. Its lines can also be read to the end, each fault noted.
+
+#![tactic(auto)]
+
 ghost use Rattle.std.specs.Prelude.{◌≡◌, true, false, [], ◌∷◌, ℕ, ◌+◌, ◌-◌, ◌*◌, ◌≤◌, ◌<◌, length, drop};
 ghost use Rattle.lists.specs.Bytes.{holds};
 ghost use Rattle.lists.specs.Refusal as refusal;
@@ -49,7 +52,7 @@ fn read_line(line: &[u8], values: &mut [u8], rows: &mut [u16], n: usize, used: u
 // ---- the rules
 
 // How many rules, rows and bytes of values a table holds.
-#[derive(Drop)]
+#[derive(Clone, Copy)]
 pub struct Counts {
     pub rules: usize,
     pub rows: usize,
@@ -99,7 +102,7 @@ fn note_rule(list: &mut [u16], used: usize, number: usize, strict: bool) -> usiz
 // ---- the lines
 
 // Where the next line begins, its number, what the table holds, and how many numbers the list of notes holds.
-#[derive(Drop)]
+#[derive(Clone, Copy)]
 pub struct Place {
     pub at: usize,
     pub number: usize,
@@ -348,7 +351,7 @@ fn read_lines(
 
 // ---- a text
 
-#[derive(Drop)]
+#[derive(Clone, Copy)]
 pub enum TextRead {
     Refused(Refusal, usize),
     Accepted(Counts),

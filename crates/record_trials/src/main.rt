@@ -9,6 +9,9 @@
 //   view PLACE | DEVICE | WHAT IT SAYS | NAME                     the device at a place of the chain
 // In a record blanks say nothing, `\xNN` is the byte of that number, and `\N*` says that the next byte stands N times. Signs may have blanks
 // between them. Other lines are passed over.
+
+#![tactic(auto)]
+
 ghost use Rattle.std.specs.Prelude.{◌≤◌, length};
 ghost use Rattle.device_lookup.specs.Lookup.{Sound, Standing, OfDevice, Within, Chained};
 
@@ -63,7 +66,7 @@ fn number_of(digits: &[u8]) -> usize {
 // ---- the bytes of a column
 
 // What the next byte of a column is: the first of an item, the one behind a backslash, a digit of a count, the digits of a byte.
-#[derive(Drop)]
+#[derive(Clone, Copy)]
 enum Item {
     First,
     Marked,
@@ -73,7 +76,7 @@ enum Item {
 }
 
 // How often the byte that is being read stands, and how many there are before it.
-#[derive(Drop)]
+#[derive(Clone, Copy)]
 struct Reading {
     item: Item,
     times: usize,
@@ -223,7 +226,7 @@ fn say_verdict(name: &[u8], want: &[u8], n: usize) {
 
 // ---- checks
 
-#[derive(Drop)]
+#[derive(Clone, Copy)]
 enum Kind {
     Device,
     Outcome,

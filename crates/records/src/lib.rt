@@ -1,4 +1,7 @@
 // What a device record and the target hold together, and what a change of the target answers.
+
+#![tactic(auto)]
+
 use outcome_target::Layout;
 use refusals::Refusal;
 

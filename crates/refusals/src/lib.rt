@@ -1,9 +1,12 @@
 // The refusals of document 01's table and of document 02's Items, and their numbers.
+
+#![tactic(auto)]
+
 ghost use Rattle.std.specs.Prelude.{◌≡◌};
 ghost use Rattle.lists.specs.Refusal as refusal;
 ghost use Rattle.refusals.specs.Refusals.{refusal_of};
 
-#[derive(Drop)]
+#[derive(Clone, Copy)]
 pub enum Refusal {
     TargetShort,
     TextLong,

@@ -1,5 +1,7 @@
 // An entry put into a row of the target or taken out of it: the bytes, the header's count and the layout.
 
+#![tactic(auto)]
+
 ghost use Rattle.std.specs.Prelude.{◌≡◌, ◌+◌, ◌≤◌, ◌<◌, length};
 ghost use Rattle.lists.specs.Sizes.{fullest_outcome};
 ghost use Rattle.bits.specs.Fields.{packed};

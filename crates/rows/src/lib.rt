@@ -1,5 +1,7 @@
 // Rows of entries that lie in a lent record: one entry, a check, a search by name, distinct names, the end of a row.
 
+#![tactic(auto)]
+
 ghost use Rattle.std.specs.Prelude.{◌≡◌, ◌+◌, ◌-◌, ◌≤◌, ◌<◌, ◌&&◌, length, drop};
 ghost use Rattle.lists.specs.Bytes.{clean as clean_list, ok_text, among, distinct as distinct_list};
 ghost use Rattle.bits.specs.Bits.{number_at};
@@ -11,7 +13,7 @@ ghost use Rattle.rows.specs.Row.{Row, names, find_in, part_of, Within, end_in, e
 use bits::BitCursor;
 
 // What an entry is: a text behind its length (a link, a tag), a property or an attribute, a run, a reply of an answer sheet.
-#[derive(Drop)]
+#[derive(Clone, Copy)]
 pub enum Kind {
     Text,
     Property,

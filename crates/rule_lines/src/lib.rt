@@ -1,4 +1,7 @@
 // The pairs of a line, read into a table.
+
+#![tactic(auto)]
+
 ghost use Rattle.std.specs.Prelude.{◌≡◌, ℕ, ◌+◌, ◌-◌, ◌≤◌, ◌<◌, length};
 ghost use Rattle.keys.specs.Table.{key_of};
 ghost use Rattle.table.specs.Table.{Rows};
@@ -10,7 +13,7 @@ use pair_content::Judged;
 use refusals::Refusal;
 
 // How far a table is filled, and one more than the row of the LABEL and of the GOTO of the line at hand, or 0.
-#[derive(Drop)]
+#[derive(Clone, Copy)]
 pub struct Fill {
     pub label: usize,
     pub goto: usize,

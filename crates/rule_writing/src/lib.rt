@@ -1,5 +1,8 @@
 // The rules of a table as text, one line for each, nothing between their parts. Each function puts its part behind the first `used` bytes
 // of a slice and answers where it ends.
+
+#![tactic(auto)]
+
 ghost use Rattle.std.specs.Prelude.{[], ◌∷◌, ◌≡◌, ◌+◌, ◌-◌, ◌≤◌, length, take};
 ghost use Rattle.lists.specs.Lists.{cat};
 ghost use Rattle.lists.specs.Sizes.{most_text};

@@ -1,4 +1,7 @@
 // The run, a public operation: the rules of a text over a device record, an outcome record and an answer sheet.
+
+#![tactic(auto)]
+
 ghost use Rattle.std.specs.Prelude.{List, ◌≡◌, true, ℕ, ◌*◌, ◌≤◌, length};
 ghost use Rattle.lists.specs.Lists.{is_some};
 ghost use Rattle.lists.specs.Sizes.{fullest_outcome, most_rules, most_text};

@@ -1,5 +1,7 @@
 // A text run over each record of a lent set, a public operation: the text is read once, the sheet judged once.
 
+#![tactic(auto)]
+
 ghost use Rattle.std.specs.Prelude.{List, [], ◌≡◌, ℕ, ◌+◌, ◌*◌, ◌≤◌, length, replicate};
 ghost use Rattle.lists.specs.Lists.{is_some};
 ghost use Rattle.lists.specs.Sizes.{fullest_outcome, most_rules, most_text};

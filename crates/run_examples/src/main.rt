@@ -3,6 +3,9 @@
 // number, line, visited, used; of an accepted run then every part of its record, and the commands of the close.
 // Letters: the device (t or b, else one that is faulty), the record (f, the device's fresh one, else one that is faulty), the room of the
 // target and the sheet (=, or < for one byte less than a run needs, or ! for a sheet that is faulty).
+
+#![tactic(auto)]
+
 use answers::Given;
 use libc::{STDIN_FILENO, STDOUT_FILENO};
 
@@ -105,7 +108,7 @@ struct Spot {
     at: usize,
 }
 
-#[derive(Drop)]
+#[derive(Clone, Copy)]
 enum Kind {
     Link,
     Property,

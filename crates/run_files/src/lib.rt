@@ -1,5 +1,7 @@
 // The run of a set of files, a public operation (document 02, Item 11).
 
+#![tactic(auto)]
+
 ghost use Rattle.std.specs.Prelude.{◌≡◌, true, ◌≤◌, length};
 ghost use Rattle.lists.specs.Lists.{is_some};
 ghost use Rattle.lists.specs.Sizes.{fullest_outcome};

@@ -1,5 +1,7 @@
 // The run list: each run's template substituted with the final properties and output, packed one behind the other.
 
+#![tactic(auto)]
+
 ghost use Rattle.std.specs.Prelude.{◌≡◌, true, false, ◌+◌, ◌*◌, ◌≤◌, length};
 ghost use Rattle.lists.specs.Sizes.{fullest_run_list};
 ghost use Rattle.bits.specs.Fields.{packed};

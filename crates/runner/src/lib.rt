@@ -1,5 +1,8 @@
 // The rules of a table in order over the records of a device and a target and an answer sheet, with jumps, the visited count and the
 // devices tried.
+
+#![tactic(auto)]
+
 ghost use Rattle.std.specs.Prelude.{◌≡◌, true, ◌<◌, length, get_or};
 ghost use Rattle.lists.specs.Lists.{is_some};
 ghost use Rattle.sheet.specs.Sheet.{decode};

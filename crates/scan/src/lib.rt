@@ -1,4 +1,7 @@
 // Small questions of a lent slice: a byte, equality, the end of a run, what stands at the end.
+
+#![tactic(auto)]
+
 ghost use Rattle.std.specs.Prelude.{◌≡◌, true, false, ◌+◌, ◌≤◌, length, get_or, take, drop};
 ghost use Rattle.lists.specs.Bytes.{is_upper, is_digit, is_blank, is_space, same_bytes, starts};
 ghost use Rattle.lists.specs.Runs.{split_at, last_of, trim, chomp, ends_in_space, end_digits};

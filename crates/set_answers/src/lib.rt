@@ -1,6 +1,8 @@
 // What an operation gives back that has more to say than document 01's numbers (document 02, Items 7, 11, 12 and 14): the position of the
 // record or file that a refusal is about, and a count.
 
+#![tactic(auto)]
+
 ghost use Rattle.std.specs.Prelude.{◌≡◌, ◌<◌};
 ghost use Rattle.refusals.specs.Refusals.{refusal_of};
 ghost use Rattle.set_answers.specs.Answers.{Refuses, Accepts};

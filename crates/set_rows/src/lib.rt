@@ -1,5 +1,7 @@
 // A lent set where it lies (document 02, Items 7, 11 and 14): how many entries it has, the long texts in it, and records beside their devices.
 
+#![tactic(auto)]
+
 ghost use Rattle.std.specs.Prelude.{◌≡◌, ◌≤◌, ◌<◌, length, get_or};
 ghost use Rattle.lists.specs.Lists.{is_some};
 ghost use Rattle.bits.specs.Bits.{number_at};
@@ -23,7 +25,7 @@ pub fn count_of(set: &[u8]) -> usize
 // ---- a long text
 
 // Where the bytes of a record or a text begin and end.
-#[derive(Drop)]
+#[derive(Clone, Copy)]
 pub struct Part {
     pub start: usize,
     pub end: usize,

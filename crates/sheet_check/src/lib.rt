@@ -1,5 +1,7 @@
 // Whether an answer sheet is sound, judged where it lies (refusal 6), and the search for a command on a sound one.
 
+#![tactic(auto)]
+
 ghost use Rattle.std.specs.Prelude.{◌≡◌, true, ◌≤◌, length, drop};
 ghost use Rattle.lists.specs.Lists.{is_some};
 ghost use Rattle.entries.specs.Parse.{many};

@@ -1,6 +1,8 @@
 // Asks answer sheets: each line of the input is a command, a tab and a sheet in hexadecimal digits. Each is written out with what was found:
 // `faulty`, `missing`, or `success` or `failure` with the output behind it.
 
+#![tactic(auto)]
+
 ghost use Rattle.std.specs.Prelude.{◌≡◌, true, ◌*◌, ◌≤◌, ◌<◌, length};
 ghost use Rattle.lists.specs.Lists.{is_some};
 ghost use Rattle.sheet.specs.Sheet.{decode};

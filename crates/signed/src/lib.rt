@@ -1,4 +1,7 @@
 // What the value of OPTIONS sets: a number of 32 bits with a sign, from decimal text, and the settings by name.
+
+#![tactic(auto)]
+
 ghost use Rattle.std.specs.Prelude.{◌≡◌, ◌≤◌, length, drop};
 ghost use Rattle.lists.specs.Bytes.{starts};
 ghost use Rattle.rules.specs.Setting.{with_sign, digits_from, integer_of, priority_of, setting_of};

@@ -1,5 +1,7 @@
 // The operations as a library for C and Rust. Each writes all 8 numbers of its answer, whatever it is given.
 
+#![tactic(auto)]
+
 ghost use Rattle.std.specs.Prelude.{◌≡◌, List, [], length};
 ghost use Rattle.answers.specs.Answers.{answered};
 ghost use Rattle.set_answers.specs.Answers.{answered as answered_set};

@@ -1,6 +1,8 @@
 // Moves of bytes within one lent slice: clear, copy in, open a gap, insert, remove, shift, replace.
 // `used` is where the bytes that are in use end; what lies behind it is not read.
 
+#![tactic(auto)]
+
 ghost use Rattle.std.specs.Prelude.{◌≡◌, ◌+◌, ◌-◌, ◌≤◌, ◌<◌, length, replicate};
 ghost use Rattle.lists.specs.Bytes.{part};
 ghost use Rattle.splice.specs.Moves.{stored, opened, inserted, removed, shifted, replaced};

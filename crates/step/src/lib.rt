@@ -1,4 +1,7 @@
 // One rule: its match keys, then what programs said, then its assignments.
+
+#![tactic(auto)]
+
 ghost use Rattle.std.specs.Prelude.{◌≡◌, true, ◌-◌, ◌≤◌};
 ghost use Rattle.lists.specs.Lists.{is_some};
 ghost use Rattle.sheet.specs.Sheet.{decode};

@@ -1,4 +1,7 @@
 // The striker, a public operation: the lines with faults struck from a text, and the list of what was struck (document 02, Item 12).
+
+#![tactic(auto)]
+
 ghost use Rattle.std.specs.Prelude.{List, ◌≡◌, ℕ, ◌*◌, ◌/◌, ◌≤◌, length, replicate};
 ghost use Rattle.lists.specs.Checked.{refused as refused_by, line};
 ghost use Rattle.lists.specs.Sizes.{most_rules, most_text};

@@ -1,5 +1,7 @@
 // Substitution: what each piece of a template inserts, and the whole text of a template.
 
+#![tactic(auto)]
+
 ghost use Rattle.std.specs.Prelude.{◌≡◌, true, ◌+◌, ◌≤◌, length, drop};
 ghost use Rattle.lists.specs.Runs.{trim, end_digits};
 ghost use Rattle.lists.specs.Sizes.{most_chain, most_substituted};
@@ -24,7 +26,7 @@ use pieces::{Piece, PieceRead};
 use rows::Kind;
 
 // Where the matched device begins in the device record, if there is one.
-#[derive(Drop)]
+#[derive(Clone, Copy)]
 pub enum Matched {
     At(usize),
     Nothing,
@@ -32,7 +34,7 @@ pub enum Matched {
 
 // Where inserted text comes from: the places of the event device and of the matched one in the device record, the place of the properties in
 // the outcome record and how many there are.
-#[derive(Drop)]
+#[derive(Clone, Copy)]
 pub struct Places {
     pub event: usize,
     pub matched: Matched,

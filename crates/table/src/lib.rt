@@ -1,5 +1,8 @@
 // The rules of a text, kept as numbers in three slices that a caller lends: the bytes of arguments and values one behind the other, four
 // numbers for each pair, four for each rule.
+
+#![tactic(auto)]
+
 ghost use Rattle.std.specs.Prelude.{◌≡◌, ◌+◌, ◌-◌, ◌*◌, ◌≤◌, ◌<◌, length, get_or};
 ghost use Rattle.lists.specs.Bytes.{part};
 ghost use Rattle.glob.specs.Plain.{PlainIf};

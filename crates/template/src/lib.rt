@@ -1,1 +1,3 @@
 // Definitions of templates; no code.
+
+#![tactic(auto)]

@@ -1,4 +1,7 @@
 // The check of a text, a public operation: nothing is run.
+
+#![tactic(auto)]
+
 ghost use Rattle.std.specs.Prelude.{◌≡◌, [], ◌*◌, ◌≤◌, length};
 ghost use Rattle.lists.specs.Sizes.{most_rules, most_text};
 ghost use Rattle.reader.specs.Read.{Lends};

@@ -1,6 +1,9 @@
 // Reads the texts of a table: each line of the input is a text, and is written out with what was found.
 // A text is given in parts with tabs between them. A part that begins with a number and `*` stands that many times.
 // In a part `~n` is a newline, `~t` a tab, `~r` a carriage return, `~0` NUL, and `~i` how often it stood already.
+
+#![tactic(auto)]
+
 ghost use Rattle.std.specs.Prelude.{◌≡◌, ◌+◌, ◌≤◌, length};
 
 use libc::{STDIN_FILENO, STDOUT_FILENO};

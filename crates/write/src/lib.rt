@@ -1,4 +1,7 @@
 // The writer, a public operation: the rules of a text written back (document 02, Item 2).
+
+#![tactic(auto)]
+
 ghost use Rattle.std.specs.Prelude.{List, ◌≡◌, ℕ, ◌+◌, ◌*◌, ◌≤◌, length};
 ghost use Rattle.lists.specs.Checked.{ok};
 ghost use Rattle.lists.specs.Sizes.{most_rules, most_text};

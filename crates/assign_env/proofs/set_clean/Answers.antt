@@ -1,0 +1,67 @@
+-- `assign_env::set_clean` meets its contract.
+use Rattle.assign_env.proofs.Env.{prop_ok, front-size, copy, copy-size, copy_room, copy-ok}
+use Rattle.assign_env.proofs.Env.{prop_ok}
+use Rattle.assign_env.proofs.set_clean.Goals as goal
+
+pub slice_bounds-clean-end : goal.slice_bounds-clean-end
+slice_bounds-clean-end c =
+    let entry = c.args in
+    let store = c.store in
+    front-size entry.value.now _ store.new.0 store.new.0 store.ensures
+
+pub slice_bounds-out-end-in-Replaced : goal.slice_bounds-out-end-in-Replaced
+slice_bounds-out-end-in-Replaced c =
+    let entry = c.args in
+    let store = c.store in
+    let clean = c.clean in
+    copy_room entry.value.now _ store.new.0 clean.new.0 store.ensures clean.ensures
+
+pub slice_bounds-set_property-end : goal.slice_bounds-set_property-end
+slice_bounds-set_property-end c =
+    let entry = c.args in
+    let store = c.store in
+    let clean = c.clean in
+    copy-size entry.value.now _ store.new.0 clean.new.0 store.ensures clean.ensures
+
+pub set_property-requires : goal.set_property-requires
+set_property-requires c =
+    let pre = c.requires in
+    let entry = c.args in
+    let store = c.store in
+    let clean = c.clean in (
+      pre.0,
+      copy-ok entry.value.now _ store.new.0 clean.new.0 store.ensures clean.ensures entry.key.now pre.1
+          pre.3 pre.2,
+    )
+
+pub set_property-requires-in-Unset : goal.set_property-requires-in-Unset
+set_property-requires-in-Unset c =
+    let pre = c.requires in
+    let entry = c.args in
+    (pre.0, prop_ok entry.key.now entry.value.now pre.1 pre.3 pre.2)
+
+pub set_property-requires-in-AsIs : goal.set_property-requires-in-AsIs
+set_property-requires-in-AsIs c =
+    let pre = c.requires in
+    let entry = c.args in
+    (pre.0, prop_ok entry.key.now entry.value.now pre.1 pre.3 pre.2)
+
+pub returns-in-Replaced : goal.returns-in-Replaced
+returns-in-Replaced c =
+    let entry = c.args in
+    let enum_told = c.in-Replaced in
+    let store = c.store in
+    let clean = c.clean in
+    let set-property = c.set_property in
+    rw (enum_told.given.1, ← copy entry.value.now _ store.new.0 clean.new.0 store.ensures clean.ensures)
+    set-property.ensures
+
+pub returns-in-Unset : goal.returns-in-Unset
+returns-in-Unset c =
+    let enum-told2 = c.in-Unset in
+    rw enum-told2.given.1 c.set_property-in-Unset.ensures
+
+pub returns-in-AsIs : goal.returns-in-AsIs
+returns-in-AsIs c =
+    let enum-told3 = c.in-AsIs in
+    rw enum-told3.given.1 c.set_property-in-AsIs.ensures

@@ -1,0 +1,17 @@
+-- `device_lookup::find_value` meets its contract.
+use mathlib.Core.Path.{sym, ap, subst, ◌∙◌}
+use lib.ListN.{length}
+use Rattle.rows.specs.Row as rows
+use Rattle.device_lookup.specs.Lookup.{value_of}
+use Rattle.device_lookup.proofs.find_value.Goals as goal
+
+pub returns-in-At : goal.returns-in-At
+returns-in-At c =
+    let entry = c.args in
+    let find = c.find in (
+      ap value_of (sym c.in-At.is ∙ find.ensures.0),
+      (subst (λ x. rows.Within x (length entry.rec.now)) c.in-At.is find.ensures.1).1,
+    )
+
+pub returns-in-Missing : goal.returns-in-Missing
+returns-in-Missing c = (ap value_of (sym c.in-Missing.is ∙ c.find.ensures.0), tt)

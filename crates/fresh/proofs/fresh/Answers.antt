@@ -1,0 +1,60 @@
+-- `fresh::fresh` meets its contract.
+use Rattle.lists.proofs.Lists.{is-some}
+use Rattle.fresh.proofs.Laws.{given_short, given-faulty, given_made, made-fits}
+use Rattle.answers.specs.Answers.{answered}
+use Rattle.outcome.specs.State.{encode, fresh}
+use Rattle.device.specs.Device.{decode}
+use Rattle.text.specs.Run.{acceptance}
+use lib.ListN.{length, replicate}
+use borrow.Author.Tests.{not-true, not-false}
+use mathlib.Core.Path.{sym, ap, ◌∙◌}
+use Prim.Native.Nat.{ℕ}
+use native.Mathlib.Omega.{arith}
+use Rattle.fresh.proofs.fresh.Goals as goal
+
+pub returns-then-target-lt-FULLEST : goal.returns-then-target-lt-FULLEST
+returns-then-target-lt-FULLEST c =
+    let given = c.args in
+    let x = given in
+    let a = x in ap (answered c.refused.result) c.clear.ensures ∙ c.refused.ensures (length a.target.now) ∙ sym
+    (given_short a.device.now (length a.target.now) (omega (arith, c.clear.auto.0, c.if-target-lt-FULLEST.true)))
+
+pub returns-then-not-check : goal.returns-then-not-check
+returns-then-not-check c =
+    let given = c.args in
+    let x = given in
+    let a = x in ap (answered c.refused-then-not-check.result) c.clear.ensures ∙ c.refused-then-not-check.ensures
+    (length a.target.now) ∙ sym (given-faulty a.device.now (length a.target.now)
+    (omega (arith, c.clear.auto.0, c.if-target-lt-FULLEST.false)) (sym c.check.ensures ∙ not-true _ c.if-not-check.true-raw))
+
+pub write_record-requires : goal.write_record-requires
+write_record-requires c =
+    let given = c.args in
+    let x = given in
+    let a = x in (
+      is-some (decode a.device.now) (sym c.check.ensures ∙ not-false _
+          c.if-not-check.false-raw),
+      c.if-target-lt-FULLEST.false,
+      c.clear.ensures ∙ ap (λ (i : ℕ). replicate i 0)
+          (sym c.clear.auto.0),
+    )
+
+pub accepted-requires : goal.accepted-requires
+accepted-requires c =
+    let given = c.args in
+    let x = given in
+    let a = x in
+    let (d, e) = is-some (decode a.device.now) (sym c.check.ensures ∙ not-false _
+    c.if-not-check.false-raw) in (omega arith, omega arith, omega (arith, (c.write_record.ensures d e).1, made-fits a.device.now d e))
+
+pub returns : goal.returns
+returns c =
+    let given = c.args in
+    let x = given in
+    let a = x in
+    let (d, e) = is-some (decode a.device.now) (sym c.check.ensures ∙ not-false _ c.if-not-check.false-raw) in
+    let v = c.write_record.ensures d e in ap (answered c.accepted.result)
+    v.0 ∙ c.accepted.ensures (length c.write_record.new.0) (encode (fresh d))
+    v.1 ∙ ap (λ (i : ℕ). acceptance i 0 0 (encode (fresh d)))
+    (c.write_record.auto.0 ∙ c.clear.auto.0) ∙ sym
+    (given_made a.device.now (length a.target.now) (omega (arith, c.clear.auto.0, c.if-target-lt-FULLEST.false)) d e)

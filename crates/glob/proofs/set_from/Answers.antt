@@ -1,0 +1,101 @@
+use Prim.Native.Nat.{◌+◌, ◌-◌}
+use mathlib.Core.Bool.{Bool}
+use mathlib.Core.Path.{refl, sym, ap, ◌∙◌}
+use native.Mathlib.Omega.{arith}
+use Rattle.glob.proofs.Members.{read_closes, read_ends, read_on}
+use Rattle.glob.specs.declared.Member.TheVariants.{Falling}
+use Rattle.glob.specs.Sets.{answered, ReadOn, MemberIs}
+use Rattle.glob.specs.Place.{NotBar}
+use Rattle.glob.proofs.set_from.Goals as goal
+
+pub loop-low-init : goal.loop-low-init
+loop-low-init c = (c.requires, refl)
+
+pub member_at-requires : goal.member_at-requires
+member_at-requires c = c.loop-low.invariant.0
+
+pub overflow_add-next : goal.overflow_add-next
+overflow_add-next c =
+    let entry = c.args in
+    let loop = c.loop-low in
+    let member-at = c.member_at in
+    let low-call = c.in-Range in
+    let low = low-call in
+    let l = low.given.0 in
+    let r : ReadOn entry.pattern.now loop.i l.0 l.1.0 l.1.1.0 = rw low.given.1 at member-at.ensures in
+    omega (arith, r.inside)
+
+pub returns-in-93 : goal.returns-in-93
+returns-in-93 c =
+    let entry = c.args in
+    let loop-call = c.loop-low in
+    let member-at = c.member_at in
+    let low-call = c.in-Range in
+    let found_in = c.found_in-found in
+    let byte-or-bar = c.byte_or_bar in
+    let args = entry in
+    let loop = loop-call in
+    let low = low-call in
+    let l = low.given.0 in
+    let r : ReadOn args.pattern.now loop.i l.0 l.1.0 l.1.1.0 = rw low.given.1 at member-at.ensures in
+    c.answer.ensures ∙ ap (λ (t : Bool). answered args.opposite t (l.1.1.0 + 1)) found_in.ensures ∙ sym
+    (read_closes args.pattern.now loop.i l.0 l.1.0 l.1.1.0 r args.opposite loop.found args.x
+    (sym byte-or-bar.ensures ∙ c.in-93.is))
+    ∙ loop.invariant.1
+
+pub returns-in-124 : goal.returns-in-124
+returns-in-124 c =
+    let entry = c.args in
+    let loop-call = c.loop-low in
+    let member-at = c.member_at in
+    let low-call = c.in-Range in
+    let args = entry in
+    let loop = loop-call in
+    let low = low-call in
+    let l = low.given.0 in
+    let r : ReadOn args.pattern.now loop.i l.0 l.1.0 l.1.1.0 = rw low.given.1 at member-at.ensures in
+    sym
+    (read_ends args.pattern.now loop.i l.0 l.1.0 l.1.1.0 r args.opposite loop.found args.x
+    (sym c.byte_or_bar.ensures ∙ c.in-124.is))
+    ∙ loop.invariant.1
+
+pub loop-low-smaller : goal.loop-low-smaller
+loop-low-smaller c =
+    let entry = c.args in
+    let loop = c.loop-low in
+    let member-at = c.member_at in
+    let low-call = c.in-Range in
+    let low = low-call in
+    let l = low.given.0 in
+    let r : ReadOn entry.pattern.now loop.i l.0 l.1.0 l.1.1.0 = rw low.given.1 at member-at.ensures in
+    omega (arith, r.forward, r.inside)
+
+pub loop-low-preserved : goal.loop-low-preserved
+loop-low-preserved c =
+    let entry = c.args in
+    let loop-call = c.loop-low in
+    let member-at = c.member_at in
+    let low-call = c.in-Range in
+    let found_in = c.found_in-found in
+    let args = entry in
+    let loop = loop-call in
+    let low = low-call in
+    let byte-or-bar = c.byte_or_bar in
+    let l = low.given.0 in
+    let r : ReadOn args.pattern.now loop.i l.0 l.1.0 l.1.1.0 = rw low.given.1 at member-at.ensures in
+    let n : NotBar args.pattern.now l.1.1.0 = λ e. c.in_default.rest.1 (byte-or-bar.ensures ∙ e) in (
+      n,
+      rw found_in.ensures
+          (sym
+          (read_on args.pattern.now loop.i l.0 l.1.0 l.1.1.0 r args.opposite loop.found args.x n
+          (λ e. c.in_default.rest.0.1 (byte-or-bar.ensures ∙ e)))
+          ∙ loop.invariant.1),
+    )
+
+pub returns-in-Falling : goal.returns-in-Falling
+returns-in-Falling c =
+    let entry = c.args in
+    let args = entry in
+    let loop = c.loop-low in
+    let w : MemberIs Falling args.pattern.now loop.i = rw c.in-Falling.is at c.member_at.ensures in
+    sym (w args.opposite loop.found args.x) ∙ loop.invariant.1

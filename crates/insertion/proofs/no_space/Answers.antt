@@ -1,0 +1,9 @@
+-- `insertion::no_space` meets its contract.
+use mathlib.Core.Path.{sym, ◌∙◌}
+use Rattle.insertion.proofs.no_space.Goals as goal
+
+pub returns-then-is_space : goal.returns-then-is_space
+returns-then-is_space c = rw (sym c.is_space.ensures ∙ c.if-is_space.true)
+
+pub returns-else-is_space : goal.returns-else-is_space
+returns-else-is_space c = rw (sym c.is_space.ensures ∙ c.if-is_space.false)

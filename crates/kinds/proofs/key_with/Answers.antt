@@ -1,0 +1,117 @@
+-- `kinds::key_with` meets its contract.
+use native.Mathlib.Omega.{arith}
+use Rattle.kinds.specs.Numbers.{key_with}
+use Rattle.kinds.proofs.Numbers.{above, key_last}
+use mathlib.Core.Path.{sym}
+use Rattle.kinds.proofs.key_with.Goals as goal
+
+pub returns-in-0 : goal.returns-in-0
+unfolding key_with
+returns-in-0 c = rw c.in-0.is
+
+pub returns-in-1 : goal.returns-in-1
+unfolding key_with
+returns-in-1 c = rw c.in-1.is
+
+pub returns-in-2 : goal.returns-in-2
+unfolding key_with
+returns-in-2 c = rw c.in-2.is
+
+pub returns-in-3 : goal.returns-in-3
+unfolding key_with
+returns-in-3 c = rw c.in-3.is
+
+pub returns-in-4 : goal.returns-in-4
+unfolding key_with
+returns-in-4 c = rw c.in-4.is
+
+pub returns-in-5 : goal.returns-in-5
+unfolding key_with
+returns-in-5 c = rw c.in-5.is
+
+pub returns-in-6 : goal.returns-in-6
+unfolding key_with
+returns-in-6 c = rw c.in-6.is
+
+pub returns-in-7 : goal.returns-in-7
+unfolding key_with
+returns-in-7 c = rw c.in-7.is
+
+pub returns-in-8 : goal.returns-in-8
+unfolding key_with
+returns-in-8 c = rw c.in-8.is
+
+pub returns-in-9 : goal.returns-in-9
+unfolding key_with
+returns-in-9 c = rw c.in-9.is
+
+pub returns-in-10 : goal.returns-in-10
+unfolding key_with
+returns-in-10 c = rw c.in-10.is
+
+pub returns-in-11 : goal.returns-in-11
+unfolding key_with
+returns-in-11 c = rw c.in-11.is
+
+pub returns-in-12 : goal.returns-in-12
+unfolding key_with
+returns-in-12 c = rw c.in-12.is
+
+pub returns-in-13 : goal.returns-in-13
+unfolding key_with
+returns-in-13 c = rw c.in-13.is
+
+pub returns-in-14 : goal.returns-in-14
+unfolding key_with
+returns-in-14 c = rw c.in-14.is
+
+pub returns-in-15 : goal.returns-in-15
+unfolding key_with
+returns-in-15 c = rw c.in-15.is
+
+pub returns-in-16 : goal.returns-in-16
+unfolding key_with
+returns-in-16 c = rw c.in-16.is
+
+pub returns-in-17 : goal.returns-in-17
+unfolding key_with
+returns-in-17 c = rw c.in-17.is
+
+pub returns-in-18 : goal.returns-in-18
+unfolding key_with
+returns-in-18 c = rw c.in-18.is
+
+pub returns-in-19 : goal.returns-in-19
+unfolding key_with
+returns-in-19 c = rw c.in-19.is
+
+pub returns-in-20 : goal.returns-in-20
+unfolding key_with
+returns-in-20 c = rw c.in-20.is
+
+pub returns-in_default : goal.returns-in_default
+returns-in_default c =
+    let n = c.args.n in
+    let r = c.in_default.rest in
+    let from1 = above 0 n (omega arith) r.0.0.0.0.0.0.0.0.0.0.0.0.0.0.0.0.0.0.0.0.1 in
+    let from2 = above 1 n from1 r.0.0.0.0.0.0.0.0.0.0.0.0.0.0.0.0.0.0.0.1 in
+    let from3 = above 2 n from2 r.0.0.0.0.0.0.0.0.0.0.0.0.0.0.0.0.0.0.1 in
+    let from4 = above 3 n from3 r.0.0.0.0.0.0.0.0.0.0.0.0.0.0.0.0.0.1 in
+    let from5 = above 4 n from4 r.0.0.0.0.0.0.0.0.0.0.0.0.0.0.0.0.1 in
+    let from6 = above 5 n from5 r.0.0.0.0.0.0.0.0.0.0.0.0.0.0.0.1 in
+    let from7 = above 6 n from6 r.0.0.0.0.0.0.0.0.0.0.0.0.0.0.1 in
+    let from8 = above 7 n from7 r.0.0.0.0.0.0.0.0.0.0.0.0.0.1 in
+    let from9 = above 8 n from8 r.0.0.0.0.0.0.0.0.0.0.0.0.1 in
+    let from10 = above 9 n from9 r.0.0.0.0.0.0.0.0.0.0.0.1 in
+    let from11 = above 10 n from10 r.0.0.0.0.0.0.0.0.0.0.1 in
+    let from12 = above 11 n from11 r.0.0.0.0.0.0.0.0.0.1 in
+    let from13 = above 12 n from12 r.0.0.0.0.0.0.0.0.1 in
+    let from14 = above 13 n from13 r.0.0.0.0.0.0.0.1 in
+    let from15 = above 14 n from14 r.0.0.0.0.0.0.1 in
+    let from16 = above 15 n from15 r.0.0.0.0.0.1 in
+    let from17 = above 16 n from16 r.0.0.0.0.1 in
+    let from18 = above 17 n from17 r.0.0.0.1 in
+    let from19 = above 18 n from18 r.0.0.1 in
+    let from20 = above 19 n from19 r.0.1 in
+    let from21 = above 20 n from20 r.1 in
+    sym (key_last n from21)

@@ -1,0 +1,22 @@
+-- `left_lines::put_strike` meets its contract.
+use Rattle.left_lines.proofs.Lines.{listed-none, strike-size, listed-one}
+use Rattle.left_lines.proofs.put_strike.Goals as goal
+
+pub returns-then-fault-eq0 : goal.returns-then-fault-eq0
+returns-then-fault-eq0 c =
+    let if1 = c.if-fault-eq0 in
+    let a = c.args in listed-none a.number a.fault a.used a.list.now if1.true
+
+pub put_note-requires : goal.put_note-requires
+put_note-requires c =
+    let if1 = c.if-fault-eq0 in
+    let a = c.args in
+    (rw (strike-size a.number a.fault a.used a.list.now if1.false) at c.requires.0, c.requires.1, c.requires.2)
+
+pub returns : goal.returns
+returns c =
+    let put-note = c.put_note in
+    let if1 = c.if-fault-eq0 in
+    let a = c.args in
+    let put = put-note.ensures in
+    listed-one a.number a.fault a.used a.list.now _ _ if1.false put.0 put.1 put.2

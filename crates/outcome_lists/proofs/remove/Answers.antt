@@ -1,0 +1,100 @@
+-- `outcome_lists::remove` meets its contract.
+use mathlib.Core.Path.{sym, ap, ◌∙◌, subst}
+use lib.ListN.{length}
+use Rattle.rows.proofs.Search.{text-written}
+use Rattle.rows.specs.declared.Found.TheVariants.{At}
+use Rattle.rows.specs.Row.{Within}
+use Rattle.outcome_target.specs.Held.{Held}
+use Rattle.outcome_target.specs.Texts.{ok_of, with_texts}
+use Rattle.outcome_readers.proofs.Rows.{texts_at, texts_read}
+use Rattle.outcome_lists.proofs.Found.{found-cuts, found-more, found-held, missing_kept}
+use Rattle.outcome_lists.proofs.Texts.{texts-same, texts-sound, text-apart, text_less}
+use native.Mathlib.Omega.{arith}
+use Rattle.outcome_lists.proofs.remove.Goals as goal
+
+pub find-requires : goal.find-requires
+find-requires c =
+    let entry = c.before.before.before.before.before.before.before in
+    let x = entry.args in
+    let a = x in
+    let sec = c.before.before.before.before.section-of in
+    let st = c.before.before.before.start_of_lem in
+    let k = c.before.count_of in
+    let h = texts_read a.list sec.result sec.ensures entry.requires.0 a.t.now a.layout entry.requires.1 entry.requires.2 st.result k.result st.ensures k.ensures.0 in (h.within, h.row)
+
+pub overflow_add-v : goal.overflow_add-v
+overflow_add-v c =
+    let x = c.before.before.before.before.before.before.before.before.before.before.before.before.args in
+    let u = c.find.ensures.1 in
+    let q : Within (At c.in-At.p c.in-At.v c.in-At.k) (length x.t.now) = rw c.in-At.is at u in omega arith
+
+pub overflow_sub-v : goal.overflow_sub-v
+overflow_sub-v c =
+    let entry = c.before.before.before.before.before.before.before.before.before.before.before.before in
+    let a = c.before.before.before.before.before.before.before.before.before.before.before.before.args in
+    let sec = c.before.before.before.before.before.before.before.before.before.section-of in
+    let st = c.before.before.before.before.before.before.before.before.start_of_lem in
+    let k = c.before.before.before.before.before.before.count_of in
+    let p = c.in-At.p in
+    let v = c.in-At.v in
+    let z = c.in-At.k in
+    let h = found-cuts (texts_at a.list sec.result sec.ensures) (text-written (ok_of a.list)) entry.requires.0 a.t.now a.layout entry.requires.1
+    entry.requires.2 (texts-sound a.list entry.requires.0 entry.requires.1 entry.requires.2.good).each
+    (text-apart a.list sec.result sec.ensures entry.requires.0 a.t.now a.layout entry.requires.1 entry.requires.2 a.x.now) a.x.now st.result
+    k.result st.ensures k.ensures.0 p v z (sym c.find.ensures.0 ∙ c.in-At.is) in omega (arith, h.over)
+
+pub overflow_sub-n : goal.overflow_sub-n
+overflow_sub-n c =
+    let entry = c.before.before.before.before.before.before.before.before.before.before.before.before in
+    let a = c.before.before.before.before.before.before.before.before.before.before.before.before.args in
+    let sec = c.before.before.before.before.before.before.before.before.before.section-of in
+    let st = c.before.before.before.before.before.before.before.before.start_of_lem in
+    let k = c.before.before.before.before.before.before.count_of in
+    let p = c.in-At.p in
+    let v = c.in-At.v in
+    let z = c.in-At.k in
+    let h = found-more (texts_at a.list sec.result sec.ensures) (text-written (ok_of a.list)) entry.requires.0 a.t.now a.layout entry.requires.1
+    entry.requires.2 (texts-sound a.list entry.requires.0 entry.requires.1 entry.requires.2.good).each
+    (text-apart a.list sec.result sec.ensures entry.requires.0 a.t.now a.layout entry.requires.1 entry.requires.2 a.x.now) a.x.now st.result
+    k.result st.ensures k.ensures.0 p v z (sym c.find.ensures.0 ∙ c.in-At.is) in omega (arith, h)
+
+pub cut-requires : goal.cut-requires
+cut-requires c =
+    let entry = c.before.before.before.before.before.before.before.before.before.before.before.before in
+    let a = c.before.before.before.before.before.before.before.before.before.before.before.before.args in
+    let sec = c.before.before.before.before.before.before.before.before.before.section-of in
+    let st = c.before.before.before.before.before.before.before.before.start_of_lem in
+    let k = c.before.before.before.before.before.before.count_of in
+    let p = c.in-At.p in
+    let v = c.in-At.v in
+    let z = c.in-At.k in
+    let h = found-cuts (texts_at a.list sec.result sec.ensures) (text-written (ok_of a.list)) entry.requires.0 a.t.now a.layout entry.requires.1
+    entry.requires.2 (texts-sound a.list entry.requires.0 entry.requires.1 entry.requires.2.good).each
+    (text-apart a.list sec.result sec.ensures entry.requires.0 a.t.now a.layout entry.requires.1 entry.requires.2 a.x.now) a.x.now st.result
+    k.result st.ensures k.ensures.0 p v z (sym c.find.ensures.0 ∙ c.in-At.is) in (h.rising, h.within, h.end, h.most)
+
+pub returns-in-At : goal.returns-in-At
+returns-in-At c =
+    let a = c.before.before.before.before.before.before.before.before.before.before.before.before.before.before.before.args in
+    let sec = c.before.before.before.before.before.before.before.before.before.before.before.before.section-of in
+    let st = c.before.before.before.before.before.before.before.before.before.before.before.start_of_lem in
+    let k = c.before.before.before.before.before.before.before.before.before.count_of in
+    let p = c.in-At.p in
+    let v = c.in-At.v in
+    let z = c.in-At.k in λ n s w. found-held (texts_at a.list sec.result sec.ensures)
+    (text-written (ok_of a.list)) n a.t.now a.layout s w (texts-sound a.list n s w.good).each
+    (text-apart a.list sec.result sec.ensures n a.t.now a.layout s w a.x.now) a.x.now st.result k.result st.ensures
+    k.ensures.0 p v z (sym c.find.ensures.0 ∙ c.in-At.is)
+    c.cut.new.0 c.cut.result c.cut.auto.0 c.cut.ensures
+    (text_less a.list sec.result sec.ensures n a.t.now a.layout s w a.x.now)
+
+pub returns-in-Missing : goal.returns-in-Missing
+returns-in-Missing c =
+    let a = c.before.before.before.before.before.before.before.before.before.before.args in
+    let sec = c.before.before.before.before.before.before.before.section-of in
+    let st = c.before.before.before.before.before.before.start_of_lem in
+    let k = c.before.before.before.before.count_of in λ n s w. subst (Held n a.t.now a.layout)
+    (sym (texts-same a.list s) ∙ ap (with_texts a.list s)
+    (missing_kept (texts_at a.list sec.result sec.ensures) (text-written (ok_of a.list)) n a.t.now
+    a.layout s w (texts-sound a.list n s w.good).each (text-apart a.list sec.result sec.ensures n a.t.now a.layout s w a.x.now)
+    a.x.now st.result k.result st.ensures k.ensures.0 c.in-Missing.field-0 (sym c.find.ensures.0 ∙ c.in-Missing.is))) w

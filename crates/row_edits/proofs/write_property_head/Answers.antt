@@ -1,0 +1,11 @@
+-- `row_edits::write_property_head` meets its contract.
+use Rattle.row_edits.proofs.Writes.{property_head}
+use Rattle.row_edits.proofs.write_property_head.Goals as goal
+
+pub returns : goal.returns
+returns c =
+    let x = c.args in
+    let a = x in
+    let put = c.put-next in
+    let put2 = c.put in
+    property_head a.head.now put.new.1.0 put2.new.1.0 put.result.at a.key a.value c.requires (λ i. (c.type_inv.head.given i).fits) put.ensures.bytes put.ensures.next put2.ensures.bytes

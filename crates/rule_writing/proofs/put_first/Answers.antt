@@ -1,0 +1,19 @@
+-- `rule_writing::put_first` meets its contract.
+use mathlib.Core.Path.{ap}
+use native.Mathlib.Omega.{arith}
+use lib.ListN.{length}
+use Rattle.rule_writing.proofs.Parts.{first_of}
+use Rattle.rule_writing.proofs.Writes.{placed_as}
+use Rattle.rule_writing.proofs.put_first.Goals as goal
+
+pub put_text-requires : goal.put_text-requires
+put_text-requires c =
+    let entry = c.before.before.before.before in
+    let a = entry.args in
+    omega (arith, entry.requires.1, ap length (first_of a.t3 a.len))
+
+pub returns : goal.returns
+returns c =
+    let entry = c.before.before.before.before.before.before.before in
+    let a = entry.args in
+    placed_as (first_of a.t3 a.len) c.put_text.ensures

@@ -1,0 +1,30 @@
+-- `rule_writing::put_name` meets its contract.
+use mathlib.Core.Path.{ap, ◌∙◌}
+use native.Mathlib.Omega.{arith}
+use lib.ListN.{length}
+use Rattle.rule_writing.proofs.Parts.{name_of_lem}
+use Rattle.rule_writing.proofs.Writes.{placed_as}
+use Rattle.kinds.proofs.Numbers.{key_few}
+use Rattle.keys.specs.Table.{key_of}
+use Rattle.rule_writing.proofs.put_name.Goals as goal
+
+pub row_at-row-requires : goal.row_at-row-requires
+row_at-row-requires c = omega (arith, c.wide.ensures, c.key_number.ensures, key_few (key_of c.args.key))
+
+pub put_first-requires : goal.put_first-requires
+put_first-requires c =
+    let a = c.args in
+    let k = c.wide in
+    let row = c.row_at-row in
+    let len = c.wide-2 in
+    let name = name_of_lem (key_of a.key) k.result row.result len.result (k.ensures ∙ c.key_number.ensures) row.ensures.0 len.ensures in
+    (omega (arith, len.ensures, row.ensures.1), omega (arith, c.requires, ap length name))
+
+pub returns : goal.returns
+returns c =
+    let a = c.args in
+    let k = c.wide in
+    let row = c.row_at-row in
+    let len = c.wide-2 in
+    let name = name_of_lem (key_of a.key) k.result row.result len.result (k.ensures ∙ c.key_number.ensures) row.ensures.0 len.ensures in
+    placed_as name c.put_first.ensures

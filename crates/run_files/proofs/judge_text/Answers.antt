@@ -1,0 +1,22 @@
+-- `run_files::judge_text` meets its contract.
+use Rattle.reader.specs.Texts.{TextIs}
+use Rattle.reader.specs.declared.TextRead.TheVariants as read
+use Rattle.run_files.proofs.judge_text.Goals as goal
+
+pub returns-in-Accepted : goal.returns-in-Accepted
+returns-in-Accepted c =
+    let read-text = c.read_text in
+    let entry = c.args in
+    let enum_told = c.in-Accepted in
+    let x = read-text.new in
+    let is : TextIs entry.text.now x.1.0 x.1.1.0 x.1.1.1.0 x.1.1.1.1.0 x.1.1.1.1.1.0 (read.Accepted enum_told.given.0.0) = rw enum_told.given.1 at read-text.ensures in
+    (_, is.is)
+
+pub returns-in-Refused : goal.returns-in-Refused
+returns-in-Refused c =
+    let read-text = c.read_text in
+    let entry = c.args in
+    let why = c.in-Refused in
+    let x = read-text.new in
+    let is : TextIs entry.text.now x.1.0 x.1.1.0 x.1.1.1.0 x.1.1.1.1.0 x.1.1.1.1.1.0 (read.Refused why.given.0.0 why.given.0.1.0) = rw why.given.1 at read-text.ensures in
+    is

@@ -1,0 +1,99 @@
+use Prim.Native.Nat.{ℕ, ◌+◌, ◌-◌}
+use mathlib.Core.Path.{◌≡◌, sym, ap, ◌∙◌}
+use lib.ListN.{get_or}
+use Rattle.text.specs.Reading.{read_text}
+use Rattle.rules.specs.Reading.{reader}
+use Rattle.file_order.specs.Order.{file_on}
+use Rattle.file_order.proofs.Numbers.{kept_at}
+use Rattle.run_files.specs.declared.TextJudged.TheVariants as verdict
+use Rattle.run_files.specs.Running.{TextIsJudged}
+use Rattle.run_files.proofs.Loading.{reading_first, reading_next, reading_fault, reading_all}
+use native.Mathlib.Omega.{arith}
+use Rattle.run_files.proofs.read_files.Goals as goal
+
+pub loop-k-init : goal.loop-k-init
+loop-k-init c =
+    let entry = c.args in
+    reading_first entry.set.now entry.starts.now entry.order.now entry.count
+
+pub bounds-order-k : goal.bounds-order-k
+bounds-order-k c =
+    let pre = c.requires in
+    let loop-test = c.loop-k-test in
+    omega (arith, pre.kept.room, loop-test.true)
+
+pub offset_bounds-starts-i : goal.offset_bounds-starts-i
+offset_bounds-starts-i c =
+    let pre = c.requires in
+    let entry = c.args in
+    let loop = c.loop-k in
+    let loop-test = c.loop-k-test in
+    let wide = c.wide-i in
+    let number = kept_at pre.files entry.order.now entry.count loop.k pre.kept (omega (arith, loop-test.true)) in
+    omega (arith, number, wide.ensures, pre.lies.room)
+
+pub bounds-starts-i : goal.bounds-starts-i
+bounds-starts-i c =
+    let pre = c.requires in
+    let entry = c.args in
+    let loop = c.loop-k in
+    let loop-test = c.loop-k-test in
+    let wide = c.wide-i in
+    let number = kept_at pre.files entry.order.now entry.count loop.k pre.kept (omega (arith, loop-test.true)) in
+    omega (arith, number, wide.ensures, pre.lies.room)
+
+pub text_of-requires : goal.text_of-requires
+text_of-requires c =
+    let pre = c.requires in
+    let entry = c.args in
+    let loop = c.loop-k in
+    let loop-test = c.loop-k-test in
+    let wide = c.wide-i in
+    let number = kept_at pre.files entry.order.now entry.count loop.k pre.kept (omega (arith, loop-test.true)) in
+    pre.lies.stand wide.result (omega (arith, number, wide.ensures))
+
+pub overflow_add-result : goal.overflow_add-result
+overflow_add-result c =
+    let pre = c.requires in
+    let entry = c.args in
+    let loop = c.loop-k in
+    let loop-test = c.loop-k-test in
+    let wide = c.wide-i in
+    let number = kept_at pre.files entry.order.now entry.count loop.k pre.kept (omega (arith, loop-test.true)) in
+    omega (arith, number, wide.ensures, pre.few)
+
+pub returns-in-Refused : goal.returns-in-Refused
+returns-in-Refused c =
+    let text_of = c.text_of in
+    let entry = c.args in
+    let loop = c.loop-k in
+    let wide = c.wide-i in
+    let judged = c.in-Refused in
+    let judge-text = c.judge_text-judged in
+    let pre = c.requires in
+    let loop-test = c.loop-k-test in
+    let here : text_of.result.now ≡ (file_on entry.set.now entry.starts.now (get_or entry.order.now loop.k 0)).text = text_of.ensures ∙ ap (λ (i : ℕ). (file_on entry.set.now entry.starts.now i).text) wide.ensures in
+    let is : TextIsJudged text_of.result.now (verdict.Refused judged.given.0.0 judged.given.0.1.0) = rw judged.given.1 at judge-text.ensures in
+    reading_fault entry.set.now entry.starts.now entry.order.now entry.count pre loop.k loop.invariant (omega (arith, loop-test.true)) _ _ _ (ap (λ (i : ℕ). i + 1) wide.ensures) is.0 (ap (read_text reader) (sym here) ∙ is.1)
+
+pub loop-k-preserved : goal.loop-k-preserved
+loop-k-preserved c =
+    let text_of = c.text_of in
+    let entry = c.args in
+    let loop = c.loop-k in
+    let wide = c.wide-i in
+    let enum_told = c.in_default in
+    let judge-text = c.judge_text-judged in
+    let pre = c.requires in
+    let loop-test = c.loop-k-test in
+    let here : text_of.result.now ≡ (file_on entry.set.now entry.starts.now (get_or entry.order.now loop.k 0)).text = text_of.ensures ∙ ap (λ (i : ℕ). (file_on entry.set.now entry.starts.now i).text) wide.ensures in
+    let is : TextIsJudged text_of.result.now verdict.Accepted = rw enum_told.given.1 at judge-text.ensures in
+    reading_next entry.set.now entry.starts.now entry.order.now entry.count pre loop.k loop.invariant (omega (arith, loop-test.true)) is.0 (ap (read_text reader) (sym here) ∙ is.1)
+
+pub returns : goal.returns
+returns c =
+    let entry = c.args in
+    let pre = c.requires in
+    let loop = c.loop-k in
+    let loop-test = c.loop-k-test in
+    reading_all entry.set.now entry.starts.now entry.order.now entry.count pre loop.k loop.invariant (omega (arith, loop-test.false))

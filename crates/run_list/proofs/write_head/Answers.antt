@@ -1,0 +1,26 @@
+-- `run_list::write_head` meets its contract.
+use Prim.Native.Nat.{ℕ, ◌+◌}
+use mathlib.Core.List.{◌∷◌}
+use mathlib.Core.Path.{ap, ◌∙◌}
+use Rattle.run_list.proofs.Heads.{command_head}
+use Rattle.bits.specs.Fields.{packed}
+use Rattle.run_list.proofs.write_head.Goals as goal
+
+pub returns : goal.returns
+returns c =
+    let entry = c.args in
+    let pre = c.requires in
+    let slice-known = c.type_inv.head in
+    let bit-of-call = c.bit_of in
+    let put-call = c.put-len_at in
+    let put2-call = c.put-unused_at in
+    let put3-call = c.put in
+    let args = entry in
+    let bit-of = bit-of-call in
+    let put = put-call in
+    let put2 = put2-call in
+    let put3 = put3-call in
+    command_head args.head.now put.new.1.0 put2.new.1.0 put3.new.1.0 put.result.at put2.result.at
+    bit-of.result args.len pre (λ i. (slice-known.given i).fits) put.ensures.bytes put.ensures.next put2.ensures.bytes
+    (put2.ensures.next ∙ ap (λ (i : ℕ). i + 10) put.ensures.next) put3.ensures.bytes ∙ ap
+    (λ (i : ℕ). packed ((1, i) ∷ (10, args.len) ∷ (5, 0) ∷ [])) bit-of.ensures

@@ -1,0 +1,6 @@
+-- `scan::byte_at` meets its contract.
+use lib.ListN.{get_or-eq_default}
+use Rattle.scan.proofs.byte_at.Goals as goal
+
+pub returns-else-i-s : goal.returns-else-i-s
+returns-else-i-s c = rw (get_or-eq_default c.args.s.now 0 c.if-i-s.false)

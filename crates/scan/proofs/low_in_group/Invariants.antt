@@ -1,0 +1,12 @@
+-- `scan::low_in_group` meets its contract.
+use Prim.Native.Nat.{◌+◌, ◌-◌, ◌≤◌}
+use mathlib.Core.Path.{◌≡◌}
+use mathlib.Core.Bool.{false}
+use Rattle.scan.specs.Groups.{AboveFrom}
+use Rattle.scan.proofs.low_in_group.Given as goal
+
+abbrev pub invariant-loop-i : goal.invariant-loop-i
+invariant-loop-i l = (l.i ≤ l.at + 16) × (l.low ≡ false → AboveFrom l.s l.at l.i)
+
+abbrev pub decreases-loop-i : goal.decreases-loop-i
+decreases-loop-i l = l.at + 16 - l.i

@@ -1,0 +1,14 @@
+-- `scan::trimmed_len` meets its contract.
+use Prim.Native.Nat.{◌≤◌}
+use mathlib.Core.Bool.{true}
+use mathlib.Core.Path.{◌≡◌}
+use lib.ListN.{length, drop}
+use Rattle.lists.specs.Bytes.{is_space}
+use Rattle.lists.specs.Lists.{all}
+use Rattle.scan.proofs.trimmed_len.Given as goal
+
+abbrev pub invariant-loop-n : goal.invariant-loop-n
+invariant-loop-n l = (l.n ≤ length l.s) × (all is_space (drop l.n l.s) ≡ true)
+
+abbrev pub decreases-loop-n : goal.decreases-loop-n
+decreases-loop-n l = l.n

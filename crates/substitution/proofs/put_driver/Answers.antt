@@ -1,0 +1,40 @@
+-- `substitution::put_driver` meets its contract.
+use mathlib.Core.Path.{◌∙◌}
+use Rattle.substitution.proofs.Parts.{appended_same, nothing_put, matched-text, unmatched_text}
+use Rattle.substitution.specs.declared.Matched.TheVariants.{At, Nothing}
+use Rattle.substitution.specs.Places.{MatchedIs, MatchedStands}
+use Rattle.engine.specs.Substitute.{of_matched}
+use Rattle.substitution.proofs.put_driver.Goals as goal
+
+pub driver_at-requires : goal.driver_at-requires
+driver_at-requires c =
+    let entry = c.args in
+    let pre = c.requires in
+    let matched-call = c.in-At in
+    let matched = matched-call in
+    let w : MatchedStands entry.dev.now (At matched.given.0.0) = rw matched.given.1 at pre.0 in
+    w
+
+pub returns-in-At : goal.returns-in-At
+returns-in-At c =
+    let entry = c.args in
+    let matched-call = c.in-At in
+    let driver-at = c.driver_at in
+    let put-text-call = c.put_text in
+    let args = entry in
+    let matched = matched-call in
+    let put-text = put-text-call in
+    λ o h.
+    let w : MatchedIs args.dev.now (At matched.given.0.0) o = rw matched.given.1 at h in
+    appended_same args.spaceless _ (of_matched o (λ n. n.driver)) args.out.now args.used put-text.result _
+    (driver-at.ensures w.0 w.2 ∙ matched-text (λ n. n.driver) o w.0 w.1) put-text.ensures
+
+pub returns-in-Nothing : goal.returns-in-Nothing
+returns-in-Nothing c =
+    let entry = c.args in
+    let pre = c.requires in
+    let args = entry in
+    λ o h.
+    let w : MatchedIs args.dev.now Nothing o = rw c.in-Nothing.is at h in
+    nothing_put args.spaceless (of_matched o (λ n. n.driver)) args.out.now args.used (unmatched_text (λ n. n.driver) o w)
+    pre.1
