@@ -36,27 +36,6 @@ lent_at-requires c =
     let loop = c.loop-left in
     loop.invariant.0
 
-pub returns-in_default : goal.returns-in_default
-returns-in_default c =
-    let loop = c.loop-left in
-    let entry = c.args in
-    let enum_told = c.in_default in
-    let lent_at_lem = c.before.before.lent_at_lem in
-    let loop-test = c.loop-left-test in
-    let none : one_lent (drop loop.p entry.set.now) ≡ bad = rw enum_told.given.1 at lent_at_lem.ensures in
-    sym (turn-bad one_lent loop.left (drop loop.p entry.set.now) (omega (arith, loop-test.true)) none) ∙ loop.invariant.1
-
-pub loop-left-preserved : goal.loop-left-preserved
-loop-left-preserved c =
-    let place = c.in-Inside in
-    let entry = c.args in
-    let loop = c.loop-left in
-    let lent_at_lem = c.before.before.before.before.lent_at_lem in
-    let loop-test = c.loop-left-test in
-    let r = place.given.0.0 in
-    let is : LentIs entry.set.now loop.p r = rw place.given.1 at lent_at_lem.ensures in
-    (is.outcome.within, sym (turn-whole one_lent loop.left (drop loop.p entry.set.now) (drop r.outcome.end entry.set.now) (lent_in entry.set.now r) (omega (arith, loop-test.true)) is.read) ∙ loop.invariant.1)
-
 pub returns : goal.returns
 returns c =
     let entry = c.args in
