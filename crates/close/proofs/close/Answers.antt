@@ -20,7 +20,7 @@ returns-then-target-lt-FULLEST c =
     let args = entry in
     let clear = clear-call in
     let the-refusal = c.refused in
-    let e : length clear.new.0 ≡ length args.target.now = omega arith in
+    let e : length clear.new.t ≡ length args.target.now = omega arith in
     ap (answered the-refusal.result) clear.ensures ∙ the-refusal.ensures (length args.target.now) ∙ sym
     (close_short args.device.now args.outcome.now (length args.target.now) (omega (arith, c.if-target-lt-FULLEST.true)))
 
@@ -33,7 +33,7 @@ returns-then-not-check c =
     let args = entry in
     let clear = clear-call in
     let refused2 = c.refused-then-not-check in
-    let e : length clear.new.0 ≡ length args.target.now = omega arith in
+    let e : length clear.new.t ≡ length args.target.now = omega arith in
     let h : fullest_run_list ≤ length args.target.now = omega (arith, if1.false) in
     ap (answered refused2.result) clear.ensures ∙ refused2.ensures (length args.target.now) ∙ sym
     (close_device args.device.now args.outcome.now (length args.target.now) h
@@ -59,12 +59,12 @@ list-requires c =
     let clear = clear-call in
     let chain-of = chain-of-call in
     let layout = layout-call in
-    let e : length clear.new.0 ≡ length args.target.now = omega arith in
+    let e : length clear.new.t ≡ length args.target.now = omega arith in
     let h : fullest_run_list ≤ length args.target.now = omega (arith, if1.false) in
-    let d = is-some (decode args.device.now) (sym check.ensures ∙ not-false _ if2.false) in
+    let d = is-some (decode args.device.now) (sym check.ensures ∙ not-false _ if2.false-raw) in
     let w =
     close_both args.device.now args.outcome.now (length args.target.now) h d.0 d.1 chain-of.result
-    (chain-of.ensures d.0 d.1) layout.given.0.0 (sym layout.given.1 ∙ check2.ensures) in
+    (chain-of.ensures d.0 d.1) layout.layout (sym layout.is ∙ check2.ensures) in
     (omega (arith, e, h), clear.ensures ∙ ap (λ (n : ℕ). replicate n 0) (sym e), (d.0, w.0, w.1))
 
 pub returns-in-Sound : goal.returns-in-Sound
@@ -81,14 +81,14 @@ returns-in-Sound c =
     let args = entry in
     let chain-of = chain-of-call in
     let layout = layout-call in
-    let e : length clear.new.0 ≡ length args.target.now = omega arith in
+    let e : length clear.new.t ≡ length args.target.now = omega arith in
     let h : fullest_run_list ≤ length args.target.now = omega (arith, if1.false) in
-    let d = is-some (decode args.device.now) (sym check.ensures ∙ not-false _ if2.false) in
+    let d = is-some (decode args.device.now) (sym check.ensures ∙ not-false _ if2.false-raw) in
     let w =
     close_both args.device.now args.outcome.now (length args.target.now) h d.0 d.1 chain-of.result
-    (chain-of.ensures d.0 d.1) layout.given.0.0 (sym layout.given.1 ∙ check2.ensures) in
+    (chain-of.ensures d.0 d.1) layout.layout (sym layout.is ∙ check2.ensures) in
     list.ensures d.0 w.0 w.1 ∙ ap (λ (n : ℕ). given n (listed (commands d.0 w.0.properties w.0.output w.0.runs))) e ∙ sym
-    (close-listed args.device.now args.outcome.now (length args.target.now) h chain-of.result layout.given.0.0
+    (close-listed args.device.now args.outcome.now (length args.target.now) h chain-of.result layout.layout
     d.0 w.0 w.1)
 
 pub returns-in-Faulty : goal.returns-in-Faulty
@@ -104,9 +104,9 @@ returns-in-Faulty c =
     let clear = clear-call in
     let chain-of = chain-of-call in
     let refused3 = c.refused-in-Faulty in
-    let e : length clear.new.0 ≡ length args.target.now = omega arith in
+    let e : length clear.new.t ≡ length args.target.now = omega arith in
     let h : fullest_run_list ≤ length args.target.now = omega (arith, if1.false) in
-    let d = is-some (decode args.device.now) (sym check.ensures ∙ not-false _ if2.false) in
+    let d = is-some (decode args.device.now) (sym check.ensures ∙ not-false _ if2.false-raw) in
     ap (answered refused3.result) clear.ensures ∙ refused3.ensures (length args.target.now) ∙ sym
     (close_outcome args.device.now args.outcome.now (length args.target.now) h d.0 d.1 chain-of.result
     (chain-of.ensures d.0 d.1) (sym c.in-Faulty.is ∙ check2.ensures))

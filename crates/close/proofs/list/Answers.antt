@@ -24,8 +24,8 @@ accepted-requires c =
     let args = entry in
     let write = write-call in
     let used = c.in-Done in
-    let w : Written (commands pre.2.0 pre.2.1.properties pre.2.1.output pre.2.1.runs) args.t.now (Done used.given.0.0) write.new.0 =
-    rw used.given.1 at (write.ensures pre.2.0 pre.2.1 pre.2.2) in (
+    let w : Written (commands pre.2.0 pre.2.1.properties pre.2.1.output pre.2.1.runs) args.t.now (Done used.used) write.new.t =
+    rw used.is at (write.ensures pre.2.0 pre.2.1 pre.2.2) in (
       omega arith,
       omega arith,
       omega (
@@ -33,7 +33,7 @@ accepted-requires c =
         w.2.end,
         list_few pre.2.0 pre.2.1.properties pre.2.1.output pre.2.1.runs w.0 w.1
             (runs_few args.dev.now args.rec.now args.chain args.layout pre.2.0 pre.2.1
-            (λ i. (shared-slice-known2.given i).fits) pre.2.2),
+            (λ i. (shared-slice-known2 i).fits) pre.2.2),
       ),
     )
 
@@ -48,10 +48,10 @@ returns-in-Done c =
     let used = used-call in
     let accepted = c.accepted in
     λ d s b.
-    let w : Written (commands d s.properties s.output s.runs) args.t.now (Done used.given.0.0) write.new.0 =
-    rw used.given.1 at (write.ensures d s b) in
+    let w : Written (commands d s.properties s.output s.runs) args.t.now (Done used.used) write.new.t =
+    rw used.is at (write.ensures d s b) in
     ap (answered accepted.result)
-    (list_bytes args.t.now (run_list w.0) write.new.0 (length args.t.now) used.given.0.0 pre.1 w.2) ∙
+    (list_bytes args.t.now (run_list w.0) write.new.t (length args.t.now) used.used pre.1 w.2) ∙
     accepted.ensures (length args.t.now) (run_list w.0) (omega (arith, w.2.end)) ∙ listed-given (length args.t.now)
     (commands d s.properties s.output s.runs) w.0 w.1
 
@@ -65,7 +65,7 @@ returns-in-Full c =
     let write = write-call in
     let the-refusal = c.refused in
     λ d s b.
-    let e : length write.new.0 ≡ length args.t.now = omega arith in
-    let f : commands d s.properties s.output s.runs ≡ checked.refused substitution_long = rw enum_told.given.1 at (write.ensures d s b) in
+    let e : length write.new.t ≡ length args.t.now = omega arith in
+    let f : commands d s.properties s.output s.runs ≡ checked.refused substitution_long = rw enum_told.is at (write.ensures d s b) in
     ap (answered the-refusal.result) (clear.ensures ∙ ap (λ (n : ℕ). replicate n 0) e) ∙ the-refusal.ensures (length args.t.now) ∙
     refused-given (length args.t.now) (commands d s.properties s.output s.runs) f

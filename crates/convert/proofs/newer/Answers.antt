@@ -19,7 +19,7 @@ returns-then-target-lt-FULLEST c =
     let a = c.args in
     let clear = c.clear in
     let m = length a.target.now in
-    let e : length clear.new.0 ≡ m = omega arith in
+    let e : length clear.new.t ≡ m = omega arith in
     ap (answered c.refused.result) clear.ensures ∙ c.refused.ensures m ∙ sym (newer_short a.device.now a.outcome.now m (omega (arith, c.if-target-lt-FULLEST.true)))
 
 pub returns-then-not-check : goal.returns-then-not-check
@@ -27,7 +27,7 @@ returns-then-not-check c =
     let a = c.args in
     let clear = c.clear in
     let m = length a.target.now in
-    let e : length clear.new.0 ≡ m = omega arith in
+    let e : length clear.new.t ≡ m = omega arith in
     let h : fullest_outcome ≤ m = omega (arith, c.if-target-lt-FULLEST.false) in
     ap (answered c.refused-then-not-check.result) clear.ensures ∙ c.refused-then-not-check.ensures m ∙ sym (newer_device a.device.now a.outcome.now m h (sym c.check.ensures ∙ not-true _ c.if-not-check.true-raw))
 
@@ -40,7 +40,7 @@ pub renew-requires : goal.renew-requires
 renew-requires c =
     let a = c.args in
     let clear = c.clear in
-    (c.if-target-lt-FULLEST.false, clear.ensures ∙ ap (λ (n : ℕ). replicate n 0) (sym clear.auto.0))
+    (c.if-target-lt-FULLEST.false, clear.ensures ∙ ap (λ (n : ℕ). replicate n 0) (sym clear.auto.t))
 
 pub returns : goal.returns
 returns c =
@@ -49,7 +49,7 @@ returns c =
     let chain-of = c.chain_of-chain in
     let check = c.check in
     let m = length a.target.now in
-    let e : length clear.new.0 ≡ m = clear.auto.0 in
+    let e : length clear.new.t ≡ m = clear.auto.t in
     let h : fullest_outcome ≤ m = omega (arith, c.if-target-lt-FULLEST.false) in
     let d = is-some (D.decode a.device.now) (sym check.ensures ∙ not-false _ c.if-not-check.false-raw) in
     let n = chain-of.result.len in

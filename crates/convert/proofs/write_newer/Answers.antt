@@ -64,14 +64,14 @@ store-requires-2 c =
     let pre = c.requires in
     let like = old_like_lem a.old.now pre.0 in
     let store = c.store in
-    omega (arith, like.header, like.short, pre.1, length-drop 11 a.old.now, store.auto.0, length-set a.t.now 0 (get_or a.old.now 0 0 + 16))
+    omega (arith, like.header, like.short, pre.1, length-drop 11 a.old.now, store.auto.t, length-set a.t.now 0 (get_or a.old.now 0 0 + 16))
 
 pub shape_of-t : goal.shape_of-t
 shape_of-t c =
     let a = c.args in
     let store = c.store in
     let store2 = c.store-2 in
-    store2.auto.0 ∙ store.auto.0 ∙ length-set a.t.now 0 (get_or a.old.now 0 0 + 16)
+    store2.auto.t ∙ store.auto.t ∙ length-set a.t.now 0 (get_or a.old.now 0 0 + 16)
 
 pub returns : goal.returns
 returns c =
@@ -81,5 +81,5 @@ returns c =
     let store = c.store in
     let store2 = c.store-2 in
     let m = length a.t.now in
-    renewed_in a.old.now m a.t.now _ store.new.0 store2.new.0 like.header (omega (arith, like.short, pre.1)) pre.2 refl store.ensures
-    (store2.ensures ∙ ap (stored store.new.0 13) (take_all (length a.old.now - 11) (drop 11 a.old.now) (omega (arith, length-drop 11 a.old.now))))
+    renewed_in a.old.now m a.t.now _ store.new.t store2.new.t like.header (omega (arith, like.short, pre.1)) pre.2 refl store.ensures
+    (store2.ensures ∙ ap (stored store.new.t 13) (take_all (length a.old.now - 11) (drop 11 a.old.now) (omega (arith, length-drop 11 a.old.now))))

@@ -56,14 +56,14 @@ store-requires-2 c =
     let a = c.args in
     let pre = c.requires in
     let store = c.store in
-    omega (arith, pre.0, pre.1, length-drop 13 a.rec.now, store.auto.0, length-set a.t.now 0 (get_or a.rec.now 0 0 - 16))
+    omega (arith, pre.0, pre.1, length-drop 13 a.rec.now, store.auto.t, length-set a.t.now 0 (get_or a.rec.now 0 0 - 16))
 
 pub shape_of-t : goal.shape_of-t
 shape_of-t c =
     let a = c.args in
     let store = c.store in
     let store2 = c.store-2 in
-    store2.auto.0 ∙ store.auto.0 ∙ length-set a.t.now 0 (get_or a.rec.now 0 0 - 16)
+    store2.auto.t ∙ store.auto.t ∙ length-set a.t.now 0 (get_or a.rec.now 0 0 - 16)
 
 pub returns : goal.returns
 returns c =
@@ -72,5 +72,5 @@ returns c =
     let store = c.store in
     let store2 = c.store-2 in
     let m = length a.t.now in
-    aged_in a.rec.now m a.t.now _ store.new.0 store2.new.0 pre.0 (omega (arith, pre.0, pre.1)) pre.3 refl store.ensures
-    (store2.ensures ∙ ap (stored store.new.0 11) (take_all (length a.rec.now - 13) (drop 13 a.rec.now) (omega (arith, length-drop 13 a.rec.now))))
+    aged_in a.rec.now m a.t.now _ store.new.t store2.new.t pre.0 (omega (arith, pre.0, pre.1)) pre.3 refl store.ensures
+    (store2.ensures ∙ ap (stored store.new.t 11) (take_all (length a.rec.now - 13) (drop 13 a.rec.now) (omega (arith, length-drop 13 a.rec.now))))

@@ -34,7 +34,7 @@ substitute-requires c =
         source_of d entry.place s,
         (subst (λ (from : Places). From entry.dev.now entry.t.now from (source_of d entry.place s))
             (sym c.places_of-from.ensures)
-            (chain_source entry.dev.now d (λ i. (shared-slice-known2.given i).fits) h.device entry.chain h.chained
+            (chain_source entry.dev.now d (λ i. (shared-slice-known2 i).fits) h.device entry.chain h.chained
             entry.t.now row_of.result.at row_of.result.count s.properties
             (row_of.ensures (length (chain d)) s h.held).read.0 (row_of.ensures (length (chain d)) s h.held).within
             (row_of.ensures (length (chain d)) s h.held).read.1 s.output
@@ -54,7 +54,7 @@ returns c =
     λ d s h.
     substitute.ensures (source_of d entry.place s)
     (subst (λ (from : Places). From entry.dev.now entry.t.now from (source_of d entry.place s)) (sym places_of.ensures)
-    (chain_source entry.dev.now d (λ i. (shared-slice-known2.given i).fits) h.device entry.chain h.chained
+    (chain_source entry.dev.now d (λ i. (shared-slice-known2 i).fits) h.device entry.chain h.chained
     entry.t.now row_of.result.at row_of.result.count s.properties
     (row_of.ensures (length (chain d)) s h.held).read.0 (row_of.ensures (length (chain d)) s h.held).within
     (row_of.ensures (length (chain d)) s h.held).read.1 s.output

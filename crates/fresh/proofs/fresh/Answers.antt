@@ -17,7 +17,7 @@ returns-then-target-lt-FULLEST c =
     let given = c.args in
     let x = given in
     let a = x in ap (answered c.refused.result) c.clear.ensures ∙ c.refused.ensures (length a.target.now) ∙ sym
-    (given_short a.device.now (length a.target.now) (omega (arith, c.clear.auto.0, c.if-target-lt-FULLEST.true)))
+    (given_short a.device.now (length a.target.now) (omega (arith, c.clear.auto.t, c.if-target-lt-FULLEST.true)))
 
 pub returns-then-not-check : goal.returns-then-not-check
 returns-then-not-check c =
@@ -25,7 +25,7 @@ returns-then-not-check c =
     let x = given in
     let a = x in ap (answered c.refused-then-not-check.result) c.clear.ensures ∙ c.refused-then-not-check.ensures
     (length a.target.now) ∙ sym (given-faulty a.device.now (length a.target.now)
-    (omega (arith, c.clear.auto.0, c.if-target-lt-FULLEST.false)) (sym c.check.ensures ∙ not-true _ c.if-not-check.true-raw))
+    (omega (arith, c.clear.auto.t, c.if-target-lt-FULLEST.false)) (sym c.check.ensures ∙ not-true _ c.if-not-check.true-raw))
 
 pub write_record-requires : goal.write_record-requires
 write_record-requires c =
@@ -36,7 +36,7 @@ write_record-requires c =
           c.if-not-check.false-raw),
       c.if-target-lt-FULLEST.false,
       c.clear.ensures ∙ ap (λ (i : ℕ). replicate i 0)
-          (sym c.clear.auto.0),
+          (sym c.clear.auto.t),
     )
 
 pub accepted-requires : goal.accepted-requires
@@ -54,7 +54,7 @@ returns c =
     let a = x in
     let (d, e) = is-some (decode a.device.now) (sym c.check.ensures ∙ not-false _ c.if-not-check.false-raw) in
     let v = c.write_record.ensures d e in ap (answered c.accepted.result)
-    v.0 ∙ c.accepted.ensures (length c.write_record.new.0) (encode (fresh d))
+    v.0 ∙ c.accepted.ensures (length c.write_record.new.t) (encode (fresh d))
     v.1 ∙ ap (λ (i : ℕ). acceptance i 0 0 (encode (fresh d)))
-    (c.write_record.auto.0 ∙ c.clear.auto.0) ∙ sym
-    (given_made a.device.now (length a.target.now) (omega (arith, c.clear.auto.0, c.if-target-lt-FULLEST.false)) d e)
+    (c.write_record.auto.t ∙ c.clear.auto.t) ∙ sym
+    (given_made a.device.now (length a.target.now) (omega (arith, c.clear.auto.t, c.if-target-lt-FULLEST.false)) d e)

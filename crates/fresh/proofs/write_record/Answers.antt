@@ -14,7 +14,7 @@ pub read_head-head-requires : goal.read_head-head-requires
 read_head-head-requires c =
     let entry = c.args in
     let (d, e) = c.requires.0 in
-    let bytes : Bytes entry.device.now = λ i. (c.type_inv.device.given i).fits in
+    let bytes : Bytes entry.device.now = λ i. (c.type_inv.device i).fits in
     record_head entry.device.now d bytes e
 
 pub store-requires : goal.store-requires
@@ -25,9 +25,9 @@ store-requires c =
     let put-field = c.put_field in
     let set-count = c.set_count in
     let (d, e) = pre.0 in
-    let bytes : Bytes entry.device.now = λ i. (c.type_inv.device.given i).fits in
+    let bytes : Bytes entry.device.now = λ i. (c.type_inv.device i).fits in
     let size = made-length d properties.result.now (properties.ensures d e) in
-    omega (arith, size, made-fits entry.device.now d e, set-count.auto.0, put-field.auto.0, pre.1)
+    omega (arith, size, made-fits entry.device.now d e, set-count.auto.t, put-field.auto.t, pre.1)
 
 pub returns : goal.returns
 returns c =
@@ -40,13 +40,13 @@ returns c =
     let slice-known2 = c.type_inv.t in
     let set-count = c.set_count in
     let store = c.store in
-    let bytes : Bytes entry.device.now = λ i. (c.type_inv.device.given i).fits in
-    let size = store.auto.0 ∙ set-count.auto.0 ∙ put-field.auto.0 in
+    let bytes : Bytes entry.device.now = λ i. (c.type_inv.device i).fits in
+    let size = store.auto.t ∙ set-count.auto.t ∙ put-field.auto.t in
     λ d e.
     let rows = properties.ensures d e in
     let count = head_count entry.device.now d read_head.result bytes e (record_head entry.device.now d bytes e) read_head.ensures in (
-      made (length entry.t.now) entry.t.now put-field.new.0 set-count.new.0 store.new.0 (omega (arith, pre.1)) pre.2
-          (λ i. (slice-known.given i).fits) put-field.ensures (λ i. (slice-known2.given i).fits) d read_head.result.properties
+      made (length entry.t.now) entry.t.now put-field.new.t set-count.new.t store.new.t (omega (arith, pre.1)) pre.2
+          (λ i. (slice-known i).fits) put-field.ensures (λ i. (slice-known2 i).fits) d read_head.result.properties
           properties.result.now count rows set-count.ensures store.ensures
           ∙ ap (λ (i : ℕ). padded i (encode (fresh d))) (sym size),
       made-length d properties.result.now rows,

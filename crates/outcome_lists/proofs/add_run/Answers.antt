@@ -12,7 +12,7 @@ use Rattle.outcome_lists.proofs.add_run.Goals as goal
 
 pub append_run-requires : goal.append_run-requires
 append_run-requires c =
-    let entry = c.before.before.before.before.before.before.before in
+    let entry = c in
     let x = entry.args in
     let a = x in
     let k = c.count_of-n in
@@ -21,7 +21,7 @@ append_run-requires c =
 
 pub returns-then-n-lt16 : goal.returns-then-n-lt16
 returns-then-n-lt16 c =
-    let given = c.before.before.before.before.before.before.before.before.before.before.args in
+    let given = c.args in
     let x = given in
     let a = x in
     let k = c.count_of-n in λ n s w o. let i : length
@@ -35,11 +35,11 @@ returns-then-n-lt16 c =
       append_last 16 (run_of a.builtin a.place a.template.now)
           s.runs i,
       run_grown n a.t.now a.layout s w a.builtin a.place a.template.now o k.result c.bit_of.result
-          k.ensures.0 i c.bit_of.ensures c.append_run.new.0 c.append_run.result
-          c.append_run.auto.0 c.append_run.ensures,
+          k.ensures.0 i c.bit_of.ensures c.append_run.new.t c.append_run.result
+          c.append_run.auto.t c.append_run.ensures,
     )
 
 pub returns-else-n-lt16 : goal.returns-else-n-lt16
 returns-else-n-lt16 c =
-    let a = c.before.before.before.before.before.args in
+    let a = c.args in
     let k = c.count_of-n in λ n s w o. append_full 16 (run_of a.builtin a.place a.template.now) s.runs (omega (arith, k.ensures.0, row_count runs-row n a.t.now a.layout s w))

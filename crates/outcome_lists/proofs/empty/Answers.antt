@@ -10,20 +10,20 @@ use Rattle.outcome_lists.proofs.empty.Goals as goal
 pub overflow_sub-end : goal.overflow_sub-end
 overflow_sub-end c =
     let x = c.args in
-    let h = whole c.requires.0 x.t.now x.layout c.requires.1 c.requires.2 x.section in omega (arith, c.before.before.start_of_lem.ensures, c.before.end_of_lem.ensures)
+    let h = whole c.requires.0 x.t.now x.layout c.requires.1 c.requires.2 x.section in omega (arith, c.start_of_lem.ensures, c.end_of_lem.ensures)
 
 pub cut-requires : goal.cut-requires
 cut-requires c =
     let x = c.args in
-    let h = whole c.requires.0 x.t.now x.layout c.requires.1 c.requires.2 x.section in (h.rising, omega (arith, c.before.before.start_of_lem.ensures, c.before.end_of_lem.ensures), h.end, h.most)
+    let h = whole c.requires.0 x.t.now x.layout c.requires.1 c.requires.2 x.section in (h.rising, omega (arith, c.start_of_lem.ensures, c.end_of_lem.ensures), h.end, h.most)
 
 pub returns : goal.returns
 returns c =
     let x = c.args in
-    let a = x in λ n s w. section_emptied n a.t.now a.layout s w a.section c.cut.new.0 c.cut.result
-    c.cut.auto.0 (subst (λ (i : ℕ). Cut a.t.now a.layout
-    a.section i (end_of a.layout a.section - i) 0 c.cut.new.0 c.cut.result)
-    c.before.before.before.before.before.start_of_lem.ensures
-    (subst (λ (i : ℕ). Cut a.t.now a.layout a.section c.before.before.before.before.before.start_of_lem.result
-    (i - c.before.before.before.before.before.start_of_lem.result) 0 c.cut.new.0 c.cut.result)
-    c.before.before.before.before.end_of_lem.ensures c.cut.ensures))
+    let a = x in λ n s w. section_emptied n a.t.now a.layout s w a.section c.cut.new.t c.cut.result
+    c.cut.auto.t (subst (λ (i : ℕ). Cut a.t.now a.layout
+    a.section i (end_of a.layout a.section - i) 0 c.cut.new.t c.cut.result)
+    c.start_of_lem.ensures
+    (subst (λ (i : ℕ). Cut a.t.now a.layout a.section c.start_of_lem.result
+    (i - c.start_of_lem.result) 0 c.cut.new.t c.cut.result)
+    c.end_of_lem.ensures c.cut.ensures))

@@ -14,27 +14,27 @@ use Rattle.outcome_lists.proofs.remove.Goals as goal
 
 pub find-requires : goal.find-requires
 find-requires c =
-    let entry = c.before.before.before.before.before.before.before in
+    let entry = c in
     let x = entry.args in
     let a = x in
-    let sec = c.before.before.before.before.section-of in
-    let st = c.before.before.before.start_of_lem in
-    let k = c.before.count_of in
+    let sec = c.section-of in
+    let st = c.start_of_lem in
+    let k = c.count_of in
     let h = texts_read a.list sec.result sec.ensures entry.requires.0 a.t.now a.layout entry.requires.1 entry.requires.2 st.result k.result st.ensures k.ensures.0 in (h.within, h.row)
 
 pub overflow_add-v : goal.overflow_add-v
 overflow_add-v c =
-    let x = c.before.before.before.before.before.before.before.before.before.before.before.before.args in
+    let x = c.args in
     let u = c.find.ensures.1 in
     let q : Within (At c.in-At.p c.in-At.v c.in-At.k) (length x.t.now) = rw c.in-At.is at u in omega arith
 
 pub overflow_sub-v : goal.overflow_sub-v
 overflow_sub-v c =
-    let entry = c.before.before.before.before.before.before.before.before.before.before.before.before in
-    let a = c.before.before.before.before.before.before.before.before.before.before.before.before.args in
-    let sec = c.before.before.before.before.before.before.before.before.before.section-of in
-    let st = c.before.before.before.before.before.before.before.before.start_of_lem in
-    let k = c.before.before.before.before.before.before.count_of in
+    let entry = c in
+    let a = c.args in
+    let sec = c.section-of in
+    let st = c.start_of_lem in
+    let k = c.count_of in
     let p = c.in-At.p in
     let v = c.in-At.v in
     let z = c.in-At.k in
@@ -45,11 +45,11 @@ overflow_sub-v c =
 
 pub overflow_sub-n : goal.overflow_sub-n
 overflow_sub-n c =
-    let entry = c.before.before.before.before.before.before.before.before.before.before.before.before in
-    let a = c.before.before.before.before.before.before.before.before.before.before.before.before.args in
-    let sec = c.before.before.before.before.before.before.before.before.before.section-of in
-    let st = c.before.before.before.before.before.before.before.before.start_of_lem in
-    let k = c.before.before.before.before.before.before.count_of in
+    let entry = c in
+    let a = c.args in
+    let sec = c.section-of in
+    let st = c.start_of_lem in
+    let k = c.count_of in
     let p = c.in-At.p in
     let v = c.in-At.v in
     let z = c.in-At.k in
@@ -60,11 +60,11 @@ overflow_sub-n c =
 
 pub cut-requires : goal.cut-requires
 cut-requires c =
-    let entry = c.before.before.before.before.before.before.before.before.before.before.before.before in
-    let a = c.before.before.before.before.before.before.before.before.before.before.before.before.args in
-    let sec = c.before.before.before.before.before.before.before.before.before.section-of in
-    let st = c.before.before.before.before.before.before.before.before.start_of_lem in
-    let k = c.before.before.before.before.before.before.count_of in
+    let entry = c in
+    let a = c.args in
+    let sec = c.section-of in
+    let st = c.start_of_lem in
+    let k = c.count_of in
     let p = c.in-At.p in
     let v = c.in-At.v in
     let z = c.in-At.k in
@@ -75,25 +75,25 @@ cut-requires c =
 
 pub returns-in-At : goal.returns-in-At
 returns-in-At c =
-    let a = c.before.before.before.before.before.before.before.before.before.before.before.before.before.before.before.args in
-    let sec = c.before.before.before.before.before.before.before.before.before.before.before.before.section-of in
-    let st = c.before.before.before.before.before.before.before.before.before.before.before.start_of_lem in
-    let k = c.before.before.before.before.before.before.before.before.before.count_of in
+    let a = c.args in
+    let sec = c.section-of in
+    let st = c.start_of_lem in
+    let k = c.count_of in
     let p = c.in-At.p in
     let v = c.in-At.v in
     let z = c.in-At.k in λ n s w. found-held (texts_at a.list sec.result sec.ensures)
     (text-written (ok_of a.list)) n a.t.now a.layout s w (texts-sound a.list n s w.good).each
     (text-apart a.list sec.result sec.ensures n a.t.now a.layout s w a.x.now) a.x.now st.result k.result st.ensures
     k.ensures.0 p v z (sym c.find.ensures.0 ∙ c.in-At.is)
-    c.cut.new.0 c.cut.result c.cut.auto.0 c.cut.ensures
+    c.cut.new.t c.cut.result c.cut.auto.t c.cut.ensures
     (text_less a.list sec.result sec.ensures n a.t.now a.layout s w a.x.now)
 
 pub returns-in-Missing : goal.returns-in-Missing
 returns-in-Missing c =
-    let a = c.before.before.before.before.before.before.before.before.before.before.args in
-    let sec = c.before.before.before.before.before.before.before.section-of in
-    let st = c.before.before.before.before.before.before.start_of_lem in
-    let k = c.before.before.before.before.count_of in λ n s w. subst (Held n a.t.now a.layout)
+    let a = c.args in
+    let sec = c.section-of in
+    let st = c.start_of_lem in
+    let k = c.count_of in λ n s w. subst (Held n a.t.now a.layout)
     (sym (texts-same a.list s) ∙ ap (with_texts a.list s)
     (missing_kept (texts_at a.list sec.result sec.ensures) (text-written (ok_of a.list)) n a.t.now
     a.layout s w (texts-sound a.list n s w.good).each (text-apart a.list sec.result sec.ensures n a.t.now a.layout s w a.x.now)

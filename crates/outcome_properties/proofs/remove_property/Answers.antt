@@ -15,71 +15,71 @@ use Rattle.outcome_properties.proofs.remove_property.Goals as goal
 
 pub find-requires : goal.find-requires
 find-requires c =
-    let a = c.before.before.before.before.before.args in
-    let k = c.before.count_of in
-    let h = properties_read (c.before.before.before.before.before.requires.0) a.t.now a.layout (c.before.before.before.before.before.requires.1) (c.before.before.before.before.before.requires.2) a.layout.properties k.result refl k.ensures.0 in (h.within, h.row)
+    let a = c.args in
+    let k = c.count_of in
+    let h = properties_read (c.requires.0) a.t.now a.layout (c.requires.1) (c.requires.2) a.layout.properties k.result refl k.ensures.0 in (h.within, h.row)
 
 pub overflow_add-v : goal.overflow_add-v
 overflow_add-v c =
-    let x = c.before.before.before.before.before.before.before.before.before.before.args in
+    let x = c.args in
     let u = c.find.ensures.1 in
     let q : Within (At c.in-At.p c.in-At.v c.in-At.k) (length x.t.now) = rw c.in-At.is at u in omega arith
 
 pub overflow_sub-v : goal.overflow_sub-v
 overflow_sub-v c =
-    let pre = c.before.before.before.before.before.before.before.before.before.before.requires in
-    let entry = c.before.before.before.before.before.before.before.before.before.before.args in
+    let pre = c.requires in
+    let entry = c.args in
     let held = pre.2 in
-    let count_of = c.before.before.before.before.before.before.count_of in
-    let p = c.in-At.given in
-    let found = sym c.find.ensures.0 ∙ p.1 in
+    let count_of = c.count_of in
+    let p = c.in-At in
+    let found = sym c.find.ensures.0 ∙ p.is in
     let h = found-cuts properties-row property-written pre.0 entry.t.now entry.layout pre.1 held held.good.properties.each held.good.properties.apart
-    entry.key.now entry.layout.properties count_of.result refl count_of.ensures.0 p.0.0 p.0.1.0 p.0.1.1.0 found in
+    entry.key.now entry.layout.properties count_of.result refl count_of.ensures.0 p.p p.v p.k found in
     omega (arith, h.over)
 
 pub overflow_sub-n : goal.overflow_sub-n
 overflow_sub-n c =
-    let pre = c.before.before.before.before.before.before.before.before.before.before.requires in
-    let entry = c.before.before.before.before.before.before.before.before.before.before.args in
+    let pre = c.requires in
+    let entry = c.args in
     let held = pre.2 in
-    let count_of = c.before.before.before.before.before.before.count_of in
-    let p = c.in-At.given in
-    let found = sym c.find.ensures.0 ∙ p.1 in
+    let count_of = c.count_of in
+    let p = c.in-At in
+    let found = sym c.find.ensures.0 ∙ p.is in
     let h = found-more properties-row property-written pre.0 entry.t.now entry.layout pre.1 held held.good.properties.each held.good.properties.apart
-    entry.key.now entry.layout.properties count_of.result refl count_of.ensures.0 p.0.0 p.0.1.0 p.0.1.1.0 found in
+    entry.key.now entry.layout.properties count_of.result refl count_of.ensures.0 p.p p.v p.k found in
     omega (arith, h)
 
 pub cut-requires : goal.cut-requires
 cut-requires c =
-    let pre = c.before.before.before.before.before.before.before.before.before.before.requires in
-    let entry = c.before.before.before.before.before.before.before.before.before.before.args in
+    let pre = c.requires in
+    let entry = c.args in
     let held = pre.2 in
-    let count_of = c.before.before.before.before.before.before.count_of in
-    let p = c.in-At.given in
-    let found = sym c.find.ensures.0 ∙ p.1 in
+    let count_of = c.count_of in
+    let p = c.in-At in
+    let found = sym c.find.ensures.0 ∙ p.is in
     let h = found-cuts properties-row property-written pre.0 entry.t.now entry.layout pre.1 held held.good.properties.each held.good.properties.apart
-    entry.key.now entry.layout.properties count_of.result refl count_of.ensures.0 p.0.0 p.0.1.0 p.0.1.1.0 found in
+    entry.key.now entry.layout.properties count_of.result refl count_of.ensures.0 p.p p.v p.k found in
     (h.rising, h.within, h.end, h.most)
 
 pub returns-in-At : goal.returns-in-At
 returns-in-At c =
-    let entry = c.before.before.before.before.before.before.before.before.before.before.before.before.before.args in
-    let count_of = c.before.before.before.before.before.before.before.before.before.count_of in
-    let p = c.in-At.given in
-    let found = sym c.find.ensures.0 ∙ p.1 in
+    let entry = c.args in
+    let count_of = c.count_of in
+    let p = c.in-At in
+    let found = sym c.find.ensures.0 ∙ p.is in
     let cut = c.cut in
     λ n s w.
     let less = property_less n entry.t.now entry.layout s w entry.key.now entry.layout.properties count_of.result refl count_of.ensures.0 in
     found-held properties-row property-written n entry.t.now entry.layout s w w.good.properties.each w.good.properties.apart
-    entry.key.now entry.layout.properties count_of.result refl count_of.ensures.0 p.0.0 p.0.1.0 p.0.1.1.0 found
-    cut.new.0 cut.result cut.auto.0 cut.ensures less
+    entry.key.now entry.layout.properties count_of.result refl count_of.ensures.0 p.p p.v p.k found
+    cut.new.t cut.result cut.auto.t cut.ensures less
 
 pub returns-in-Missing : goal.returns-in-Missing
 returns-in-Missing c =
-    let entry = c.before.before.before.before.before.before.before.before.args in
-    let count_of = c.before.before.before.before.count_of in
-    let told = c.in-Missing.given in
-    let missing = sym c.find.ensures.0 ∙ told.1 in
+    let entry = c.args in
+    let count_of = c.count_of in
+    let told = c.in-Missing in
+    let missing = sym c.find.ensures.0 ∙ told.is in
     λ n s w.
     let kept = missing_kept properties-row property-written n entry.t.now entry.layout s w w.good.properties.each w.good.properties.apart
     entry.key.now entry.layout.properties count_of.result refl count_of.ensures.0 told.0.0 missing in

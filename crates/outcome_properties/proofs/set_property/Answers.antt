@@ -13,18 +13,18 @@ use Rattle.outcome_properties.proofs.set_property.Goals as goal
 
 pub find-requires : goal.find-requires
 find-requires c =
-    let entry = c.before.before.before.before.before.before in
+    let entry = c in
     let x = entry.args in
     let a = x in
-    let k = c.before.count_of in
+    let k = c.count_of in
     let h = properties_read (entry.requires.0.0) a.t.now a.layout (entry.requires.0.1) (entry.requires.0.2) a.layout.properties k.result refl k.ensures.0 in (h.within, h.row)
 
 pub replace_value-requires : goal.replace_value-requires
 replace_value-requires c =
-    let entry = c.before.before.before.before.before.before.before.before.before.before.before in
+    let entry = c in
     let x = entry.args in
     let a = x in
-    let k = c.before.before.before.before.before.before.count_of in
+    let k = c.count_of in
     let p = c.in-At.p in
     let v = c.in-At.field-1 in
     let z = c.in-At.old in
@@ -33,10 +33,10 @@ replace_value-requires c =
 
 pub append_property-requires : goal.append_property-requires
 append_property-requires c =
-    let entry = c.before.before.before.before.before.before.before.before.before.before.before in
+    let entry = c in
     let x = entry.args in
     let a = x in
-    let k = c.before.before.before.before.before.before.count_of in
+    let k = c.count_of in
     let m = property-among entry.requires.0.0 a.t.now a.layout entry.requires.0.1 entry.requires.0.2 a.key.now a.layout.properties
     k.result refl k.ensures.0 c.in-Missing.field-0 (sym c.find.ensures.0 ∙ c.in-Missing.is) in
     let h = property_room entry.requires.0.0 a.t.now a.layout entry.requires.0.1 entry.requires.0.2 a.key.now a.layout.properties
@@ -50,23 +50,23 @@ append_property-requires c =
 
 pub returns-in-At : goal.returns-in-At
 returns-in-At c =
-    let entry = c.before.before.before.before.before.before.before.before.before.before.before.before.before.before in
+    let entry = c in
     let x = entry.args in
     let a = x in
-    let k = c.before.before.before.before.before.before.before.before.before.count_of in
+    let k = c.count_of in
     let p = c.in-At.p in
     let v = c.in-At.field-1 in
     let z = c.in-At.old in λ n s w. there_set n a.t.now a.layout s w a.key.now a.layout.properties
     k.result refl k.ensures.0 a.value.now entry.requires.1 p v z
     (sym c.find.ensures.0 ∙ c.in-At.is)
-    c.replace_value.new.0 c.replace_value.result c.replace_value.auto.0 c.replace_value.ensures
+    c.replace_value.new.t c.replace_value.result c.replace_value.auto.t c.replace_value.ensures
 
 pub returns-then-n-lt32 : goal.returns-then-n-lt32
 returns-then-n-lt32 c =
-    let entry = c.before.before.before.before.before.before.before.before.before.before.before.before.before.before in
+    let entry = c in
     let x = entry.args in
     let a = x in
-    let k = c.before.before.before.before.before.before.before.before.before.count_of in λ n s w. let m = property-among n a.t.now
+    let k = c.count_of in λ n s w. let m = property-among n a.t.now
     a.layout s w a.key.now a.layout.properties k.result refl k.ensures.0 c.in-Missing.field-0
     (sym c.find.ensures.0 ∙ c.in-Missing.is) in
     let i : length s.properties < 32 = omega (
@@ -79,14 +79,14 @@ returns-then-n-lt32 c =
       set_last a.key.now a.value.now
           s.properties m i,
       property_grown n a.t.now a.layout s w a.key.now a.layout.properties k.result refl k.ensures.0 a.value.now
-          entry.requires.1 c.append_property.new.0 c.append_property.result
-          c.append_property.auto.0 m i c.append_property.ensures,
+          entry.requires.1 c.append_property.new.t c.append_property.result
+          c.append_property.auto.t m i c.append_property.ensures,
     )
 
 pub returns-else-n-lt32 : goal.returns-else-n-lt32
 returns-else-n-lt32 c =
-    let x = c.before.before.before.before.before.before.before.before.before.before.args in
+    let x = c.args in
     let a = x in
-    let k = c.before.before.before.before.before.count_of in λ n s w. set_full a.key.now a.value.now s.properties
+    let k = c.count_of in λ n s w. set_full a.key.now a.value.now s.properties
     (property-among n a.t.now a.layout s w a.key.now a.layout.properties k.result refl k.ensures.0 c.in-Missing.field-0
     (sym c.find.ensures.0 ∙ c.in-Missing.is)) (omega (arith, k.ensures.0, row_count properties-row n a.t.now a.layout s w))

@@ -12,42 +12,42 @@ use Rattle.programs.proofs.ask.Goals as goal
 
 pub slice_bounds-out-end : goal.slice_bounds-out-end
 slice_bounds-out-end c =
-    let entry = c.before.before.before.before.before.before.before.before.before.before.before.before in
+    let entry = c in
     let fill = c.fill in
     let k = c.in-Done in
     let (d, s, h) = entry.requires.0 in
     let command = filled false (source_of d entry.args.place s) entry.args.value.now in
-    omega (arith, (filled-front command _ fill.result _ (fill.ensures d s h) k.given.0.0 k.given.1).room)
+    omega (arith, (filled-front command _ fill.result _ (fill.ensures d s h) k.k k.is).room)
 
 pub slice_bounds-ask_command-end : goal.slice_bounds-ask_command-end
 slice_bounds-ask_command-end c =
-    let entry = c.before.before.before.before.before.before.before.before.before.before.before.before.before in
+    let entry = c in
     let fill = c.fill in
     let k = c.in-Done in
     let (d, s, h) = entry.requires.0 in
     let command = filled false (source_of d entry.args.place s) entry.args.value.now in
-    front-size command _ k.given.0.0 _ (filled-front command _ fill.result _ (fill.ensures d s h) k.given.0.0 k.given.1)
+    front-size command _ k.k _ (filled-front command _ fill.result _ (fill.ensures d s h) k.k k.is)
 
 pub ask_command-requires : goal.ask_command-requires
 ask_command-requires c =
-    let entry = c.before.before.before.before.before.before.before.before.before.before.before.before.before in
+    let entry = c in
     let (d, s, h) = entry.requires.0 in
     ((length (chain d), s, h.held), entry.requires.2)
 
 pub returns-in-Done : goal.returns-in-Done
 returns-in-Done c =
-    let x = c.before.before.before.before.before.before.before.before.before.before.before.before.before.before.before.before.args in
+    let x = c.args in
     let fill = c.fill in
     let k = c.in-Done in
     let said = c.ask_command in
     λ a is d s h.
     let command = filled false (source_of d x.place s) x.value.now in
-    command_says a d x.place (operator_of x.operator) x.value.now s _ (filled-front command _ fill.result _ (fill.ensures d s h) k.given.0.0 k.given.1).is
+    command_says a d x.place (operator_of x.operator) x.value.now s _ (filled-front command _ fill.result _ (fill.ensures d s h) k.k k.is).is
     (length (chain d)) _ said.result (said.ensures a is (length (chain d)) s h.held)
 
 pub returns-in-Full : goal.returns-in-Full
 returns-in-Full c =
-    let x = c.before.before.before.before.before.before.before.before.before.before.args in
+    let x = c.args in
     let fill = c.fill in
     λ a is d s h.
     let command = filled false (source_of d x.place s) x.value.now in

@@ -19,45 +19,45 @@ behind start len = omega arith
 pub overflow_add-start : goal.overflow_add-start
 overflow_add-start c =
     let find = c.find in
-    let told = c.in-At.given in
+    let told = c.in-At in
     let (a, is) = is-some (decode c.args.sheet.now) c.requires.1 in
-    omega (arith, told-within (operator_of c.args.operator) c.args.command.now c.args.sheet.now find.result find.ensures _ _ _ told.1 a is)
+    omega (arith, told-within (operator_of c.args.operator) c.args.command.now c.args.sheet.now find.result find.ensures _ _ _ told.is a is)
 
 pub slice_bounds-store-end : goal.slice_bounds-store-end
 slice_bounds-store-end c =
     let find = c.find in
-    let told = c.in-At.given in
+    let told = c.in-At in
     let (a, is) = is-some (decode c.args.sheet.now) c.requires.1 in
-    omega (arith, told-within (operator_of c.args.operator) c.args.command.now c.args.sheet.now find.result find.ensures _ _ _ told.1 a is)
+    omega (arith, told-within (operator_of c.args.operator) c.args.command.now c.args.sheet.now find.result find.ensures _ _ _ told.is a is)
 
 pub store-left-requires : goal.store-left-requires
 store-left-requires c =
     let find = c.find in
-    let told = c.in-At.given in
+    let told = c.in-At in
     let (a, is) = is-some (decode c.args.sheet.now) c.requires.1 in (
       c.requires.0,
-      subst (λ (n : ℕ). ok_output (take n (drop told.0.1.0 c.args.sheet.now)) ≡ true) (sym (behind told.0.1.0 told.0.1.1.0))
-          (told_output (operator_of c.args.operator) c.args.command.now c.args.sheet.now find.result find.ensures _ _ _ told.1 a is),
+      subst (λ (n : ℕ). ok_output (take n (drop told.start c.args.sheet.now)) ≡ true) (sym (behind told.start told.len))
+          (told_output (operator_of c.args.operator) c.args.command.now c.args.sheet.now find.result find.ensures _ _ _ told.is a is),
     )
 
 pub returns-then-program_holds : goal.returns-then-program_holds
 returns-then-program_holds c =
     let a = c.args in
     let find = c.find in
-    let told = c.in-At.given in
+    let told = c.in-At in
     let store = c.store-left in
-    reply_holds (operator_of a.operator) a.command.now a.sheet.now find.result find.ensures told.0.0 told.0.1.0 told.0.1.1.0 told.1 a.t.now a.layout _ store.result
-    (subst (λ (n : ℕ). Changed (stored_by told.0.0 (take n (drop told.0.1.0 a.sheet.now))) a.t.now a.layout store.new.0 store.result) (behind told.0.1.0 told.0.1.1.0) store.ensures)
+    reply_holds (operator_of a.operator) a.command.now a.sheet.now find.result find.ensures told.success told.start told.len told.is a.t.now a.layout _ store.result
+    (subst (λ (n : ℕ). Changed (stored_by told.success (take n (drop told.start a.sheet.now))) a.t.now a.layout store.new.t store.result) (behind told.start told.len) store.ensures)
     (sym c.program_holds.ensures ∙ c.if-program_holds.true)
 
 pub returns-else-program_holds : goal.returns-else-program_holds
 returns-else-program_holds c =
     let a = c.args in
     let find = c.find in
-    let told = c.in-At.given in
+    let told = c.in-At in
     let store = c.store-left in
-    reply_fails (operator_of a.operator) a.command.now a.sheet.now find.result find.ensures told.0.0 told.0.1.0 told.0.1.1.0 told.1 a.t.now a.layout _ store.result
-    (subst (λ (n : ℕ). Changed (stored_by told.0.0 (take n (drop told.0.1.0 a.sheet.now))) a.t.now a.layout store.new.0 store.result) (behind told.0.1.0 told.0.1.1.0) store.ensures)
+    reply_fails (operator_of a.operator) a.command.now a.sheet.now find.result find.ensures told.success told.start told.len told.is a.t.now a.layout _ store.result
+    (subst (λ (n : ℕ). Changed (stored_by told.success (take n (drop told.start a.sheet.now))) a.t.now a.layout store.new.t store.result) (behind told.start told.len) store.ensures)
     (sym c.program_holds.ensures ∙ c.if-program_holds.false)
 
 pub returns-in-Missing : goal.returns-in-Missing

@@ -15,7 +15,7 @@ returns c =
     let a = x in
     let e = c.insert_run.ensures in record {
       between = subst Bytes e
-          (λ i. (c.type_inv.t.given i).fits);
+          (λ i. (c.type_inv.t i).fits);
       bytes = c.set_count.ensures ∙ ap (λ (y : List ℕ). put_at y (count_place Runs) (count_width Runs) (a.n + 1)) e;
       layout = c.moved.ensures ∙ ap (moved_by a.layout Runs 0) (run-size a.builtin a.place a.template.now);
     }

@@ -19,7 +19,7 @@ returns c =
     let slice-known2 = c.type_inv.t in
     let set-count = c.set_count in
     record {
-      between = subst Bytes remove.ensures (λ i. (slice-known2.given i).fits);
+      between = subst Bytes remove.ensures (λ i. (slice-known2 i).fits);
       bytes = set-count.ensures ∙ ap (λ (y : List ℕ). put_at y (count_place entry.section) (count_width entry.section) entry.n) remove.ensures;
       layout = c.moved.ensures;
     }

@@ -18,6 +18,6 @@ returns c =
     let open-gap = c.open_gap in
     let store = c.store in
     let store2 = c.store-2 in
-    two_inserted a.t.now a.at a.used pre.0 write-property-head.new.0 a.key.now a.value.now open-gap.new.0 store.new.0
-    store2.new.0 (ap length write-property-head.ensures ∙ length-packed (prop_fields (length a.key.now) (length a.value.now)) 2 refl) pre.1
+    two_inserted a.t.now a.at a.used pre.0 write-property-head.new.head a.key.now a.value.now open-gap.new.t store.new.t
+    store2.new.t (ap length write-property-head.ensures ∙ length-packed (prop_fields (length a.key.now) (length a.value.now)) 2 refl) pre.1
     open-gap.ensures store.ensures store2.ensures ∙ ap (λ (y : List ℕ). inserted a.t.now a.at a.used (y ++ (a.key.now ++ a.value.now))) write-property-head.ensures

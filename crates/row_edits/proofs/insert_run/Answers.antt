@@ -17,6 +17,6 @@ returns c =
     let write-run-head = c.write_run_head in
     let open-gap = c.open_gap in
     let store = c.store in
-    one-inserted a.t.now a.at a.used pre.0 write-run-head.new.0 a.template.now open-gap.new.0 store.new.0
+    one-inserted a.t.now a.at a.used pre.0 write-run-head.new.head a.template.now open-gap.new.t store.new.t
     (ap length write-run-head.ensures ∙ length-packed (run_bits a.builtin a.place (length a.template.now)) 2 refl) pre.1 open-gap.ensures
     store.ensures ∙ ap (λ (y : List ℕ). inserted a.t.now a.at a.used (y ++ a.template.now)) write-run-head.ensures

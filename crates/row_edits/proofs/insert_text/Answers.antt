@@ -9,13 +9,13 @@ pub store-requires : goal.store-requires
 store-requires c =
     let open-gap = c.open_gap in
     let a = c.args in
-    omega (arith, open-gap.auto.0, length-set open-gap.new.0 a.at (length a.x.now))
+    omega (arith, open-gap.auto.t, length-set open-gap.new.t a.at (length a.x.now))
 
 pub shape_of-t : goal.shape_of-t
 shape_of-t c =
     let open-gap = c.open_gap in
     let a = c.args in
-    c.store.auto.0 ∙ length-set open-gap.new.0 a.at (length a.x.now) ∙ open-gap.auto.0
+    c.store.auto.t ∙ length-set open-gap.new.t a.at (length a.x.now) ∙ open-gap.auto.t
 
 pub returns : goal.returns
 returns c =
@@ -23,4 +23,4 @@ returns c =
     let pre = c.requires in
     let open-gap = c.open_gap in
     let store = c.store in
-    text-inserted a.t.now a.at a.used pre.0 a.x.now open-gap.new.0 store.new.0 pre.1 open-gap.ensures store.ensures
+    text-inserted a.t.now a.at a.used pre.0 a.x.now open-gap.new.t store.new.t pre.1 open-gap.ensures store.ensures

@@ -16,9 +16,9 @@ returns c =
     let a = x in
     let k = c.write_property_head in record {
       bytes = ap (λ (y : List ℕ). take a.at
-          c.replace.new.0 ++ (y ++ drop (a.at + 2 - a.at)
-          (drop a.at c.replace.new.0))) k.ensures ∙ lent a.at
-          c.replace.new.0 (packed (prop_fields a.key (length a.value.now)))
+          c.replace.new.t ++ (y ++ drop (a.at + 2 - a.at)
+          (drop a.at c.replace.new.t))) k.ensures ∙ lent a.at
+          c.replace.new.t (packed (prop_fields a.key (length a.value.now)))
           (length-packed (prop_fields a.key (length a.value.now)) 2 refl) ∙ ap (λ (y : List ℕ). stored y a.at
           (packed (prop_fields a.key (length a.value.now)))) c.replace.ensures;
       layout = c.moved.ensures;

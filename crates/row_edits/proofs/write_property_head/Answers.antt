@@ -8,4 +8,4 @@ returns c =
     let a = x in
     let put = c.put-next in
     let put2 = c.put in
-    property_head a.head.now put.new.1.0 put2.new.1.0 put.result.at a.key a.value c.requires (λ i. (c.type_inv.head.given i).fits) put.ensures.bytes put.ensures.next put2.ensures.bytes
+    property_head a.head.now put.new.s put2.new.s put.result.at a.key a.value c.requires (λ i. (c.type_inv.head i).fits) put.ensures.bytes put.ensures.next put2.ensures.bytes

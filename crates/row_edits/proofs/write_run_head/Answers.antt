@@ -15,6 +15,6 @@ returns c =
     let put4 = c.put in
     let second = put2.ensures.next ∙ ap (λ (i : ℕ). i + 5) put.ensures.next in
     let third = put3.ensures.next ∙ ap (λ (i : ℕ). i + 9) second in
-    run_head entry.head.now put.new.1.0 put2.new.1.0 put3.new.1.0 put4.new.1.0 put.result.at put2.result.at put3.result.at
-    entry.builtin entry.place entry.len pre (λ i. (slice-known.given i).fits)
+    run_head entry.head.now put.new.s put2.new.s put3.new.s put4.new.s put.result.at put2.result.at put3.result.at
+    entry.builtin entry.place entry.len pre (λ i. (slice-known i).fits)
     put.ensures.bytes put.ensures.next put2.ensures.bytes second put3.ensures.bytes third put4.ensures.bytes

@@ -19,8 +19,8 @@ overflow_add-result c =
     let args = c.args in
     let substitute = c.substitute in
     let the-k = c.in-Done in
-    let w : Text (filled false pre.2.0 args.template.now) (take (args.at + 2 + 512 - (args.at + 2)) (drop (args.at + 2) args.t.now)) the-k.given.0.0 substitute.new.1.1.1.1.1.0 = rw the-k.given.1 at (substitute.ensures pre.2.0 pre.2.1) in
-    let few : the-k.given.0.0 ≤ 512 = omega (arith, w.room, length_part args.t.now (args.at + 2) (args.at + 2 + 512) (omega arith)) in
+    let w : Text (filled false pre.2.0 args.template.now) (take (args.at + 2 + 512 - (args.at + 2)) (drop (args.at + 2) args.t.now)) the-k.k substitute.new.out = rw the-k.is at (substitute.ensures pre.2.0 pre.2.1) in
+    let few : the-k.k ≤ 512 = omega (arith, w.room, length_part args.t.now (args.at + 2) (args.at + 2 + 512) (omega arith)) in
     omega arith
 
 pub returns-in-Done : goal.returns-in-Done
@@ -31,14 +31,14 @@ returns-in-Done c =
     let substitute = c.substitute in
     let the-k = c.in-Done in
     let write-head = c.write_head in
-    let w : Text (filled false pre.2.0 args.template.now) (take (args.at + 2 + 512 - (args.at + 2)) (drop (args.at + 2) args.t.now)) the-k.given.0.0 substitute.new.1.1.1.1.1.0 = rw the-k.given.1 at (substitute.ensures pre.2.0 pre.2.1) in
-    let few : the-k.given.0.0 ≤ 512 = omega (arith, w.room, length_part args.t.now (args.at + 2) (args.at + 2 + 512) (omega arith)) in (
+    let w : Text (filled false pre.2.0 args.template.now) (take (args.at + 2 + 512 - (args.at + 2)) (drop (args.at + 2) args.t.now)) the-k.k substitute.new.out = rw the-k.is at (substitute.ensures pre.2.0 pre.2.1) in
+    let few : the-k.k ≤ 512 = omega (arith, w.room, length_part args.t.now (args.at + 2) (args.at + 2 + 512) (omega arith)) in (
       omega arith,
       λ s h. let v : Text (filled false s args.template.now) (take (args.at + 2 + 512 - (args.at + 2)) (drop (args.at + 2) args.t.now))
-          the-k.given.0.0 substitute.new.1.1.1.1.1.0 = rw the-k.given.1 at (substitute.ensures s h) in command_made args.t.now
-          substitute.new.1.1.1.1.1.0 (lent_part args.t.now (args.at + 2) (args.at + 2 + 512) substitute.new.1.1.1.1.1.0) write-head.new.0
-          (lent_part (lent_part args.t.now (args.at + 2) (args.at + 2 + 512) substitute.new.1.1.1.1.1.0) args.at (args.at + 2) write-head.new.0)
-          args.at the-k.given.0.0 args.builtin (filled false s args.template.now)
+          the-k.k substitute.new.out = rw the-k.is at (substitute.ensures s h) in command_made args.t.now
+          substitute.new.out (lent_part args.t.now (args.at + 2) (args.at + 2 + 512) substitute.new.out) write-head.new.head
+          (lent_part (lent_part args.t.now (args.at + 2) (args.at + 2 + 512) substitute.new.out) args.at (args.at + 2) write-head.new.head)
+          args.at the-k.k args.builtin (filled false s args.template.now)
           pre.0 v (v.size ∙ length_part args.t.now (args.at + 2) (args.at + 2 + 512) (omega arith) ∙ omega arith) few refl write-head.ensures refl,
     )
 

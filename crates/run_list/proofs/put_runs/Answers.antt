@@ -40,7 +40,7 @@ places_of-from-requires c =
     let run_at = c.run_at-run in
     let x = loop.invariant.2 pre.1.0 pre.1.1 pre.1.2 pre.1.3 pre.1.4 pre.1.5 in
     let h =
-    runs_here args.rec.now loop.p loop.left pre.1.0 x.others run_at.result (λ i. (shared-slice-known2.given i).fits)
+    runs_here args.rec.now loop.p loop.left pre.1.0 x.others run_at.result (λ i. (shared-slice-known2 i).fits)
     x.stand c.loop-left-test.true run_at.ensures in
     omega (arith, h.few, h.is.device, chain_few args.dev.now pre.1.0 pre.1.4.device)
 
@@ -58,7 +58,7 @@ slice_bounds-put_command-count c =
     let x = loop.invariant.2 pre.1.0 pre.1.1 pre.1.2 pre.1.3 pre.1.4 pre.1.5 in
     let h =
     runs_here entry.rec.now loop.p loop.left pre.1.0 x.others run_at.result
-    (λ i. (shared-slice-known2.given i).fits) x.stand loop-test.true run_at.ensures in
+    (λ i. (shared-slice-known2 i).fits) x.stand loop-test.true run_at.ensures in
     omega (arith, h.is.rising)
 
 pub slice_bounds-put_command-start : goal.slice_bounds-put_command-start
@@ -75,7 +75,7 @@ slice_bounds-put_command-start c =
     let x = loop.invariant.2 pre.1.0 pre.1.1 pre.1.2 pre.1.3 pre.1.4 pre.1.5 in
     let h =
     runs_here entry.rec.now loop.p loop.left pre.1.0 x.others run_at.result
-    (λ i. (shared-slice-known2.given i).fits) x.stand loop-test.true run_at.ensures in
+    (λ i. (shared-slice-known2 i).fits) x.stand loop-test.true run_at.ensures in
     omega (arith, h.is.rising)
 
 pub slice_bounds-put_command-end : goal.slice_bounds-put_command-end
@@ -92,7 +92,7 @@ slice_bounds-put_command-end c =
     let x = loop.invariant.2 pre.1.0 pre.1.1 pre.1.2 pre.1.3 pre.1.4 pre.1.5 in
     let h =
     runs_here entry.rec.now loop.p loop.left pre.1.0 x.others run_at.result
-    (λ i. (shared-slice-known2.given i).fits) x.stand loop-test.true run_at.ensures in
+    (λ i. (shared-slice-known2 i).fits) x.stand loop-test.true run_at.ensures in
     omega (arith, h.is.inside)
 
 pub put_command-requires : goal.put_command-requires
@@ -112,14 +112,14 @@ put_command-requires c =
     let places_of = places-of-call in
     let x = loop.invariant.2 pre.1.0 pre.1.1 pre.1.2 pre.1.3 pre.1.4 pre.1.5 in
     let h =
-    runs_here args.rec.now loop.p loop.left pre.1.0 x.others run_at.result (λ i. (shared-slice-known2.given i).fits)
+    runs_here args.rec.now loop.p loop.left pre.1.0 x.others run_at.result (λ i. (shared-slice-known2 i).fits)
     x.stand loop-test.true run_at.ensures in (
       omega (arith, loop.invariant.0),
       ap well_formed h.is.template ∙ h.sound,
       (
         (source_of pre.1.0 pre.1.1 pre.1.2 h.run h.others),
         (here_source args.dev.now args.rec.now args.chain args.properties args.count loop.left pre.1.0
-            pre.1.1 pre.1.2 x.others run_at.result (λ i. (shared-slice-known.given i).fits) pre.1.4 h places_of.result
+            pre.1.1 pre.1.2 x.others run_at.result (λ i. (shared-slice-known i).fits) pre.1.4 h places_of.result
             places_of.ensures),
       ),
     )
@@ -141,13 +141,13 @@ returns-in_default c =
     λ d ps y rs b r.
     let x = loop.invariant.2 d ps y rs b r in
     let h =
-    runs_here args.rec.now loop.p loop.left d x.others run_at.result (λ i. (shared-slice-known2.given i).fits)
+    runs_here args.rec.now loop.p loop.left d x.others run_at.result (λ i. (shared-slice-known2 i).fits)
     x.stand loop-test.true run_at.ensures in
     let m : filled false (source_of d ps y h.run h.others) (template_at args.rec.now loop.left d ps y x.others run_at.result h) ≡ refused substitution_long =
     rw c.in_default.is at
     (put-command.ensures.1 (source_of d ps y h.run h.others)
     (here_source args.dev.now args.rec.now args.chain args.properties args.count loop.left d ps y x.others
-    run_at.result (λ i. (shared-slice-known.given i).fits) b h places_of.result places_of.ensures))
+    run_at.result (λ i. (shared-slice-known i).fits) b h places_of.result places_of.ensures))
     in
     x.leads Full loop.t (here_full args.rec.now loop.left d ps y x.others run_at.result h m)
 
@@ -167,23 +167,23 @@ loop-left-preserved c =
     let places_of = places-of-call in
     let put-command = put-command-call in
     let the-k = c.in-Done in
-    let few : the-k.given.0.0 ≤ loop.at + 514 = rw the-k.given.1 at put-command.ensures.0 in (
+    let few : the-k.given.0.0 ≤ loop.at + 514 = rw the-k.is at put-command.ensures.0 in (
       omega (arith, loop.invariant.0),
       omega arith,
       λ d ps y rs b r.
           let x = loop.invariant.2 d ps y rs b r in
           let h =
-          runs_here args.rec.now loop.p loop.left d x.others run_at.result (λ i. (shared-slice-known2.given i).fits)
+          runs_here args.rec.now loop.p loop.left d x.others run_at.result (λ i. (shared-slice-known2 i).fits)
           x.stand loop-test.true run_at.ensures in
-          let m : Made run_at.result.builtin (filled false (source_of d ps y h.run h.others) (template_at args.rec.now loop.left d ps y x.others run_at.result h)) loop.t loop.at (Done the-k.given.0.0) put-command.new.0 =
-          rw the-k.given.1 at
+          let m : Made run_at.result.builtin (filled false (source_of d ps y h.run h.others) (template_at args.rec.now loop.left d ps y x.others run_at.result h)) loop.t loop.at (Done the-k.given.0.0) put-command.new.t =
+          rw the-k.is at
           (put-command.ensures.1 (source_of d ps y h.run h.others)
           (here_source args.dev.now args.rec.now args.chain args.properties args.count loop.left d ps y
-          x.others run_at.result (λ i. (shared-slice-known.given i).fits) b h places_of.result
+          x.others run_at.result (λ i. (shared-slice-known i).fits) b h places_of.result
           places_of.ensures))
           in
           record
-          { others = h.others; stand = h.next; leads = λ q l z. x.leads q l (here_leads args.rec.now loop.left d ps y x.others run_at.result h loop.t put-command.new.0 loop.at the-k.given.0.0 m q l z) },
+          { others = h.others; stand = h.next; leads = λ q l z. x.leads q l (here_leads args.rec.now loop.left d ps y x.others run_at.result h loop.t put-command.new.t loop.at the-k.given.0.0 m q l z) },
     )
 
 pub returns : goal.returns

@@ -18,7 +18,7 @@ count_of-runs-requires c =
     let args = entry in
     let pre = pre-call in
     both_header args.dev.now args.rec.now args.chain args.layout pre.1.0 pre.1.1
-    (λ i. (c.type_inv.rec.given i).fits) pre.1.2
+    (λ i. (c.type_inv.rec i).fits) pre.1.2
 
 pub count_of-count-requires : goal.count_of-count-requires
 count_of-count-requires c =
@@ -27,7 +27,7 @@ count_of-count-requires c =
     let args = entry in
     let pre = pre-call in
     both_header args.dev.now args.rec.now args.chain args.layout pre.1.0 pre.1.1
-    (λ i. (c.type_inv.rec.given i).fits) pre.1.2
+    (λ i. (c.type_inv.rec i).fits) pre.1.2
 
 pub put_runs-requires : goal.put_runs-requires
 put_runs-requires c =
@@ -43,9 +43,9 @@ put_runs-requires c =
       omega (
         arith,
         runs_few args.dev.now args.rec.now args.chain args.layout pre.1.0 pre.1.1
-            (λ i. (shared-slice-known2.given i).fits) pre.1.2,
+            (λ i. (shared-slice-known2 i).fits) pre.1.2,
         (runs-row_of args.dev.now args.rec.now args.chain args.layout pre.1.0 pre.1.1
-            (λ i. (shared-slice-known2.given i).fits) pre.1.2 count_of.result count_of.ensures.0).counted,
+            (λ i. (shared-slice-known2 i).fits) pre.1.2 count_of.result count_of.ensures.0).counted,
       ),
       (
         pre.1.0,
@@ -53,9 +53,9 @@ put_runs-requires c =
         pre.1.1.output,
         pre.1.1.runs,
         both_beside args.dev.now args.rec.now args.chain args.layout pre.1.0 pre.1.1
-            (λ i. (shared-slice-known2.given i).fits) pre.1.2 count-of2.result count-of2.ensures.0,
+            (λ i. (shared-slice-known2 i).fits) pre.1.2 count-of2.result count-of2.ensures.0,
         both_runs args.dev.now args.rec.now args.chain args.layout pre.1.0 pre.1.1
-            (λ i. (shared-slice-known2.given i).fits) pre.1.2 count_of.result count_of.ensures.0,
+            (λ i. (shared-slice-known2 i).fits) pre.1.2 count_of.result count_of.ensures.0,
       ),
     )
 
@@ -77,19 +77,19 @@ returns-in-Done c =
     let the-k = k in
     let write-count = write-count-call in
     λ d s w.
-    let l : Listed (commands d s.properties s.output s.runs) args.t.now 1 (Done the-k.given.0.0) put-runs.new.0 =
-    rw the-k.given.1 at
+    let l : Listed (commands d s.properties s.output s.runs) args.t.now 1 (Done the-k.k) put-runs.new.t =
+    rw the-k.is at
     (put-runs.ensures d s.properties s.output s.runs
-    (both_beside args.dev.now args.rec.now args.chain args.layout d s (λ i. (shared-slice-known2.given i).fits) w
+    (both_beside args.dev.now args.rec.now args.chain args.layout d s (λ i. (shared-slice-known2 i).fits) w
     count-of2.result count-of2.ensures.0)
-    (both_runs args.dev.now args.rec.now args.chain args.layout d s (λ i. (shared-slice-known2.given i).fits) w
+    (both_runs args.dev.now args.rec.now args.chain args.layout d s (λ i. (shared-slice-known2 i).fits) w
     count_of.result count_of.ensures.0))
     in
-    list_written (commands d s.properties s.output s.runs) args.t.now put-runs.new.0 write-count.new.0
-    (lent_part put-runs.new.0 0 1 write-count.new.0) count_of.result the-k.given.0.0 (omega (arith, pre.0))
+    list_written (commands d s.properties s.output s.runs) args.t.now put-runs.new.t write-count.new.head
+    (lent_part put-runs.new.t 0 1 write-count.new.head) count_of.result the-k.k (omega (arith, pre.0))
     (λ cs e.
     commands-count d s.properties s.output s.runs cs e ∙ sym
-    (runs-row_of args.dev.now args.rec.now args.chain args.layout d s (λ i. (shared-slice-known2.given i).fits) w
+    (runs-row_of args.dev.now args.rec.now args.chain args.layout d s (λ i. (shared-slice-known2 i).fits) w
     count_of.result count_of.ensures.0).counted)
     l (omega arith) write-count.ensures refl
 
@@ -108,9 +108,9 @@ returns-in-Full c =
     let l : commands d s.properties s.output s.runs ≡ refused substitution_long =
     rw c.in-Full.is at
     (put-runs.ensures d s.properties s.output s.runs
-    (both_beside args.dev.now args.rec.now args.chain args.layout d s (λ i. (shared-slice-known2.given i).fits) w
+    (both_beside args.dev.now args.rec.now args.chain args.layout d s (λ i. (shared-slice-known2 i).fits) w
     count-of2.result count-of2.ensures.0)
-    (both_runs args.dev.now args.rec.now args.chain args.layout d s (λ i. (shared-slice-known2.given i).fits) w
+    (both_runs args.dev.now args.rec.now args.chain args.layout d s (λ i. (shared-slice-known2 i).fits) w
     count_of.result count_of.ensures.0))
     in
     l

@@ -12,5 +12,5 @@ returns c =
     let args = entry in
     let put = put-call in
     let put2 = put2-call in
-    count_head args.head.now put.new.1.0 put2.new.1.0 put.result.at args.n pre (λ i. (slice-known.given i).fits)
+    count_head args.head.now put.new.s put2.new.s put.result.at args.n pre (λ i. (slice-known i).fits)
     put.ensures.bytes put.ensures.next put2.ensures.bytes

@@ -20,7 +20,7 @@ returns c =
     let put = put-call in
     let put2 = put2-call in
     let put3 = put3-call in
-    command_head args.head.now put.new.1.0 put2.new.1.0 put3.new.1.0 put.result.at put2.result.at
-    bit-of.result args.len pre (λ i. (slice-known.given i).fits) put.ensures.bytes put.ensures.next put2.ensures.bytes
+    command_head args.head.now put.new.s put2.new.s put3.new.s put.result.at put2.result.at
+    bit-of.result args.len pre (λ i. (slice-known i).fits) put.ensures.bytes put.ensures.next put2.ensures.bytes
     (put2.ensures.next ∙ ap (λ (i : ℕ). i + 10) put.ensures.next) put3.ensures.bytes ∙ ap
     (λ (i : ℕ). packed ((1, i) ∷ (10, args.len) ∷ (5, 0) ∷ [])) bit-of.ensures

@@ -45,7 +45,7 @@ put_piece-requires c =
     let args = entry in
     let pre = pre-call in
     let p = p-call in
-    let a : Ahead p.given.0.0 p.given.0.1.0 args.template.now args.i = rw p.given.1 at piece-at.ensures.1 in
+    let a : Ahead p.p p.next args.template.now args.i = rw p.is at piece-at.ensures.1 in
     (a.text, pre.2, pre.3)
 
 pub returns-in-Read : goal.returns-in-Read
@@ -61,20 +61,20 @@ returns-in-Read c =
     let p = p-call in
     let put-piece = put-piece-call in
     let turned2 = c.turned-in-Read in
-    let e : told (Read p.given.0.0 p.given.0.1.0) args.template.now ≡ read_at args.template.now args.i =
-    rw p.given.1 at piece-at.ensures.0 in
-    let a : Ahead p.given.0.0 p.given.0.1.0 args.template.now args.i = rw p.given.1 at piece-at.ensures.1 in (
+    let e : told (Read p.p p.next) args.template.now ≡ read_at args.template.now args.i =
+    rw p.is at piece-at.ensures.0 in
+    let a : Ahead p.p p.next args.template.now args.i = rw p.is at piece-at.ensures.1 in (
       rw turned2.ensures
-          (turn_on args.template.now args.i p.given.0.1.0 _ args.out.now args.used put-piece.result _ a.forward
+          (turn_on args.template.now args.i p.next _ args.out.now args.used put-piece.result _ a.forward
           a.inside
-          (piece-next args.spaceless pre.2.0 args.template.now args.i (meaning p.given.0.0 args.template.now)
-          p.given.0.1.0 (sym e) pre.1).0
+          (piece-next args.spaceless pre.2.0 args.template.now args.i (meaning p.p args.template.now)
+          p.next (sym e) pre.1).0
           (put-piece.ensures pre.2.0 pre.2.1)),
       λ s h.
           rw turned2.ensures
-          (turn-text args.spaceless s args.template.now args.i args.out.now args.used _ p.given.0.1.0
-          (piece-next args.spaceless s args.template.now args.i (meaning p.given.0.0 args.template.now)
-          p.given.0.1.0 (sym e) pre.1).1
+          (turn-text args.spaceless s args.template.now args.i args.out.now args.used _ p.next
+          (piece-next args.spaceless s args.template.now args.i (meaning p.p args.template.now)
+          p.next (sym e) pre.1).1
           put-piece.result _ (put-piece.ensures s h)),
     )
 

@@ -17,8 +17,8 @@ overflow_add-start c =
     let entry = c.args in
     let find-attribute-at = c.find_attribute_at in
     let start = c.in-At in
-    let w : Within (At start.given.0.0 start.given.0.1.0) (length entry.dev.now) =
-    rw start.given.1 at find-attribute-at.ensures.1 in
+    let w : Within (At start.start start.len) (length entry.dev.now) =
+    rw start.is at find-attribute-at.ensures.1 in
     omega arith
 
 pub slice_bounds-put_trimmed-end : goal.slice_bounds-put_trimmed-end
@@ -26,8 +26,8 @@ slice_bounds-put_trimmed-end c =
     let entry = c.args in
     let find-attribute-at = c.find_attribute_at in
     let start = c.in-At in
-    let w : Within (At start.given.0.0 start.given.0.1.0) (length entry.dev.now) =
-    rw start.given.1 at find-attribute-at.ensures.1 in
+    let w : Within (At start.start start.len) (length entry.dev.now) =
+    rw start.is at find-attribute-at.ensures.1 in
     omega arith
 
 pub returns-in-At : goal.returns-in-At
@@ -40,9 +40,9 @@ returns-in-At c =
     let start = start-call in
     let put-trimmed = put-trimmed-call in
     λ m h o k.
-    let v = start.given.0.0 in
-    let n = start.given.0.1.0 in
-    let w : Says args.dev.now (At v n) (attr_of args.key.now m) = rw start.given.1 at (find-attribute-at.ensures.0 m h) in
+    let v = start.start in
+    let n = start.len in
+    let w : Says args.dev.now (At v n) (attr_of args.key.now m) = rw start.is at (find-attribute-at.ensures.0 m h) in
     appended_same args.spaceless _ (trim (or_empty (first_of (attr_of args.key.now m) (attr_at args.key.now o)))) args.out.now
     args.used put-trimmed.result _
     (ap trim (sized-part args.dev.now v n ∙ attribute-here args.dev.now args.key.now m o v n w)) put-trimmed.ensures
@@ -56,6 +56,6 @@ returns-in-Missing c =
     let args = entry in
     let put-parent-attribute = put-parent-attribute-call in
     λ m h o k.
-    let w : Says args.dev.now Missing (attr_of args.key.now m) = rw enum_told.given.1 at (find-attribute-at.ensures.0 m h) in
+    let w : Says args.dev.now Missing (attr_of args.key.now m) = rw enum_told.is at (find-attribute-at.ensures.0 m h) in
     appended_same args.spaceless _ (trim (or_empty (first_of (attr_of args.key.now m) (attr_at args.key.now o)))) args.out.now
     args.used put-parent-attribute.result _ (ap trim (attribute_there args.key.now m o w)) (put-parent-attribute.ensures o k)

@@ -16,9 +16,9 @@ overflow_cast-field c =
 
 pub returns : goal.returns
 returns c =
-    let entry = c.before.before.before.before.before.before.before.before.before.before.before.before.args in
-    let take = c.before.before.before.before.before.before.before.before.before.take in
-    let decimal-call = c.before.before.before.before.before.before.before.decimal in
+    let entry = c.args in
+    let take = c.take in
+    let decimal-call = c.decimal in
     let put-text-call = c.put_text in
     let args = entry in
     let decimal = decimal-call in

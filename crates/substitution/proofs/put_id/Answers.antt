@@ -13,7 +13,7 @@ name_at-requires c =
     let pre = c.requires in
     let matched-call = c.in-At in
     let matched = matched-call in
-    let w : MatchedStands entry.dev.now (At matched.given.0.0) = rw matched.given.1 at pre.0 in
+    let w : MatchedStands entry.dev.now (At matched.at) = rw matched.is at pre.0 in
     w
 
 pub returns-in-At : goal.returns-in-At
@@ -26,7 +26,7 @@ returns-in-At c =
     let matched = matched-call in
     let put-text = put-text-call in
     λ o h.
-    let w : MatchedIs args.dev.now (At matched.given.0.0) o = rw matched.given.1 at h in
+    let w : MatchedIs args.dev.now (At matched.at) o = rw matched.is at h in
     appended_same args.spaceless _ (of_matched o name_of) args.out.now args.used put-text.result _
     (name-at.ensures w.0 w.2 ∙ matched-text name_of o w.0 w.1) put-text.ensures
 

@@ -13,7 +13,7 @@ attribute_at-requires c =
     let entry = c.args in
     let pre = c.requires in
     let matched = c.in-At in
-    let w : MatchedStands entry.dev.now (At matched.given.0.0) = rw matched.given.1 at pre.0 in
+    let w : MatchedStands entry.dev.now (At matched.at) = rw matched.is at pre.0 in
     w
 
 pub returns-in-At : goal.returns-in-At
@@ -26,7 +26,7 @@ returns-in-At c =
     let matched = matched-call in
     let put-trimmed = put-trimmed-call in
     λ o h.
-    let w : MatchedIs args.dev.now (At matched.given.0.0) o = rw matched.given.1 at h in
+    let w : MatchedIs args.dev.now (At matched.at) o = rw matched.is at h in
     appended_same args.spaceless _ (trim (or_empty (attr_at args.key.now o))) args.out.now args.used put-trimmed.result _
     (ap trim (attribute-at.ensures w.0 w.2 ∙ attribute-matched args.key.now o w.0 w.1)) put-trimmed.ensures
 

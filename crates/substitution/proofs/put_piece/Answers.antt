@@ -25,7 +25,7 @@ name_at-requires c =
     let shared-slice-known2 = c.type_inv.dev in
     let args = entry in
     let pre = pre-call in
-    source_event args.dev.now args.rec.now (λ i. (shared-slice-known2.given i).fits) args.from pre.1.0 pre.1.1
+    source_event args.dev.now args.rec.now (λ i. (shared-slice-known2 i).fits) args.from pre.1.0 pre.1.1
 
 pub put_number-requires : goal.put_number-requires
 put_number-requires c =
@@ -34,7 +34,7 @@ put_number-requires c =
     let shared-slice-known2 = c.type_inv.dev in
     let args = entry in
     let pre = pre-call in
-    (source_event args.dev.now args.rec.now (λ i. (shared-slice-known2.given i).fits) args.from pre.1.0 pre.1.1, pre.2)
+    (source_event args.dev.now args.rec.now (λ i. (shared-slice-known2 i).fits) args.from pre.1.0 pre.1.1, pre.2)
 
 pub path_at-requires : goal.path_at-requires
 path_at-requires c =
@@ -43,7 +43,7 @@ path_at-requires c =
     let shared-slice-known2 = c.type_inv.dev in
     let args = entry in
     let pre = pre-call in
-    source_event args.dev.now args.rec.now (λ i. (shared-slice-known2.given i).fits) args.from pre.1.0 pre.1.1
+    source_event args.dev.now args.rec.now (λ i. (shared-slice-known2 i).fits) args.from pre.1.0 pre.1.1
 
 pub put_id-requires : goal.put_id-requires
 put_id-requires c =
@@ -52,7 +52,7 @@ put_id-requires c =
     let shared-slice-known2 = c.type_inv.dev in
     let args = entry in
     let pre = pre-call in (
-      source_matched args.dev.now args.rec.now (λ i. (shared-slice-known2.given i).fits) args.from pre.1.0 pre.1.1,
+      source_matched args.dev.now args.rec.now (λ i. (shared-slice-known2 i).fits) args.from pre.1.0 pre.1.1,
       pre.2,
     )
 
@@ -63,7 +63,7 @@ put_driver-requires c =
     let shared-slice-known2 = c.type_inv.dev in
     let args = entry in
     let pre = pre-call in (
-      source_matched args.dev.now args.rec.now (λ i. (shared-slice-known2.given i).fits) args.from pre.1.0 pre.1.1,
+      source_matched args.dev.now args.rec.now (λ i. (shared-slice-known2 i).fits) args.from pre.1.0 pre.1.1,
       pre.2,
     )
 
@@ -76,7 +76,7 @@ put_decimal-requires c =
     let pre = pre-call in (
       omega arith,
       omega arith,
-      source_head args.dev.now args.rec.now (λ i. (shared-slice-known2.given i).fits) args.from pre.1.0 pre.1.1,
+      source_head args.dev.now args.rec.now (λ i. (shared-slice-known2 i).fits) args.from pre.1.0 pre.1.1,
       pre.2,
     )
 
@@ -89,7 +89,7 @@ put_decimal-requires-in-Minor c =
     let pre = pre-call in (
       omega arith,
       omega arith,
-      source_head args.dev.now args.rec.now (λ i. (shared-slice-known2.given i).fits) args.from pre.1.0 pre.1.1,
+      source_head args.dev.now args.rec.now (λ i. (shared-slice-known2 i).fits) args.from pre.1.0 pre.1.1,
       pre.2,
     )
 
@@ -101,7 +101,7 @@ overflow_add-start c =
     let entry = c.args in
     let pre = c.requires in
     let p2 = c.in-Attr in
-    let w : PieceWithin (Attr p2.given.0.0 p2.given.0.1.0) entry.template.now = rw p2.given.1 at pre.0 in
+    let w : PieceWithin (Attr p2.start p2.len) entry.template.now = rw p2.is at pre.0 in
     omega arith
 
 pub slice_bounds-put_attribute-end : goal.slice_bounds-put_attribute-end
@@ -109,7 +109,7 @@ slice_bounds-put_attribute-end c =
     let entry = c.args in
     let pre = c.requires in
     let p2 = c.in-Attr in
-    let w : PieceWithin (Attr p2.given.0.0 p2.given.0.1.0) entry.template.now = rw p2.given.1 at pre.0 in
+    let w : PieceWithin (Attr p2.start p2.len) entry.template.now = rw p2.is at pre.0 in
     omega arith
 
 pub put_attribute-requires : goal.put_attribute-requires
@@ -120,8 +120,8 @@ put_attribute-requires c =
     let args = entry in
     let pre = pre-call in
     let shared-slice-known2 = shared-slice-known2-call in (
-      source_event args.dev.now args.rec.now (λ i. (shared-slice-known2.given i).fits) args.from pre.1.0 pre.1.1,
-      source_matched args.dev.now args.rec.now (λ i. (shared-slice-known2.given i).fits) args.from pre.1.0 pre.1.1,
+      source_event args.dev.now args.rec.now (λ i. (shared-slice-known2 i).fits) args.from pre.1.0 pre.1.1,
+      source_matched args.dev.now args.rec.now (λ i. (shared-slice-known2 i).fits) args.from pre.1.0 pre.1.1,
       pre.2,
     )
 
@@ -130,7 +130,7 @@ overflow_add-start-in-Env c =
     let entry = c.args in
     let pre = c.requires in
     let p3 = c.in-Env in
-    let w : PieceWithin (Env p3.given.0.0 p3.given.0.1.0) entry.template.now = rw p3.given.1 at pre.0 in
+    let w : PieceWithin (Env p3.start p3.len) entry.template.now = rw p3.is at pre.0 in
     omega arith
 
 pub slice_bounds-put_property-end : goal.slice_bounds-put_property-end
@@ -138,7 +138,7 @@ slice_bounds-put_property-end c =
     let entry = c.args in
     let pre = c.requires in
     let p3 = c.in-Env in
-    let w : PieceWithin (Env p3.given.0.0 p3.given.0.1.0) entry.template.now = rw p3.given.1 at pre.0 in
+    let w : PieceWithin (Env p3.start p3.len) entry.template.now = rw p3.is at pre.0 in
     omega arith
 
 pub put_property-requires : goal.put_property-requires
@@ -149,7 +149,7 @@ put_property-requires c =
     let pre = pre-call in
     let args = entry in (
       pre.1.1.inside,
-      source_row args.dev.now args.rec.now (λ i. (shared-slice-known2.given i).fits) args.from pre.1.0 pre.1.1,
+      source_row args.dev.now args.rec.now (λ i. (shared-slice-known2 i).fits) args.from pre.1.0 pre.1.1,
       pre.2,
     )
 
@@ -162,9 +162,9 @@ returns-in-Written c =
     let p = p-call in
     let put_byte = put-byte-call in
     λ s h.
-    piece-written args.spaceless s args.template.now args.p (T.written p.given.0.0) _ args.out.now args.used
-    put_byte.result _ (ap (λ (y : Piece). meaning y args.template.now) p.given.1)
-    (written-text args.spaceless s p.given.0.0) put_byte.ensures
+    piece-written args.spaceless s args.template.now args.p (T.written p.b) _ args.out.now args.used
+    put_byte.result _ (ap (λ (y : Piece). meaning y args.template.now) p.is)
+    (written-text args.spaceless s p.b) put_byte.ensures
 
 pub returns-in-Kernel : goal.returns-in-Kernel
 unfolding inserted
@@ -177,7 +177,7 @@ returns-in-Kernel c =
     let put-text = put-text-call in
     λ s h.
     piece-inserted args.spaceless s args.template.now args.p T.kernel _ args.out.now args.used put-text.result _
-    (ap (λ (y : Piece). meaning y args.template.now) enum_told.given.1) refl
+    (ap (λ (y : Piece). meaning y args.template.now) enum_told.is) refl
     (name-at.ensures s.device.event h.event) put-text.ensures
 
 pub returns-in-Number : goal.returns-in-Number
@@ -190,7 +190,7 @@ returns-in-Number c =
     let put-number = put-number-call in
     λ s h.
     piece-inserted args.spaceless s args.template.now args.p T.number _ args.out.now args.used put-number.result _
-    (ap (λ (y : Piece). meaning y args.template.now) enum-told2.given.1) refl (refl)
+    (ap (λ (y : Piece). meaning y args.template.now) enum-told2.is) refl (refl)
     (put-number.ensures s.device.event h.event)
 
 pub returns-in-Devpath : goal.returns-in-Devpath
@@ -204,7 +204,7 @@ returns-in-Devpath c =
     let put-text2 = put-text2-call in
     λ s h.
     piece-inserted args.spaceless s args.template.now args.p T.devpath _ args.out.now args.used put-text2.result _
-    (ap (λ (y : Piece). meaning y args.template.now) enum-told3.given.1) refl
+    (ap (λ (y : Piece). meaning y args.template.now) enum-told3.is) refl
     (path-at.ensures s.device.event h.event) put-text2.ensures
 
 pub returns-in-Id : goal.returns-in-Id
@@ -217,7 +217,7 @@ returns-in-Id c =
     let put_id = put-id-call in
     λ s h.
     piece-inserted args.spaceless s args.template.now args.p T.id _ args.out.now args.used put_id.result _
-    (ap (λ (y : Piece). meaning y args.template.now) enum-told4.given.1) refl (refl)
+    (ap (λ (y : Piece). meaning y args.template.now) enum-told4.is) refl (refl)
     (put_id.ensures (matched_in s) h.matched)
 
 pub returns-in-Driver : goal.returns-in-Driver
@@ -230,7 +230,7 @@ returns-in-Driver c =
     let put-driver = put-driver-call in
     λ s h.
     piece-inserted args.spaceless s args.template.now args.p T.driver _ args.out.now args.used put-driver.result _
-    (ap (λ (y : Piece). meaning y args.template.now) enum-told5.given.1) refl (refl)
+    (ap (λ (y : Piece). meaning y args.template.now) enum-told5.is) refl (refl)
     (put-driver.ensures (matched_in s) h.matched)
 
 pub returns-in-Major : goal.returns-in-Major
@@ -244,8 +244,8 @@ returns-in-Major c =
     let put-decimal = put-decimal-call in
     λ s h.
     piece-inserted args.spaceless s args.template.now args.p T.major _ args.out.now args.used put-decimal.result _
-    (ap (λ (y : Piece). meaning y args.template.now) enum-told6.given.1) refl
-    (ap decimal (major-is args.dev.now s.device (λ i. (shared-slice-known2.given i).fits) h.device))
+    (ap (λ (y : Piece). meaning y args.template.now) enum-told6.is) refl
+    (ap decimal (major-is args.dev.now s.device (λ i. (shared-slice-known2 i).fits) h.device))
     put-decimal.ensures
 
 pub returns-in-Minor : goal.returns-in-Minor
@@ -259,8 +259,8 @@ returns-in-Minor c =
     let put-decimal2 = put-decimal2-call in
     λ s h.
     piece-inserted args.spaceless s args.template.now args.p T.minor _ args.out.now args.used put-decimal2.result _
-    (ap (λ (y : Piece). meaning y args.template.now) enum-told7.given.1) refl
-    (ap decimal (minor-is args.dev.now s.device (λ i. (shared-slice-known2.given i).fits) h.device))
+    (ap (λ (y : Piece). meaning y args.template.now) enum-told7.is) refl
+    (ap decimal (minor-is args.dev.now s.device (λ i. (shared-slice-known2 i).fits) h.device))
     put-decimal2.ensures
 
 pub returns-in-Result : goal.returns-in-Result
@@ -272,7 +272,7 @@ returns-in-Result c =
     let put-text3 = c.put_text-in-Result in
     λ s h.
     piece-inserted args.spaceless s args.template.now args.p T.result _ args.out.now args.used put-text3.result _
-    (ap (λ (y : Piece). meaning y args.template.now) told.given.1) refl (output-of.ensures ∙ h.output.is) put-text3.ensures
+    (ap (λ (y : Piece). meaning y args.template.now) told.is) refl (output-of.ensures ∙ h.output.is) put-text3.ensures
 
 pub returns-in-Attr : goal.returns-in-Attr
 unfolding inserted
@@ -285,10 +285,10 @@ returns-in-Attr c =
     let put-attribute = put-attribute-call in
     λ s h.
     piece-inserted args.spaceless s args.template.now args.p
-    (T.attr (take p2.given.0.1.0 (drop p2.given.0.0 args.template.now))) _ args.out.now args.used
-    put-attribute.result _ (ap (λ (y : Piece). meaning y args.template.now) p2.given.1) refl
+    (T.attr (take p2.len (drop p2.start args.template.now))) _ args.out.now args.used
+    put-attribute.result _ (ap (λ (y : Piece). meaning y args.template.now) p2.is) refl
     (ap (λ (k : List ℕ). trim (or_empty (first_of (attr_of k s.device.event) (attr_at k (matched_in s)))))
-    (sized-part args.template.now p2.given.0.0 p2.given.0.1.0))
+    (sized-part args.template.now p2.start p2.len))
     (put-attribute.ensures s.device.event h.event (matched_in s) h.matched)
 
 pub returns-in-Env : goal.returns-in-Env
@@ -302,11 +302,11 @@ returns-in-Env c =
     let put-property = put-property-call in
     λ s h.
     piece-inserted args.spaceless s args.template.now args.p
-    (T.env (take p3.given.0.1.0 (drop p3.given.0.0 args.template.now))) _ args.out.now args.used
-    put-property.result _ (ap (λ (y : Piece). meaning y args.template.now) p3.given.1) refl
+    (T.env (take p3.len (drop p3.start args.template.now))) _ args.out.now args.used
+    put-property.result _ (ap (λ (y : Piece). meaning y args.template.now) p3.is) refl
     (value_part args.rec.now _ args.from.count args.from.properties s.properties h.rest h.properties ∙ ap
     (λ (k : List ℕ). or_empty (lookup k s.properties))
-    (sized-part args.template.now p3.given.0.0 p3.given.0.1.0))
+    (sized-part args.template.now p3.start p3.len))
     put-property.ensures
 
 pub returns-in-Dollar : goal.returns-in-Dollar
@@ -318,7 +318,7 @@ returns-in-Dollar c =
     let put-byte2 = put-byte2-call in
     λ s h.
     piece-written args.spaceless s args.template.now args.p T.dollar _ args.out.now args.used put-byte2.result _
-    (ap (λ (y : Piece). meaning y args.template.now) enum-told9.given.1) (dollar-text args.spaceless s)
+    (ap (λ (y : Piece). meaning y args.template.now) enum-told9.is) (dollar-text args.spaceless s)
     put-byte2.ensures
 
 pub returns-in-Percent : goal.returns-in-Percent
@@ -330,5 +330,5 @@ returns-in-Percent c =
     let put-byte3 = put-byte3-call in
     λ s h.
     piece-written args.spaceless s args.template.now args.p T.percent _ args.out.now args.used put-byte3.result _
-    (ap (λ (y : Piece). meaning y args.template.now) enum-told10.given.1) (percent-text args.spaceless s)
+    (ap (λ (y : Piece). meaning y args.template.now) enum-told10.is) (percent-text args.spaceless s)
     put-byte3.ensures

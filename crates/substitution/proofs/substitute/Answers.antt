@@ -25,8 +25,8 @@ loop-next-smaller c =
     let put-at = c.put_at in
     let loop = loop-call in
     let next = c.in-Next in
-    let w : Onward entry.template.now loop.i next.given.0.0 next.given.0.1.0 (length loop.out) =
-    rw next.given.1 at put-at.ensures.0 in
+    let w : Onward entry.template.now loop.i next.next next.k (length loop.out) =
+    rw next.is at put-at.ensures.0 in
     omega (arith, w.forward, w.inside)
 
 pub loop-next-preserved : goal.loop-next-preserved
@@ -38,15 +38,15 @@ loop-next-preserved c =
     let loop = loop-call in
     let put-at = put-at-call in
     let next = c.in-Next in
-    let w : Onward args.template.now loop.i next.given.0.0 next.given.0.1.0 (length loop.out) =
-    rw next.given.1 at put-at.ensures.0 in (
+    let w : Onward args.template.now loop.i next.next next.k (length loop.out) =
+    rw next.is at put-at.ensures.0 in (
       w.inside,
       w.sound,
       omega (arith, w.room),
       omega arith,
       λ s h r m z.
-          let t : Turned args.spaceless s args.template.now loop.i loop.out loop.used (Next next.given.0.0 next.given.0.1.0) _ =
-          rw next.given.1 at (put-at.ensures.1 s h) in
+          let t : Turned args.spaceless s args.template.now loop.i loop.out loop.used (Next next.next next.k) _ =
+          rw next.is at (put-at.ensures.1 s h) in
           loop.invariant.4 s h r m (t r m z),
     )
 
