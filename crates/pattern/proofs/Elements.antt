@@ -48,6 +48,7 @@ Single (set opposite rs) = Unit {0}
 
 fits-single : (e : Element) → Single e → (o : Option (List Element)) (v : List ℕ) → fits_of (before e o) v ≡ eats (takes e) (fits_of o) v
 unfolding fits
+fits-single star s o v = elim s [ ]
 fits-single one s none v = sym (none_eaten (takes one) v)
 fits-single one s (some es) v = refl
 fits-single (byte a) s none v = sym (none_eaten (takes (byte a)) v)

@@ -22,7 +22,7 @@ loop-i-preserved c =
     let a = c.args in (
       omega arith,
       ap₂ (λ (x y : ℕ). x * 256 + y) c.loop-i.invariant.1
-          c.wide.ensures.0 ∙ sym (number_step a.s.now a.first c.loop-i.i (λ i. (c.type_inv.s.given i).fits) (omega arith)),
+          c.wide.ensures.0 ∙ sym (number_step a.s.now a.first c.loop-i.i (λ i. (c.type_inv.s i).fits) (omega arith)),
     )
 
 pub returns : goal.returns

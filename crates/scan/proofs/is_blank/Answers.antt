@@ -5,6 +5,3 @@ use Rattle.scan.proofs.is_blank.Goals as goal
 
 pub returns-in-32 : goal.returns-in-32
 returns-in-32 c = ⊎_elim (λ w. rw w) (λ w. rw w) c.in-32.is
-
-pub returns-in_default : goal.returns-in_default
-returns-in_default c = simp (ne_eqb _ 9 (λ e. c.in_default.rest.1 (inl e)), ne_eqb _ 32 (λ e. c.in_default.rest.1 (inr e)))

@@ -10,13 +10,3 @@ pub returns-in-9-to-13 : goal.returns-in-9-to-13
 returns-in-9-to-13 c =
     let b = c.args.b in
     simp (le-leb 9 b (omega arith), le-leb b 13 (omega arith))
-
-pub returns-in_default : goal.returns-in_default
-returns-in_default c =
-    let b = c.args.b in
-    simp (lt-leb 9 b (omega arith), ne_eqb b 32 c.in_default-1.rest.1)
-
-pub returns-in_default-2 : goal.returns-in_default-2
-returns-in_default-2 c =
-    let b = c.args.b in
-    simp (le-leb 9 b (omega arith), lt-leb b 13 (omega arith), ne_eqb b 32 c.in_default-1.rest.1)

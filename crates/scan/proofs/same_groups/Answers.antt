@@ -40,5 +40,5 @@ returns c =
     let if1 = c.if-not-same_group in
     sym
     (c.loop-i.invariant ∙ same-behind entry.a.now entry.b.now (length entry.a.now - 8) c.loop-i.i (omega arith)
-    (same-group.ensures.0 (not-false _ if1.false) ∙ same_out entry.a.now entry.b.now (length entry.a.now - 8 + 8)
+    (same-group.ensures.0 (not-false _ if1.false-raw) ∙ same_out entry.a.now entry.b.now (length entry.a.now - 8 + 8)
     (omega arith) (omega arith)))

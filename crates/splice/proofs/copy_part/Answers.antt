@@ -11,8 +11,8 @@ use Rattle.splice.proofs.copy_part.Goals as goal
 
 pub slice_bounds-store-length-2 : goal.slice_bounds-store-length-2
 slice_bounds-store-length-2 c =
-    let entry = c.before.before.before.before.before.before.before.before.args in
-    let pre = c.before.before.before.before.before.before.before.before.requires in
+    let entry = c.args in
+    let pre = c.requires in
     let store = c.store in
     sym
     (ap length
@@ -22,8 +22,8 @@ slice_bounds-store-length-2 c =
 
 pub store-requires-2 : goal.store-requires-2
 store-requires-2 c =
-    let entry = c.before.before.before.before.before.before.before.before.args in
-    let pre = c.before.before.before.before.before.before.before.before.requires in
+    let entry = c.args in
+    let pre = c.requires in
     let store = c.store in
     omega (
       arith,
@@ -36,8 +36,8 @@ store-requires-2 c =
 
 pub returns : goal.returns
 returns c =
-    let entry = c.before.before.before.before.before.before.before.before.before.before.before.args in
-    let pre = c.before.before.before.before.before.before.before.before.before.before.before.requires in
+    let entry = c.args in
+    let pre = c.requires in
     let store = c.store in
     let store2 = c.store-2 in
     store2.ensures ∙ ap (stored entry.t.now entry.at)

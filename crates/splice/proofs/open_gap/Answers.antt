@@ -58,7 +58,7 @@ loop-k-preserved c =
     let copy-part = c.copy_part in (
       omega (arith, next-size.ensures.0, next-size.ensures.1),
       omega (arith, next-size.ensures.0, next-size.ensures.1),
-      copy-part.auto.0 ∙ loop.invariant.2,
+      copy-part.auto.t ∙ loop.invariant.2,
       copy-part.ensures ∙ ap
           (λ (l : List ℕ). stored l (loop.k - next-size.result + entry.n) (part l (loop.k - next-size.result) loop.k))
           loop.invariant.3 ∙ opened-more entry.t.now (loop.k - next-size.result) loop.k entry.used entry.n

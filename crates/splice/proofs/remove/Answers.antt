@@ -69,7 +69,7 @@ loop-k-preserved c =
     let copy-part = c.copy_part in (
       omega (arith, next-size.ensures.0, next-size.ensures.1),
       omega (arith, next-size.ensures.0, next-size.ensures.1),
-      copy-part.auto.0 ∙ loop.invariant.2,
+      copy-part.auto.t ∙ loop.invariant.2,
       copy-part.ensures ∙ moved_more entry.t.now entry.at entry.n loop.t loop.k (loop.k + next-size.result)
           loop.invariant.0 (omega arith) (omega (arith, next-size.ensures.0, next-size.ensures.1)) loop.invariant.3,
     )
@@ -79,7 +79,7 @@ shape_of-t c =
     let entry = c.args in
     let loop = c.loop-k in
     let clear = c.clear in
-    same_len_mid (loop.k - entry.n) (entry.used - (loop.k - entry.n)) loop.t clear.new.0 clear.auto.0 ∙ loop.invariant.2
+    same_len_mid (loop.k - entry.n) (entry.used - (loop.k - entry.n)) loop.t clear.new.t clear.auto.t ∙ loop.invariant.2
 
 pub returns : goal.returns
 returns c =
@@ -88,5 +88,5 @@ returns c =
     let clear = c.clear in
     let n : length (part loop.t (loop.k - entry.n) entry.used) ≡ entry.n =
     length_part loop.t (loop.k - entry.n) entry.used (omega arith) ∙ omega arith in
-    done entry.t.now entry.at entry.n loop.t clear.new.0 loop.k entry.used (omega arith) (omega arith) (omega arith)
+    done entry.t.now entry.at entry.n loop.t clear.new.t loop.k entry.used (omega arith) (omega arith) (omega arith)
     loop.invariant.3 (clear.ensures ∙ ap (λ (i : ℕ). replicate i 0) n)

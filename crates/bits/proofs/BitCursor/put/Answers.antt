@@ -10,13 +10,13 @@ use Rattle.bits.proofs.BitCursor.put.Goals as goal
 
 pub returns : goal.returns
 returns c =
-    let a = c.before.before.before.before.before.before.before.before.before.args in
-    let p = c.before.before.before.before.before.before.before.Span-of.result in
-    let e = c.before.before.before.before.before.before.before.Span-of.ensures in
+    let a = c.args in
+    let p = c.span_of-p.result in
+    let e = c.span_of-p.ensures in
     let bytes =
     c.set_window.ensures
     ∙ ap (λ (m : ℕ). take p.first a.s.now ++ (bytes_of p.count (to_bits (8 * p.count) m) ++ drop (p.first + p.count) a.s.now)) c.merge.ensures
     ∙ window_merged a.s.now a.self.at a.n p.first p.count p.before p.behind e.start e.end (omega arith) a.v c.window-w.result
-    (λ i. (c.before.before.before.before.before.before.before.before.slice-known.given i).fits) c.window-w.ensures.0
+    (λ i. (c.slice_known-1.given i).fits) c.window-w.ensures.0
     in
     record { bytes = bytes; next = refl }
