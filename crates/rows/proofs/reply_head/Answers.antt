@@ -17,6 +17,6 @@ returns c =
       command = take2.ensures.value ∙ ap (λ (i : ℕ). number_at head i 10) take.ensures.next;
       output = take3.ensures.value ∙ ap (λ (i : ℕ). number_at head i 10) second;
       unused = take4.ensures.value ∙ ap (λ (i : ℕ). number_at head i 3) (take3.ensures.next ∙ ap (λ (i : ℕ). i + 10) second);
-      command-few = take2.ensures.below;
-      output-few = take3.ensures.below;
+      command_few = take2.ensures.below;
+      output_few = take3.ensures.below;
     }
