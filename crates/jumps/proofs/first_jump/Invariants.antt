@@ -8,7 +8,7 @@ use Rattle.jumps.specs.Jumps.{UpTo}
 use Rattle.jumps.proofs.first_jump.Given as goal
 
 abbrev pub invariant-loop-i : goal.invariant-loop-i
-invariant-loop-i l = (l.i ≤ l.count) × (length l.jumps ≡ length l.initial.jumps) × ((v s l : List ℕ) (m used : ℕ) → Rules v s l.rules l m used l.count → UpTo v s l.rules l.count l.jumps l.i)
+invariant-loop-i l = (l.i ≤ l.count) × (length l.jumps ≡ length l.initial.jumps) × ((v s ls : List ℕ) (m used : ℕ) → Rules v s l.rules ls m used l.count → UpTo v s l.rules l.count l.jumps l.i)
 
 abbrev pub decreases-loop-i : goal.decreases-loop-i
 decreases-loop-i l = l.count - l.i

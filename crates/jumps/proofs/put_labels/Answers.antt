@@ -24,7 +24,7 @@ loop-i-preserved c =
     let a = c.args in
     let x = a in
     let q : c.loop-i.i - 1 + 1 ≡ c.loop-i.i = omega (arith, c.loop-i-test.true) in
-    (omega (arith, c.loop-i-test.true), omega (arith, c.loop-i-test.true, c.loop-i.invariant.1), c.put_label.auto.1.1.1.1.1.1.0 ∙ c.loop-i.invariant.2, c.put_label.ensures.0 x.count (rw q c.loop-i.invariant.3), λ k h. c.put_label.ensures.1 k h ∙ c.loop-i.invariant.4 k (omega arith))
+    (omega (arith, c.loop-i-test.true), omega (arith, c.loop-i-test.true, c.loop-i.invariant.1), c.put_label.auto.later ∙ c.loop-i.invariant.2, c.put_label.ensures.0 x.count (rw q c.loop-i.invariant.3), λ k h. c.put_label.ensures.1 k h ∙ c.loop-i.invariant.4 k (omega arith))
 
 pub shape_of-later : goal.shape_of-later
 shape_of-later c = c.loop-i.invariant.2
