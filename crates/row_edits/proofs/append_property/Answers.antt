@@ -1,4 +1,5 @@
 -- `row_edits::append_property` meets its contract.
+use Rattle.std.proofs.Common.{arith, rules}
 use Prim.Native.Nat.{ℕ, ◌+◌}
 use mathlib.Core.Path.{ap, ◌∙◌, subst}
 use mathlib.Core.List.{List}
@@ -15,7 +16,7 @@ returns c =
     let a = x in
     let e = c.insert_property.ensures in record {
       between = subst Bytes e
-          (λ i. (c.type_inv.t i).fits);
+          (λ i. search rules);
       bytes = c.set_count.ensures ∙ ap (λ (y : List ℕ). put_at y (count_place Properties) (count_width Properties) (a.n + 1)) e;
       layout = c.moved.ensures ∙ ap (moved_by a.layout Properties 0) (property-size a.key.now a.value.now);
     }

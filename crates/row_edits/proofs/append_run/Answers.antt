@@ -1,4 +1,6 @@
 -- `row_edits::append_run` meets its contract.
+use Rattle.std.proofs.Common.{rules}
+use Rattle.std.proofs.Common.{arith}
 use Prim.Native.Nat.{ℕ, ◌+◌}
 use mathlib.Core.Path.{ap, ◌∙◌, subst}
 use mathlib.Core.List.{List}
@@ -15,7 +17,7 @@ returns c =
     let a = x in
     let e = c.insert_run.ensures in record {
       between = subst Bytes e
-          (λ i. (c.type_inv.t i).fits);
+          (λ i. search rules);
       bytes = c.set_count.ensures ∙ ap (λ (y : List ℕ). put_at y (count_place Runs) (count_width Runs) (a.n + 1)) e;
       layout = c.moved.ensures ∙ ap (moved_by a.layout Runs 0) (run-size a.builtin a.place a.template.now);
     }

@@ -1,4 +1,5 @@
 -- `row_edits::cut` meets its contract.
+use Rattle.std.proofs.Common.{rules}
 use Prim.Native.Nat.{ℕ}
 use mathlib.Core.Path.{ap, ◌∙◌, subst}
 use mathlib.Core.List.{List}
@@ -19,7 +20,7 @@ returns c =
     let slice-known2 = c.type_inv.t in
     let set-count = c.set_count in
     record {
-      between = subst Bytes remove.ensures (λ i. (slice-known2 i).fits);
+      between = subst Bytes remove.ensures (λ i. search rules);
       bytes = set-count.ensures ∙ ap (λ (y : List ℕ). put_at y (count_place entry.section) (count_width entry.section) entry.n) remove.ensures;
       layout = c.moved.ensures;
     }
