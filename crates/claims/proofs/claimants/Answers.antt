@@ -65,7 +65,7 @@ loop-i-preserved-then-claim c =
     let higher = c.higher-top in
     let if1 = c.if-claim in
     let sized : length loop.list ≡ length entry.list.now = loop.invariant.1 ∙ length-set entry.list.now 0 byte.result in
-    let priority = to_z-of_z {w = w32} {z = claim-at.result.priority} (record { sfits = struct_told.given.1.0.1 }) in (
+    let priority = to_z-of_z {w = w32} {z = claim-at.result.priority} (record { sfits = struct_told.1.0.1 }) in (
       seen-made entry.set.now entry.name.now (as_claimant entry.first) entry.n loop.list (as_claimant loop.top) loop.q loop.i loop.count
           loop.invariant.0 (omega (arith, loop-test.true, pre.0)) (omega (arith, loop-test.true)) claim-at.result claim-at.ensures _
           byte2.result (as_claimant higher.result) if1.true

@@ -16,7 +16,7 @@ field-output-requires c =
     let entry = c.args in
     let shared-slice-known = c.type_inv.rec in
     let (n, s, e) = pre in
-    let header = header_in n entry.rec.now s (λ i. (shared-slice-known.given i).fits) e in
+    let header = header_in n entry.rec.now s (λ i. (shared-slice-known i).fits) e in
     (omega arith, omega arith, header)
 
 pub field-owner-requires : goal.field-owner-requires
@@ -25,7 +25,7 @@ field-owner-requires c =
     let entry = c.args in
     let shared-slice-known = c.type_inv.rec in
     let (n, s, e) = pre in
-    let header = header_in n entry.rec.now s (λ i. (shared-slice-known.given i).fits) e in
+    let header = header_in n entry.rec.now s (λ i. (shared-slice-known i).fits) e in
     (omega arith, omega arith, header)
 
 pub field-group-requires : goal.field-group-requires
@@ -34,7 +34,7 @@ field-group-requires c =
     let entry = c.args in
     let shared-slice-known = c.type_inv.rec in
     let (n, s, e) = pre in
-    let header = header_in n entry.rec.now s (λ i. (shared-slice-known.given i).fits) e in
+    let header = header_in n entry.rec.now s (λ i. (shared-slice-known i).fits) e in
     (omega arith, omega arith, header)
 
 pub field-requires : goal.field-requires
@@ -43,7 +43,7 @@ field-requires c =
     let entry = c.args in
     let shared-slice-known = c.type_inv.rec in
     let (n, s, e) = pre in
-    let header = header_in n entry.rec.now s (λ i. (shared-slice-known.given i).fits) e in
+    let header = header_in n entry.rec.now s (λ i. (shared-slice-known i).fits) e in
     (omega arith, omega arith, header)
 
 pub priority_of-requires : goal.priority_of-requires
@@ -52,7 +52,7 @@ priority_of-requires c =
     let entry = c.args in
     let shared-slice-known = c.type_inv.rec in
     let (n, s, e) = pre in
-    let header = header_in n entry.rec.now s (λ i. (shared-slice-known.given i).fits) e in
+    let header = header_in n entry.rec.now s (λ i. (shared-slice-known i).fits) e in
     header
 
 pub returns : goal.returns
@@ -65,6 +65,6 @@ returns c =
     let field3 = c.field-group in
     let field4 = c.field in
     λ n s e.
-    let by : Bytes entry.rec.now = λ i. (shared-slice-known.given i).fits in
+    let by : Bytes entry.rec.now = λ i. (shared-slice-known i).fits in
     let priority = ap (λ (z : ℤ). to_z w32 (of_z w32 z)) (priority-of.ensures ∙ ap to_signed (priority-is n entry.rec.now s by e)) ∙ to_z-of_z (rank-fits n entry.rec.now s by e) in
     claims_are n entry.rec.now s by e _ (omega (arith, field.ensures.0, field2.ensures.0, field3.ensures.0)) field4.ensures.0 priority

@@ -12,7 +12,7 @@ returns-then-c-d c =
     let struct_told = c.type_inv.c in
     let struct-told2 = c.type_inv.d in
     let if1 = c.if-c-d in
-    let below : lt_z entry.c.priority entry.d.priority ≡ true = rw (to_z-of_z {w = w32} {z = entry.c.priority} (record { sfits = struct_told.given.1.0.1 }), to_z-of_z {w = w32} {z = entry.d.priority} (record { sfits = struct-told2.given.1.0.1 })) at if1.true in
+    let below : lt_z entry.c.priority entry.d.priority ≡ true = rw (to_z-of_z {w = w32} {z = entry.c.priority} (record { sfits = struct_told.1.0.1 }), to_z-of_z {w = w32} {z = entry.d.priority} (record { sfits = struct-told2.1.0.1 })) at if1.true in
     rw below
 
 pub returns-else-c-d : goal.returns-else-c-d
@@ -21,5 +21,5 @@ returns-else-c-d c =
     let struct_told = c.type_inv.c in
     let struct-told2 = c.type_inv.d in
     let if1 = c.if-c-d in
-    let below : lt_z entry.c.priority entry.d.priority ≡ false = rw (to_z-of_z {w = w32} {z = entry.c.priority} (record { sfits = struct_told.given.1.0.1 }), to_z-of_z {w = w32} {z = entry.d.priority} (record { sfits = struct-told2.given.1.0.1 })) at if1.false in
+    let below : lt_z entry.c.priority entry.d.priority ≡ false = rw (to_z-of_z {w = w32} {z = entry.c.priority} (record { sfits = struct_told.1.0.1 }), to_z-of_z {w = w32} {z = entry.d.priority} (record { sfits = struct-told2.1.0.1 })) at if1.false in
     rw below

@@ -61,8 +61,8 @@ returns-in-Faulty c =
     let loop = c.loop-i in
     let count_of = c.count_of-count in
     let loop-test = c.loop-i-test in
-    let verdict-is : VerdictIs (lent_in entry.set.now lent-in.result).device (lent_in entry.set.now lent-in.result).outcome (Faulty verdict.given.0.0) = rw (bytes_of.ensures, bytes-of2.ensures, verdict.given.1) at judge-record.ensures in
-    (left-faulty entry.set.now loop.p loop.i count_of.result loop.invariant (omega (arith, loop-test.true)) lent-in.result lent-in.ensures (of_record 0 (refusal_of verdict.given.0.0)) verdict-is, omega (arith, loop.invariant.few, loop-test.true))
+    let verdict-is : VerdictIs (lent_in entry.set.now lent-in.result).device (lent_in entry.set.now lent-in.result).outcome (Faulty verdict.why) = rw (bytes_of.ensures, bytes-of2.ensures) at verdict.ensures in
+    (left-faulty entry.set.now loop.p loop.i count_of.result loop.invariant (omega (arith, loop-test.true)) lent-in.result lent-in.ensures (of_record 0 (refusal_of verdict.why)) verdict-is, omega (arith, loop.invariant.few, loop-test.true))
 
 pub loop-i-preserved : goal.loop-i-preserved
 loop-i-preserved c =
@@ -75,7 +75,7 @@ loop-i-preserved c =
     let loop = c.loop-i in
     let count_of = c.count_of-count in
     let loop-test = c.loop-i-test in
-    let verdict-is : VerdictIs (lent_in entry.set.now lent-in.result).device (lent_in entry.set.now lent-in.result).outcome Sound = rw (bytes_of.ensures, bytes-of2.ensures, enum_told.given.1) at judge-record.ensures in
+    let verdict-is : VerdictIs (lent_in entry.set.now lent-in.result).device (lent_in entry.set.now lent-in.result).outcome Sound = rw (bytes_of.ensures, bytes-of2.ensures) at enum_told.ensures in
     left-sound entry.set.now loop.p loop.i count_of.result loop.invariant (omega (arith, loop-test.true)) lent-in.result lent-in.ensures verdict-is
 
 pub returns : goal.returns

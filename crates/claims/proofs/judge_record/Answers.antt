@@ -29,7 +29,7 @@ returns-in-Sound c =
     let enum_told = c.in-Sound in
     let check2 = c.check-2 in
     let d = is-some (decode entry.device.now) (sym check.ensures ∙ not-false _ if1.false) in
-    both_sound entry.device.now entry.outcome.now d.0 d.1 chain-of.result (chain-of.ensures d.0 d.1) enum_told.given.0.0 (sym enum_told.given.1 ∙ check2.ensures)
+    both_sound entry.device.now entry.outcome.now d.0 d.1 chain-of.result (chain-of.ensures d.0 d.1) enum_told.field-0 enum_told.ensures
 
 pub returns-in-Faulty : goal.returns-in-Faulty
 returns-in-Faulty c =
@@ -40,4 +40,4 @@ returns-in-Faulty c =
     let enum-told2 = c.in-Faulty in
     let check2 = c.check-2 in
     let d = is-some (decode entry.device.now) (sym check.ensures ∙ not-false _ if1.false) in
-    outcome_faulty entry.device.now entry.outcome.now d.0 d.1 chain-of.result (chain-of.ensures d.0 d.1) (sym enum-told2.given.1 ∙ check2.ensures)
+    outcome_faulty entry.device.now entry.outcome.now d.0 d.1 chain-of.result (chain-of.ensures d.0 d.1) enum-told2.ensures

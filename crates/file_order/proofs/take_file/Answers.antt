@@ -33,29 +33,29 @@ returns-then-loses c =
 
 pub place_of-at-requires : goal.place_of-at-requires
 place_of-at-requires c =
-    let pre = c.before.before.before.before.before.before.before.requires in
-    let entry = c.before.before.before.before.before.before.before.args in
+    let pre = c.requires in
+    let entry = c.args in
     (pre.0, pre.3, pre.0.stand entry.i pre.1)
 
 pub byte-requires : goal.byte-requires
 byte-requires c =
-    let pre = c.before.before.before.before.before.before.before.before.requires in
+    let pre = c.requires in
     omega (arith, pre.1, pre.2)
 
 pub insert-requires : goal.insert-requires
 insert-requires c =
     let place_of = c.place_of-at in
-    let pre = c.before.before.before.before.before.before.before.before.before.before.before.requires in
+    let pre = c.requires in
     (place_of.ensures.1, omega (arith, pre.4))
 
 pub returns : goal.returns
 returns c =
-    let entry = c.before.before.before.before.before.before.before.before.before.before.before.before.before.before.args in
-    let pre = c.before.before.before.before.before.before.before.before.before.before.before.before.before.before.requires in
+    let entry = c.args in
+    let pre = c.requires in
     let place_of = c.place_of-at in
     let insert = c.insert in
     let byte = c.byte in
-    let loses = c.before.before.before.before.before.before.before.before.before.loses in
-    let if1 = c.before.before.before.before.before.before.before.before.if1 in
-    taken entry.set.now entry.starts.now entry.n entry.order.now entry.k entry.i pre.3 place_of.result insert.new.0 place_of.ensures pre.4 pre.1 (insert.ensures ∙ ap
-    (λ (x : ℕ). inserted entry.order.now place_of.result entry.k (x ∷ [])) byte.ensures) insert.auto.0 (sym loses.ensures ∙ if1.false)
+    let loses = c.loses in
+    let if1 = c.if-loses in
+    taken entry.set.now entry.starts.now entry.n entry.order.now entry.k entry.i pre.3 place_of.result insert.new.t place_of.ensures pre.4 pre.1 (insert.ensures ∙ ap
+    (λ (x : ℕ). inserted entry.order.now place_of.result entry.k (x ∷ [])) byte.ensures) insert.auto.t (sym loses.ensures ∙ if1.false)

@@ -23,9 +23,9 @@ loop-i-preserved c =
     let pre = c.requires in
     let loop-test = c.loop-i-test in
     let take-file = c.take_file-k in (
-      ordered-next entry.set.now entry.starts.now entry.n loop.order loop.k loop.i pre.0.room loop.invariant.0 (omega (arith, loop-test.true)) take-file.new.1.1.1.0 take-file.result
-          take-file.auto.1.1.1.0 take-file.ensures,
-      take-file.auto.1.1.1.0 ∙ loop.invariant.1,
+      ordered-next entry.set.now entry.starts.now entry.n loop.order loop.k loop.i pre.0.room loop.invariant.0 (omega (arith, loop-test.true)) take-file.new.order take-file.result
+          take-file.auto.order take-file.ensures,
+      take-file.auto.order ∙ loop.invariant.1,
     )
 
 pub shape_of-order : goal.shape_of-order

@@ -18,49 +18,6 @@ returns-then-set-p c =
     let if1 = c.if-set-p in
     no-file entry.set.now entry.p (omega (arith, if1.true))
 
-pub returns-in_default : goal.returns-in_default
-returns-in_default c =
-    let entry = c.args in
-    let enum_told = c.in_default in
-    let name-at = c.name_at in
-    let if1 = c.if-set-p in
-    let none : one_text ok_name (drop (entry.p + 1) entry.set.now) ≡ bad = rw enum_told.given.1 at name-at.ensures in
-    no_name entry.set.now entry.p (omega (arith, if1.false)) none
-
-pub long_at-requires : goal.long_at-requires
-long_at-requires c =
-    let entry = c.args in
-    let name = c.in-Inside in
-    let name-at = c.name_at in
-    let is : NameIs entry.set.now (entry.p + 1) name.given.0.0 = rw name.given.1 at name-at.ensures in
-    is.inside.within
-
-pub returns-in_default-long_at : goal.returns-in_default-long_at
-returns-in_default-long_at c =
-    let entry = c.args in
-    let name = c.in-Inside in
-    let name-at = c.name_at in
-    let enum-told2 = c.in_default-long_at in
-    let long-at = c.long_at in
-    let if1 = c.if-set-p in
-    let is : NameIs entry.set.now (entry.p + 1) name.given.0.0 = rw name.given.1 at name-at.ensures in
-    let none : one_long (drop name.given.0.0.end entry.set.now) ≡ bad = rw enum-told2.given.1 at long-at.ensures in
-    no_text entry.set.now entry.p (omega (arith, if1.false)) _ is none
-
-pub returns-then-wide-gt-LAST_RANK : goal.returns-then-wide-gt-LAST_RANK
-returns-then-wide-gt-LAST_RANK c =
-    let entry = c.args in
-    let name = c.in-Inside in
-    let name-at = c.name_at in
-    let text = c.in-Inside-long_at in
-    let long-at = c.long_at in
-    let if1 = c.if-set-p in
-    let wide = c.wide in
-    let if2 = c.if-wide-gt-LAST_RANK in
-    let is : NameIs entry.set.now (entry.p + 1) name.given.0.0 = rw name.given.1 at name-at.ensures in
-    let at : LongIs entry.set.now name.given.0.0.end text.given.0.0 = rw text.given.1 at long-at.ensures in
-    no-rank entry.set.now entry.p (omega (arith, if1.false)) _ is _ at (omega (arith, wide.ensures, if2.true))
-
 pub returns : goal.returns
 returns c =
     let entry = c.args in
@@ -71,6 +28,27 @@ returns c =
     let if1 = c.if-set-p in
     let wide = c.wide in
     let if2 = c.if-wide-gt-LAST_RANK in
-    let is : NameIs entry.set.now (entry.p + 1) name.given.0.0 = rw name.given.1 at name-at.ensures in
-    let at : LongIs entry.set.now name.given.0.0.end text.given.0.0 = rw text.given.1 at long-at.ensures in
+    let is : NameIs entry.set.now (entry.p + 1) name.name = name.ensures in
+    let at : LongIs entry.set.now name.name.end text.text = text.ensures in
     file-is entry.set.now entry.p (omega (arith, if1.false)) _ is _ at (omega (arith, wide.ensures, if2.false))
+
+pub returns-in_default-long_at : goal.returns-in_default-long_at
+returns-in_default-long_at c =
+    let entry = c.args in
+    let name = c.in-Inside in
+    let name-at = c.name_at in
+    let enum-told2 = c.in_default-long_at in
+    let long-at = c.long_at in
+    let if1 = c.if-set-p in
+    let is : NameIs entry.set.now (entry.p + 1) name.name = name.ensures in
+    let none : one_long (drop name.name.end entry.set.now) ≡ bad = enum-told2.ensures in
+    no_text entry.set.now entry.p (omega (arith, if1.false)) _ is none
+
+pub returns-in_default : goal.returns-in_default
+returns-in_default c =
+    let entry = c.args in
+    let enum_told = c.in_default in
+    let name-at = c.name_at in
+    let if1 = c.if-set-p in
+    let none : one_text ok_name (drop (entry.p + 1) entry.set.now) ≡ bad = enum_told.ensures in
+    no_name entry.set.now entry.p (omega (arith, if1.false)) none

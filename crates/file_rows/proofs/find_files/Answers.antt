@@ -47,33 +47,11 @@ shape_of-starts-in_default c =
     let pre = c.requires in
     omega (arith, loop.invariant.room, pre)
 
-pub returns-in_default : goal.returns-in_default
-returns-in_default c =
-    let loop = c.loop-i in
-    let entry = c.args in
-    let enum_told = c.in_default in
-    let file-at = c.file_at in
-    let count_of = c.count_of-count in
-    let loop-test = c.loop-i-test in
-    let none : one_file (drop loop.p entry.set.now) ≡ bad = rw enum_told.given.1 at file-at.ensures in
-    found-bad entry.set.now loop.starts loop.p loop.i count_of.result loop.invariant (omega (arith, loop-test.true)) none
-
 pub bounds-starts-i : goal.bounds-starts-i
 bounds-starts-i c =
     let loop = c.loop-i in
     let loop-test = c.loop-i-test in
     omega (arith, loop.invariant.most, loop.invariant.room, loop-test.true)
-
-pub loop-i-preserved : goal.loop-i-preserved
-loop-i-preserved c =
-    let entry = c.args in
-    let loop = c.loop-i in
-    let end = c.in-Inside in
-    let file-at = c.file_at in
-    let count_of = c.count_of-count in
-    let loop-test = c.loop-i-test in
-    let is : FileIs entry.set.now loop.p end.given.0.0 = rw end.given.1 at file-at.ensures in
-    found-next entry.set.now loop.starts loop.p loop.i count_of.result loop.invariant (omega (arith, loop-test.true)) _ is
 
 pub shape_of-starts-then-p-set : goal.shape_of-starts-then-p-set
 shape_of-starts-then-p-set c =
@@ -104,3 +82,14 @@ returns c =
     let loop-test = c.loop-i-test in
     let if3 = c.if-p-set in
     found_all entry.set.now loop.starts loop.p loop.i count_of.result loop.invariant (omega (arith, loop-test.false)) if3.false
+
+pub loop-i-preserved : goal.loop-i-preserved
+loop-i-preserved c =
+    let entry = c.args in
+    let loop = c.loop-i in
+    let end = c.in-Inside in
+    let file-at = c.file_at in
+    let count_of = c.count_of-count in
+    let loop-test = c.loop-i-test in
+    let is : FileIs entry.set.now loop.p end.end = end.ensures in
+    found-next entry.set.now loop.starts loop.p loop.i count_of.result loop.invariant (omega (arith, loop-test.true)) _ is

@@ -29,7 +29,7 @@ loop-done-preserved c =
     let list-record = c.list_record-done in
     let loop = c.loop-done in
     let if1 = c.loop-done-test in
-    (list-record.ensures.0, list-record.auto.0 ∙ loop.invariant.1, omega (arith, list-record.ensures.1, if1.true))
+    (list-record.ensures.0, list-record.auto.t ∙ loop.invariant.1, omega (arith, list-record.ensures.1, if1.true))
 
 pub shape_of-t : goal.shape_of-t
 shape_of-t c =

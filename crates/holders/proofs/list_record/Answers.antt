@@ -126,7 +126,7 @@ put_name-end-requires c =
     let first-is = first-here entry.set.now entry.done.next lent-in.result lent-in.ensures here.0 (drop (suc entry.done.records) (states_in entry.set.now)) standing in
     let held : decode first-is.chain bytes_of.result.now ≡ some here.0 = ap (decode first-is.chain) bytes_of.ensures ∙ first-is.held in
     let next = subst (λ (m : ℕ). Standing entry.set.now lent-in.result.outcome.end (drop m (states_in entry.set.now))) (sym (add-one entry.done.records)) first-is.others in
-    let by = subst Bytes (sym bytes_of.ensures) (bytes_take (lent-in.result.outcome.end - lent-in.result.outcome.start) (drop lent-in.result.outcome.start entry.set.now) (bytes_drop lent-in.result.outcome.start entry.set.now (λ i. (shared-slice-known.given i).fits))) in
+    let by = subst Bytes (sym bytes_of.ensures) (bytes_take (lent-in.result.outcome.end - lent-in.result.outcome.start) (drop lent-in.result.outcome.start entry.set.now) (bytes_drop lent-in.result.outcome.start entry.set.now (λ i. (shared-slice-known i).fits))) in
     let unclaimed = sym claimed-before.ensures ∙ not-true _ if1.true in
     turning_naming entry.set.now bytes_of.result.now entry.done.records _ loop.t loop.end loop.names loop.q loop.left loop.invariant.0
     (omega (arith, loop-test.true)) parts_at.result parts_at.ensures unclaimed

@@ -18,14 +18,14 @@ claimants-holding-requires c =
 pub slice_bounds-list-end : goal.slice_bounds-list-end
 slice_bounds-list-end c =
     let claimants = c.claimants-holding in
-    let inside : claimants.result.count ≤ length claimants.new.1.1.1.1.1.0 = omega (arith, claimants.ensures.few, claimants.auto) in
+    let inside : claimants.result.count ≤ length claimants.new.list = omega (arith, claimants.ensures.few, claimants.auto) in
     inside
 
 pub slice_bounds-put_row-end : goal.slice_bounds-put_row-end
 slice_bounds-put_row-end c =
     let claimants = c.claimants-holding in
-    let inside : claimants.result.count ≤ length claimants.new.1.1.1.1.1.0 = omega (arith, claimants.ensures.few, claimants.auto) in
-    sym (length-take-le claimants.result.count claimants.new.1.1.1.1.1.0 inside)
+    let inside : claimants.result.count ≤ length claimants.new.list = omega (arith, claimants.ensures.few, claimants.auto) in
+    sym (length-take-le claimants.result.count claimants.new.list inside)
 
 pub byte-requires : goal.byte-requires
 byte-requires c =
@@ -38,9 +38,9 @@ put_row-requires c =
     let entry = c.args in
     let pre = c.requires in
     let byte = c.byte in
-    let inside : claimants.result.count ≤ length claimants.new.1.1.1.1.1.0 = omega (arith, claimants.ensures.few, claimants.auto) in
-    let row = naming-row entry.t.now entry.at entry.set.now entry.p entry.n entry.name.now entry.first (pre) claimants.new.1.1.1.1.1.0 claimants.result claimants.ensures byte.result byte.ensures in
-    (subst (λ (e : Listed). entry.at + length (enc_listed e) ≤ length entry.t.now) (sym row) pre.room, pre.short, omega (arith, length-take-le claimants.result.count claimants.new.1.1.1.1.1.0 inside, claimants.ensures.few))
+    let inside : claimants.result.count ≤ length claimants.new.list = omega (arith, claimants.ensures.few, claimants.auto) in
+    let row = naming-row entry.t.now entry.at entry.set.now entry.p entry.n entry.name.now entry.first (pre) claimants.new.list claimants.result claimants.ensures byte.result byte.ensures in
+    (subst (λ (e : Listed). entry.at + length (enc_listed e) ≤ length entry.t.now) (sym row) pre.room, pre.short, omega (arith, length-take-le claimants.result.count claimants.new.list inside, claimants.ensures.few))
 
 pub returns : goal.returns
 returns c =
@@ -49,5 +49,5 @@ returns c =
     let claimants = c.claimants-holding in
     let byte = c.byte in
     let put-row = c.put_row in
-    let row = naming-row entry.t.now entry.at entry.set.now entry.p entry.n entry.name.now entry.first (pre) claimants.new.1.1.1.1.1.0 claimants.result claimants.ensures byte.result byte.ensures in
+    let row = naming-row entry.t.now entry.at entry.set.now entry.p entry.n entry.name.now entry.first (pre) claimants.new.list claimants.result claimants.ensures byte.result byte.ensures in
     (put-row.ensures.0 ∙ ap (λ (e : Listed). stored entry.t.now entry.at (enc_listed e)) row, put-row.ensures.1 ∙ ap (λ (e : Listed). entry.at + length (enc_listed e)) row)

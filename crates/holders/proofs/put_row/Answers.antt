@@ -67,11 +67,11 @@ returns c =
     let byte = c.byte in
     let size = row-size entry.name.now entry.holder entry.list.now in
     let count : byte2.result ≡ length (but entry.holder entry.list.now) = byte2.ensures ∙ omega (arith, put-others.ensures.1) in
-    let stores : Stores entry.t.now store.new.0 put-others.new.0 store2.new.0 entry.at entry.holder entry.name.now entry.list.now =
+    let stores : Stores entry.t.now store.new.t put-others.new.t store2.new.t entry.at entry.holder entry.name.now entry.list.now =
     record {
       room = pre.0;
       named = store.ensures;
       others = put-others.ensures.0;
-      headed = store2.ensures ∙ ap₂ (λ (i j : ℕ). stored put-others.new.0 entry.at (i ∷ entry.holder ∷ j ∷ [])) byte.ensures count;
+      headed = store2.ensures ∙ ap₂ (λ (i j : ℕ). stored put-others.new.t entry.at (i ∷ entry.holder ∷ j ∷ [])) byte.ensures count;
     } in
-    (row-stored entry.t.now store.new.0 put-others.new.0 store2.new.0 entry.at entry.holder entry.name.now entry.list.now stores, omega (arith, size, put-others.ensures.1))
+    (row-stored entry.t.now store.new.t put-others.new.t store2.new.t entry.at entry.holder entry.name.now entry.list.now stores, omega (arith, size, put-others.ensures.1))

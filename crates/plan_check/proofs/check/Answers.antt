@@ -12,7 +12,7 @@ refused-requires c =
     let entry = c.args in
     let judged = c.in-Refused in
     let judge = c.judge-judged in
-    let is : JudgedIs entry.set.now (Refused judged.given.0.0 judged.given.0.1.0) = rw judged.given.1 at judge.ensures in
+    let is : JudgedIs entry.set.now (Refused judged.why judged.position) = judged.ensures in
     (omega (arith, is.1), omega arith)
 
 pub returns-in-Refused : goal.returns-in-Refused
@@ -21,7 +21,7 @@ returns-in-Refused c =
     let judged = c.in-Refused in
     let judge = c.judge-judged in
     let the-refused = c.refused in
-    let is : JudgedIs entry.set.now (Refused judged.given.0.0 judged.given.0.1.0) = rw judged.given.1 at judge.ensures in
+    let is : JudgedIs entry.set.now (Refused judged.why judged.position) = judged.ensures in
     check-refused entry.set.now entry.text.now the-refused.result _ is.0 the-refused.ensures
 
 pub count_of-requires : goal.count_of-requires
@@ -29,7 +29,7 @@ count_of-requires c =
     let entry = c.args in
     let enum_told = c.in_default in
     let judge = c.judge-judged in
-    let whole : Whole entry.set.now = rw enum_told.given.1 at judge.ensures in
+    let whole : Whole entry.set.now = enum_told.ensures in
     whole.some
 
 pub accepts_any-requires : goal.accepts_any-requires
@@ -38,7 +38,7 @@ accepts_any-requires c =
     let enum_told = c.in_default in
     let judge = c.judge-judged in
     let count_of = c.count_of in
-    let whole : Whole entry.set.now = rw enum_told.given.1 at judge.ensures in
+    let whole : Whole entry.set.now = enum_told.ensures in
     (whole, count_of.ensures.0 ∙ whole.counted)
 
 pub returns-then-accepts_any : goal.returns-then-accepts_any
@@ -49,7 +49,7 @@ returns-then-accepts_any c =
     let the-accepted = c.accepted in
     let accepts-any = c.accepts_any in
     let if1 = c.if-accepts_any in
-    let whole : Whole entry.set.now = rw enum_told.given.1 at judge.ensures in
+    let whole : Whole entry.set.now = enum_told.ensures in
     check-said entry.set.now entry.text.now the-accepted.result (namings_in entry.set.now) true whole.held (sym accepts-any.ensures ∙ if1.true) the-accepted.ensures
 
 pub returns : goal.returns
@@ -60,5 +60,5 @@ returns c =
     let accepted2 = c.accepted-2 in
     let accepts-any = c.accepts_any in
     let if1 = c.if-accepts_any in
-    let whole : Whole entry.set.now = rw enum_told.given.1 at judge.ensures in
+    let whole : Whole entry.set.now = enum_told.ensures in
     check-said entry.set.now entry.text.now accepted2.result (namings_in entry.set.now) false whole.held (sym accepts-any.ensures ∙ if1.false) accepted2.ensures

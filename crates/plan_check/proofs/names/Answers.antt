@@ -25,7 +25,7 @@ returns-in_default c =
     let enum_told = c.in_default in
     let entry = c.args in
     λ text e d is.
-    let unread : read_text reader text ≡ refused (line enum_told.given.0.1.0 (refusal_of enum_told.given.0.0)) = rw enum_told.given.1 at e in
+    let unread : read_text reader text ≡ refused (line enum_told.field-1 (refusal_of enum_told.given.0.0)) = rw enum_told.is at e in
     names-unread entry.device.now entry.link.now d is text _ unread
 
 pub run_rules-ran-requires : goal.run_rules-ran-requires
@@ -37,17 +37,17 @@ run_rules-ran-requires c =
     let read = c.in-Accepted in
     let (d, is) = pre.1 in
     let holds =
-    begun entry.device.now entry.link.now d is fresh.new.1.0 (length entry.t.now) pre.2 fresh.auto.1.0 fresh.result fresh.ensures
+    begun entry.device.now entry.link.now d is fresh.new.target (length entry.t.now) pre.2 fresh.auto.target fresh.result fresh.ensures
     chain-of.result (chain-of.ensures d is) _ refl
     in
-    let runnable : Runnable entry.values.now entry.rows.now entry.rules.now entry.jumps.now read.given.0.0.rules = rw read.given.1 at pre.0 in
+    let runnable : Runnable entry.values.now entry.rows.now entry.rules.now entry.jumps.now read.counts.rules = rw read.is at pre.0 in
     (runnable, (d, O.fresh d, holds), sheet_sound)
 
 pub shape_of-t-in_default-ran : goal.shape_of-t-in_default-ran
 shape_of-t-in_default-ran c =
     let run-rules = c.run_rules-ran in
     let fresh = c.fresh-begun in
-    run-rules.ensures.length ∙ fresh.auto.1.0
+    run-rules.ensures.length ∙ fresh.auto.target
 
 pub returns-in_default-ran : goal.returns-in_default-ran
 returns-in_default-ran c =
@@ -60,14 +60,14 @@ returns-in_default-ran c =
     let enum-told2 = c.in_default-ran in
     λ text e d is.
     let holds =
-    begun entry.device.now entry.link.now d is fresh.new.1.0 (length entry.t.now) pre.2 fresh.auto.1.0 fresh.result fresh.ensures
+    begun entry.device.now entry.link.now d is fresh.new.target (length entry.t.now) pre.2 fresh.auto.target fresh.result fresh.ensures
     chain-of.result (chain-of.ensures d is) _ refl
     in
-    let held : Holds text entry.values.now entry.rows.now entry.rules.now read.given.0.0.rules = rw read.given.1 at e in
-    let runs : Ran State = run_from (engine unanswered) d next (O.fresh d) (rules_from entry.values.now entry.rows.now entry.rules.now 0 read.given.0.0.rules) in
-    let stopped : Says entry.device.now chain-of.result d run-rules.new.1.1.1.1.1.1.1.1.0 (all.Refused enum-told2.given.0.0 enum-told2.given.0.1.0) runs =
-    rw enum-told2.given.1 at (run-rules.ensures.says unanswered sheet_none d (O.fresh d) holds) in
-    names-refused entry.device.now entry.link.now d is text (rules_from entry.values.now entry.rows.now entry.rules.now 0 read.given.0.0.rules) held _ stopped
+    let held : Holds text entry.values.now entry.rows.now entry.rules.now read.counts.rules = rw read.is at e in
+    let runs : Ran State = run_from (engine unanswered) d next (O.fresh d) (rules_from entry.values.now entry.rows.now entry.rules.now 0 read.counts.rules) in
+    let stopped : Says entry.device.now chain-of.result d run-rules.new.t (all.Refused enum-told2.given.0.0 enum-told2.field-1) runs =
+    (enum-told2.ensures.says unanswered sheet_none d (O.fresh d) holds) in
+    names-refused entry.device.now entry.link.now d is text (rules_from entry.values.now entry.rows.now entry.rules.now 0 read.counts.rules) held _ stopped
 
 pub slice_bounds-has_only-end : goal.slice_bounds-has_only-end
 slice_bounds-has_only-end c =
@@ -80,76 +80,76 @@ slice_bounds-has_only-end c =
     let ran = c.in-Ended in
     let (d, is) = pre.1 in
     let holds =
-    begun entry.device.now entry.link.now d is fresh.new.1.0 (length entry.t.now) pre.2 fresh.auto.1.0 fresh.result fresh.ensures
+    begun entry.device.now entry.link.now d is fresh.new.target (length entry.t.now) pre.2 fresh.auto.target fresh.result fresh.ensures
     chain-of.result (chain-of.ensures d is) _ refl
     in
-    let runs : Ran State = run_from (engine unanswered) d next (O.fresh d) (rules_from entry.values.now entry.rows.now entry.rules.now 0 read.given.0.0.rules) in
-    let (h, e, left, _, _) : Says entry.device.now chain-of.result d run-rules.new.1.1.1.1.1.1.1.1.0 (all.Ended ran.given.0.0 ran.given.0.1.0 ran.given.0.1.1.0) runs =
-    rw ran.given.1 at (run-rules.ensures.says unanswered sheet_none d (O.fresh d) holds) in
-    left-fits (length (chain d)) run-rules.new.1.1.1.1.1.1.1.1.0 ran.given.0.0 h.state left.held
+    let runs : Ran State = run_from (engine unanswered) d next (O.fresh d) (rules_from entry.values.now entry.rows.now entry.rules.now 0 read.counts.rules) in
+    let (h, e, left, _, _) : Says entry.device.now chain-of.result d run-rules.new.t (all.Ended ran.left ran.field-1 ran.field-2) runs =
+    (ran.ensures.says unanswered sheet_none d (O.fresh d) holds) in
+    left-fits (length (chain d)) run-rules.new.t ran.left h.state left.held
 
 pub slice_bounds-has_only-end-2 : goal.slice_bounds-has_only-end-2
 slice_bounds-has_only-end-2 c =
-    let pre = c.before.before.before.before.before.before.before.before.before.before.before.before.before.before.before.before.before.before.before.before.before.before.before.before.before.requires in
-    let entry = c.before.before.before.before.before.before.before.before.before.before.before.before.before.before.before.before.before.before.before.before.before.before.before.before.before.args in
-    let fresh = c.before.before.before.before.before.before.before.before.before.before.before.before.before.fresh in
-    let chain-of = c.before.before.before.before.before.before.before.before.before.chain-of in
-    let read = c.before.before.before.before.before.before.before.before.before.before.before.before.before.before.before.before.read in
-    let run-rules = c.before.before.before.before.before.before.run-rules in
-    let ran = c.before.before.ran in
+    let pre = c.requires in
+    let entry = c.args in
+    let fresh = c.fresh-begun in
+    let chain-of = c.chain_of in
+    let read = c.in-Accepted in
+    let run-rules = c.run_rules-ran in
+    let ran = c.in-Ended in
     let (d, is) = pre.1 in
     let holds =
-    begun entry.device.now entry.link.now d is fresh.new.1.0 (length entry.t.now) pre.2 fresh.auto.1.0 fresh.result fresh.ensures
+    begun entry.device.now entry.link.now d is fresh.new.target (length entry.t.now) pre.2 fresh.auto.target fresh.result fresh.ensures
     chain-of.result (chain-of.ensures d is) _ refl
     in
-    let runs : Ran State = run_from (engine unanswered) d next (O.fresh d) (rules_from entry.values.now entry.rows.now entry.rules.now 0 read.given.0.0.rules) in
-    let (h, e, left, _, _) : Says entry.device.now chain-of.result d run-rules.new.1.1.1.1.1.1.1.1.0 (all.Ended ran.given.0.0 ran.given.0.1.0 ran.given.0.1.1.0) runs =
-    rw ran.given.1 at (run-rules.ensures.says unanswered sheet_none d (O.fresh d) holds) in
-    sym (length-take-le ran.given.0.0.end run-rules.new.1.1.1.1.1.1.1.1.0 (left-fits (length (chain d)) run-rules.new.1.1.1.1.1.1.1.1.0 ran.given.0.0 h.state left.held))
+    let runs : Ran State = run_from (engine unanswered) d next (O.fresh d) (rules_from entry.values.now entry.rows.now entry.rules.now 0 read.counts.rules) in
+    let (h, e, left, _, _) : Says entry.device.now chain-of.result d run-rules.new.t (all.Ended ran.left ran.field-1 ran.field-2) runs =
+    (ran.ensures.says unanswered sheet_none d (O.fresh d) holds) in
+    sym (length-take-le ran.left.end run-rules.new.t (left-fits (length (chain d)) run-rules.new.t ran.left h.state left.held))
 
 pub has_only-requires : goal.has_only-requires
 has_only-requires c =
-    let pre = c.before.before.before.before.before.before.before.before.before.before.before.before.before.before.before.before.before.before.before.before.before.before.before.before.before.requires in
-    let entry = c.before.before.before.before.before.before.before.before.before.before.before.before.before.before.before.before.before.before.before.before.before.before.before.before.before.args in
-    let fresh = c.before.before.before.before.before.before.before.before.before.before.before.before.before.fresh in
-    let chain-of = c.before.before.before.before.before.before.before.before.before.chain-of in
-    let read = c.before.before.before.before.before.before.before.before.before.before.before.before.before.before.before.before.read in
-    let run-rules = c.before.before.before.before.before.before.run-rules in
-    let ran = c.before.before.ran in
+    let pre = c.requires in
+    let entry = c.args in
+    let fresh = c.fresh-begun in
+    let chain-of = c.chain_of in
+    let read = c.in-Accepted in
+    let run-rules = c.run_rules-ran in
+    let ran = c.in-Ended in
     let (d, is) = pre.1 in
     let holds =
-    begun entry.device.now entry.link.now d is fresh.new.1.0 (length entry.t.now) pre.2 fresh.auto.1.0 fresh.result fresh.ensures
+    begun entry.device.now entry.link.now d is fresh.new.target (length entry.t.now) pre.2 fresh.auto.target fresh.result fresh.ensures
     chain-of.result (chain-of.ensures d is) _ refl
     in
-    let runs : Ran State = run_from (engine unanswered) d next (O.fresh d) (rules_from entry.values.now entry.rows.now entry.rules.now 0 read.given.0.0.rules) in
-    let (h, e, left, _, _) : Says entry.device.now chain-of.result d run-rules.new.1.1.1.1.1.1.1.1.0 (all.Ended ran.given.0.0 ran.given.0.1.0 ran.given.0.1.1.0) runs =
-    rw ran.given.1 at (run-rules.ensures.says unanswered sheet_none d (O.fresh d) holds) in
-    (length (chain d), h.state, left_read (length (chain d)) run-rules.new.1.1.1.1.1.1.1.1.0 ran.given.0.0 h.state left.held)
+    let runs : Ran State = run_from (engine unanswered) d next (O.fresh d) (rules_from entry.values.now entry.rows.now entry.rules.now 0 read.counts.rules) in
+    let (h, e, left, _, _) : Says entry.device.now chain-of.result d run-rules.new.t (all.Ended ran.left ran.field-1 ran.field-2) runs =
+    (ran.ensures.says unanswered sheet_none d (O.fresh d) holds) in
+    (length (chain d), h.state, left_read (length (chain d)) run-rules.new.t ran.left h.state left.held)
 
 pub shape_of-t : goal.shape_of-t
 shape_of-t c =
-    let run-rules = c.before.before.before.before.before.before.before.run-rules in
-    let fresh = c.before.before.before.before.before.before.before.before.before.before.before.before.before.before.fresh in
-    run-rules.ensures.length ∙ fresh.auto.1.0
+    let run-rules = c.run_rules-ran in
+    let fresh = c.fresh-begun in
+    run-rules.ensures.length ∙ fresh.auto.target
 
 pub returns : goal.returns
 returns c =
-    let entry = c.before.before.before.before.before.before.before.before.before.before.before.before.before.before.before.before.before.before.before.before.before.before.before.before.before.before.args in
-    let fresh = c.before.before.before.before.before.before.before.before.before.before.before.before.before.before.fresh in
-    let pre = c.before.before.before.before.before.before.before.before.before.before.before.before.before.before.before.before.before.before.before.before.before.before.before.before.before.before.requires in
-    let chain-of = c.before.before.before.before.before.before.before.before.before.before.chain-of in
-    let read = c.before.before.before.before.before.before.before.before.before.before.before.before.before.before.before.before.before.read in
-    let run-rules = c.before.before.before.before.before.before.before.run-rules in
-    let ran = c.before.before.before.ran in
+    let entry = c.args in
+    let fresh = c.fresh-begun in
+    let pre = c.requires in
+    let chain-of = c.chain_of in
+    let read = c.in-Accepted in
+    let run-rules = c.run_rules-ran in
+    let ran = c.in-Ended in
     let has-only = c.has_only in
     λ text f d is.
     let holds =
-    begun entry.device.now entry.link.now d is fresh.new.1.0 (length entry.t.now) pre.2 fresh.auto.1.0 fresh.result fresh.ensures
+    begun entry.device.now entry.link.now d is fresh.new.target (length entry.t.now) pre.2 fresh.auto.target fresh.result fresh.ensures
     chain-of.result (chain-of.ensures d is) _ refl
     in
-    let runs : Ran State = run_from (engine unanswered) d next (O.fresh d) (rules_from entry.values.now entry.rows.now entry.rules.now 0 read.given.0.0.rules) in
-    let (h, e, left, _, _) : Says entry.device.now chain-of.result d run-rules.new.1.1.1.1.1.1.1.1.0 (all.Ended ran.given.0.0 ran.given.0.1.0 ran.given.0.1.1.0) runs =
-    rw ran.given.1 at (run-rules.ensures.says unanswered sheet_none d (O.fresh d) holds) in
-    let held : Holds text entry.values.now entry.rows.now entry.rules.now read.given.0.0.rules = rw read.given.1 at f in
-    has-only.ensures (length (chain d)) h.state (left_read (length (chain d)) run-rules.new.1.1.1.1.1.1.1.1.0 ran.given.0.0 h.state left.held)
-    ∙ sym (names-ended entry.device.now entry.link.now d is text (rules_from entry.values.now entry.rows.now entry.rules.now 0 read.given.0.0.rules) held h e)
+    let runs : Ran State = run_from (engine unanswered) d next (O.fresh d) (rules_from entry.values.now entry.rows.now entry.rules.now 0 read.counts.rules) in
+    let (h, e, left, _, _) : Says entry.device.now chain-of.result d run-rules.new.t (all.Ended ran.left ran.field-1 ran.field-2) runs =
+    (ran.ensures.says unanswered sheet_none d (O.fresh d) holds) in
+    let held : Holds text entry.values.now entry.rows.now entry.rules.now read.counts.rules = rw read.given.1 at f in
+    has-only.ensures (length (chain d)) h.state (left_read (length (chain d)) run-rules.new.t ran.left h.state left.held)
+    ∙ sym (names-ended entry.device.now entry.link.now d is text (rules_from entry.values.now entry.rows.now entry.rules.now 0 read.counts.rules) held h e)

@@ -46,7 +46,7 @@ shape_of-t-then-not-named c =
     let names = c.names-named in
     let loop = c.loop-left in
     let pre = c.requires in
-    names.auto.1.1.1.1.1.1.1.0 ∙ loop.invariant.1 ∙ sym pre.3
+    names.auto.t ∙ loop.invariant.1 ∙ sym pre.3
 
 pub returns-then-not-named : goal.returns-then-not-named
 returns-then-not-named c =
@@ -76,7 +76,7 @@ loop-left-preserved c =
       walk_next (Decide entry.values.now entry.rows.now entry.rules.now entry.read entry.set.now) entry.set.now loop.p loop.left loop.invariant.0 wish-in.result here
           (decide_next entry.values.now entry.rows.now entry.rules.now entry.read entry.set.now loop.invariant.0.namings loop.invariant.0.so_far wish-in.result here bytes_of.result.now bytes-of2.result.now bytes_of.ensures bytes-of2.ensures
           names.result names.ensures (not-false _ if1.false)),
-      names.auto.1.1.1.1.1.1.1.0 ∙ loop.invariant.1,
+      names.auto.t ∙ loop.invariant.1,
     )
 
 pub shape_of-t : goal.shape_of-t

@@ -9,7 +9,7 @@ path-requires c =
     let shared-slice-known = c.type_inv.device in
     let chain-of = c.chain_of-chain in
     let (d, e) = pre in
-    event_stands entry.device.now d (λ i. (shared-slice-known.given i).fits) e chain-of.result (chain-of.ensures d e)
+    event_stands entry.device.now d (λ i. (shared-slice-known i).fits) e chain-of.result (chain-of.ensures d e)
 
 pub returns : goal.returns
 returns c =
@@ -17,4 +17,4 @@ returns c =
     let entry = c.args in
     let shared-slice-known = c.type_inv.device in
     let chain-of = c.chain_of-chain in
-    λ d e. path.ensures d.event (event_lies entry.device.now d (λ i. (shared-slice-known.given i).fits) e chain-of.result (chain-of.ensures d e))
+    λ d e. path.ensures d.event (event_lies entry.device.now d (λ i. (shared-slice-known i).fits) e chain-of.result (chain-of.ensures d e))

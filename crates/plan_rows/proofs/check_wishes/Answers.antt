@@ -52,7 +52,7 @@ returns-in_default c =
     let enum_told = c.in_default in
     let wish-at = c.wish_at in
     let loop-test = c.loop-left-test in
-    let none : one_wish (drop loop.p entry.set.now) ≡ bad = rw enum_told.given.1 at wish-at.ensures in
+    let none : one_wish (drop loop.p entry.set.now) ≡ bad = enum_told.ensures in
     sym (turn-bad one_wish loop.left (drop loop.p entry.set.now) (omega (arith, loop-test.true)) none) ∙ loop.invariant.1
 
 pub loop-left-preserved : goal.loop-left-preserved
@@ -62,8 +62,8 @@ loop-left-preserved c =
     let loop = c.loop-left in
     let wish-at = c.wish_at in
     let loop-test = c.loop-left-test in
-    let r = place.given.0.0 in
-    let is : WishIs entry.set.now loop.p r = rw place.given.1 at wish-at.ensures in
+    let r = place.place in
+    let is : WishIs entry.set.now loop.p r = place.ensures in
     (is.link.within, sym (turn-whole one_wish loop.left (drop loop.p entry.set.now) (drop r.link.end entry.set.now) (wish_in entry.set.now r) (omega (arith, loop-test.true)) is.read) ∙ loop.invariant.1)
 
 pub returns : goal.returns

@@ -15,14 +15,14 @@ returns-in_default c =
     let entry = c.args in
     let enum_told = c.in_default in
     let long-at = c.long_at in
-    let none : one_long (drop entry.p entry.set.now) ≡ bad = rw enum_told.given.1 at long-at.ensures in rw none
+    let none : one_long (drop entry.p entry.set.now) ≡ bad = enum_told.ensures in rw none
 
 pub entry_at-requires : goal.entry_at-requires
 entry_at-requires c =
     let entry = c.args in
     let device = c.in-Inside in
     let long-at = c.long_at in
-    let is : LongIs entry.set.now entry.p device.given.0.0 = rw device.given.1 at long-at.ensures in
+    let is : LongIs entry.set.now entry.p device.device = device.ensures in
     is.inside.within
 
 pub returns-in_default-entry_at : goal.returns-in_default-entry_at
@@ -32,9 +32,9 @@ returns-in_default-entry_at c =
     let long-at = c.long_at in
     let enum-told2 = c.in_default-entry_at in
     let entry_at = c.entry_at in
-    let is : LongIs entry.set.now entry.p device.given.0.0 = rw device.given.1 at long-at.ensures in
-    let none : Read kind.Text entry.set.now device.given.0.0.end Outside = rw enum-told2.given.1 at entry_at.ensures in
-    no-wish entry.set.now entry.p device.given.0.0 is (no_link entry.set.now device.given.0.0.end none)
+    let is : LongIs entry.set.now entry.p device.device = device.ensures in
+    let none : Read kind.Text entry.set.now device.device.end Outside = enum-told2.ensures in
+    no-wish entry.set.now entry.p device.device is (no_link entry.set.now device.device.end none)
 
 pub returns : goal.returns
 returns c =
@@ -44,6 +44,6 @@ returns c =
     let link = c.in-Inside-entry_at in
     let entry_at = c.entry_at in
     let shared-slice-known = c.type_inv.set in
-    let is : LongIs entry.set.now entry.p device.given.0.0 = rw device.given.1 at long-at.ensures in
-    let behind : Placed kind.Text entry.set.now device.given.0.0.end link.given.0.0 = rw link.given.1 at entry_at.ensures in
-    wish-is entry.set.now entry.p device.given.0.0 is (λ i. (shared-slice-known.given i).fits) link.given.0.0 behind _ refl refl refl
+    let is : LongIs entry.set.now entry.p device.device = device.ensures in
+    let behind : Placed kind.Text entry.set.now device.device.end link.link = link.ensures in
+    wish-is entry.set.now entry.p device.device is (λ i. (shared-slice-known i).fits) link.link behind _ refl refl refl

@@ -22,4 +22,4 @@ returns c =
     let long-in = c.long_in-device in
     let shared-slice-known = c.type_inv.set in
     let parts_at = c.parts_at-link in
-    wish-is entry.set.now entry.p long-in.result long-in.ensures (λ i. (shared-slice-known.given i).fits) parts_at.result parts_at.ensures _ refl refl refl
+    wish-is entry.set.now entry.p long-in.result long-in.ensures (λ i. (shared-slice-known i).fits) parts_at.result parts_at.ensures _ refl refl refl

@@ -21,14 +21,14 @@ returns-then-target-lt-MOST_TEXT c =
     let clear = c.clear in
     let entry = c.args in
     let if1 = c.if-target-lt-MOST_TEXT in
-    ap (answered the-refused.result) clear.ensures ∙ plan-short entry.set.now (length entry.target.now) the-refused.result (omega (arith, if1.true, clear.auto.0)) the-refused.ensures
+    ap (answered the-refused.result) clear.ensures ∙ plan-short entry.set.now (length entry.target.now) the-refused.result (omega (arith, if1.true, clear.auto.t)) the-refused.ensures
 
 pub refused-requires-in-Refused : goal.refused-requires-in-Refused
 refused-requires-in-Refused c =
     let entry = c.args in
     let judged = c.in-Refused in
     let judge = c.judge-judged in
-    let is : JudgedIs entry.set.now (Refused judged.given.0.0 judged.given.0.1.0) = rw judged.given.1 at judge.ensures in
+    let is : JudgedIs entry.set.now (Refused judged.why judged.position) = judged.ensures in
     (omega (arith, is.1), omega arith)
 
 pub returns-in-Refused : goal.returns-in-Refused
@@ -39,8 +39,8 @@ returns-in-Refused c =
     let if1 = c.if-target-lt-MOST_TEXT in
     let clear = c.clear in
     let refused2 = c.refused-in-Refused in
-    let is : JudgedIs entry.set.now (Refused judged.given.0.0 judged.given.0.1.0) = rw judged.given.1 at judge.ensures in
-    let room : most_text ≤ length entry.target.now = omega (arith, if1.false, clear.auto.0) in
+    let is : JudgedIs entry.set.now (Refused judged.why judged.position) = judged.ensures in
+    let room : most_text ≤ length entry.target.now = omega (arith, if1.false, clear.auto.t) in
     ap (answered refused2.result) clear.ensures ∙ plan-refused entry.set.now (length entry.target.now) refused2.result room _ is.0 refused2.ensures
 
 pub count_of-n-requires : goal.count_of-n-requires
@@ -48,7 +48,7 @@ count_of-n-requires c =
     let entry = c.args in
     let enum_told = c.in_default in
     let judge = c.judge-judged in
-    let whole : Whole entry.set.now = rw enum_told.given.1 at judge.ensures in
+    let whole : Whole entry.set.now = enum_told.ensures in
     whole.some
 
 pub due-requires : goal.due-requires
@@ -57,7 +57,7 @@ due-requires c =
     let enum_told = c.in_default in
     let judge = c.judge-judged in
     let count_of = c.count_of-n in
-    let whole : Whole entry.set.now = rw enum_told.given.1 at judge.ensures in
+    let whole : Whole entry.set.now = enum_told.ensures in
     (whole, count_of.ensures.0 ∙ whole.counted)
 
 pub returns-then-not-due : goal.returns-then-not-due
@@ -70,8 +70,8 @@ returns-then-not-due c =
     let the-accepted = c.accepted in
     let due = c.due in
     let if2 = c.if-not-due in
-    let whole : Whole entry.set.now = rw enum_told.given.1 at judge.ensures in
-    let room : most_text ≤ length entry.target.now = omega (arith, if1.false, clear.auto.0) in
+    let whole : Whole entry.set.now = enum_told.ensures in
+    let room : most_text ≤ length entry.target.now = omega (arith, if1.false, clear.auto.t) in
     ap (answered the-accepted.result) clear.ensures
     ∙ plan-none entry.set.now (length entry.target.now) the-accepted.result room (namings_in entry.set.now) whole.held (sym due.ensures ∙ not-true _ if2.true) the-accepted.ensures
 
@@ -84,7 +84,7 @@ put_plan-requires c =
     let if2 = c.if-not-due in
     let count_of = c.count_of-n in
     let if1 = c.if-target-lt-MOST_TEXT in
-    let whole : Whole entry.set.now = rw enum_told.given.1 at judge.ensures in
+    let whole : Whole entry.set.now = enum_told.ensures in
     let is-due = sym due.ensures ∙ not-false _ if2.false in
     let fits = plan-fits entry.set.now (namings_in entry.set.now) whole.held is-due in
     (whole, count_of.ensures.0 ∙ whole.counted, omega (arith, fits, if1.false))
@@ -97,7 +97,7 @@ accepted-requires-2 c =
     let due = c.due in
     let if2 = c.if-not-due in
     let put-plan = c.put_plan in
-    let whole : Whole entry.set.now = rw enum_told.given.1 at judge.ensures in
+    let whole : Whole entry.set.now = enum_told.ensures in
     let is-due = sym due.ensures ∙ not-false _ if2.false in
     let fits = plan-fits entry.set.now (namings_in entry.set.now) whole.held is-due in
     (omega arith, omega arith, omega (arith, fits, put-plan.ensures.end), omega arith)
@@ -113,8 +113,8 @@ returns c =
     let if2 = c.if-not-due in
     let put-plan = c.put_plan in
     let accepted2 = c.accepted-2 in
-    let whole : Whole entry.set.now = rw enum_told.given.1 at judge.ensures in
-    let room : most_text ≤ length entry.target.now = omega (arith, if1.false, clear.auto.0) in
+    let whole : Whole entry.set.now = enum_told.ensures in
+    let room : most_text ≤ length entry.target.now = omega (arith, if1.false, clear.auto.t) in
     let is-due = sym due.ensures ∙ not-false _ if2.false in
-    let put = subst (λ (l : List ℕ). Placed (plan_text (namings_in entry.set.now)) l 0 put-plan.result put-plan.new.1.1.0) clear.ensures put-plan.ensures in
-    plan-made entry.set.now (length entry.target.now) accepted2.result room (namings_in entry.set.now) whole.held is-due put-plan.result put-plan.new.1.1.0 put accepted2.ensures
+    let put = subst (λ (l : List ℕ). Placed (plan_text (namings_in entry.set.now)) l 0 put-plan.result put-plan.new.out) clear.ensures put-plan.ensures in
+    plan-made entry.set.now (length entry.target.now) accepted2.result room (namings_in entry.set.now) whole.held is-due put-plan.result put-plan.new.out put accepted2.ensures

@@ -66,7 +66,7 @@ loop-left-preserved c =
     let here = walk_here (Left entry.set.now entry.out.now loop.out loop.used) entry.set.now loop.p loop.left loop.invariant (omega (arith, loop-test.true)) wish-in.result wish-in.ensures in
     line-next entry.set.now entry.out.now loop.out loop.used loop.invariant.namings loop.invariant.so_far wish-in.result here
     bytes_of.result.now event-path.result.now bytes-of2.result.now bytes_of.ensures bytes-of2.ensures event-path.ensures
-    put-line.result put-line.new.0 put-line.ensures loop.left loop.invariant.counted
+    put-line.result put-line.new.out put-line.ensures loop.left loop.invariant.counted
 
 pub shape_of-out : goal.shape_of-out
 shape_of-out c =

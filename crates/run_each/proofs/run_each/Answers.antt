@@ -20,7 +20,7 @@ returns-then-not-check_lent c =
     let entry = c.args in
     let check-lent = c.check_lent in
     let if1 = c.if-not-check_lent in
-    wrote-refused refuse.result refuse.new.1.0 clear-numbers.new.0 (length entry.targets.now) (length entry.answers.now) (of_set set_bad) refuse.ensures clear-numbers.ensures
+    wrote-refused refuse.result refuse.new.targets clear-numbers.new.t (length entry.targets.now) (length entry.answers.now) (of_set set_bad) refuse.ensures clear-numbers.ensures
     ∙ sym (each_bad entry.text.now entry.set.now entry.sheet.now (length entry.targets.now) (length entry.answers.now) (sym check-lent.ensures ∙ not-true _ if1.true))
 
 pub count_of-n-requires : goal.count_of-n-requires
@@ -44,7 +44,7 @@ returns-then-targets-n c =
     let (ls, e) = is-some (decode_lent entry.set.now) (sym check-lent.ensures ∙ not-false _ if1.false) in
     let known = set_known entry.set.now ls e in
     let count : count_of.result ≡ length ls = count_of.ensures.0 ∙ known.counted in
-    wrote-refused refuse2.result refuse2.new.1.0 clear-numbers.new.0 (length entry.targets.now) (length entry.answers.now) (of_set target_short) refuse2.ensures clear-numbers.ensures
+    wrote-refused refuse2.result refuse2.new.targets clear-numbers.new.t (length entry.targets.now) (length entry.answers.now) (of_set target_short) refuse2.ensures clear-numbers.ensures
     ∙ sym (each_short entry.text.now entry.set.now entry.sheet.now (length entry.targets.now) (length entry.answers.now) ls e (omega (arith, if2.true, count)))
 
 pub returns-then-answers-n : goal.returns-then-answers-n
@@ -60,8 +60,8 @@ returns-then-answers-n c =
     let (ls, e) = is-some (decode_lent entry.set.now) (sym check-lent.ensures ∙ not-false _ if1.false) in
     let known = set_known entry.set.now ls e in
     let count : count_of.result ≡ length ls = count_of.ensures.0 ∙ known.counted in
-    wrote-refused refuse3.result refuse3.new.1.0 clear-numbers.new.0 (length entry.targets.now) (length entry.answers.now) (of_set target_short) refuse3.ensures clear-numbers.ensures
-    ∙ sym (each_few entry.text.now entry.set.now entry.sheet.now (length entry.targets.now) (length entry.answers.now) ls e (omega (arith, if2.false, count)) (omega (arith, if3.true, count, clear-numbers.auto.0)))
+    wrote-refused refuse3.result refuse3.new.targets clear-numbers.new.t (length entry.targets.now) (length entry.answers.now) (of_set target_short) refuse3.ensures clear-numbers.ensures
+    ∙ sym (each_few entry.text.now entry.set.now entry.sheet.now (length entry.targets.now) (length entry.answers.now) ls e (omega (arith, if2.false, count)) (omega (arith, if3.true, count, clear-numbers.auto.t)))
 
 pub each_sized-requires : goal.each_sized-requires
 each_sized-requires c =
@@ -74,8 +74,8 @@ each_sized-requires c =
     let if3 = c.if-answers-n in
     let (ls, e) = is-some (decode_lent entry.set.now) (sym check-lent.ensures ∙ not-false _ if1.false) in
     let known = set_known entry.set.now ls e in
-    going entry.set.now ls e count_of.result entry.targets.now clear-numbers.new.0 count_of.ensures.0 (omega (arith, if2.false)) (omega (arith, if3.false))
-    (clear-numbers.ensures ∙ ap (λ (k : ℕ). replicate k 0) (sym clear-numbers.auto.0))
+    going entry.set.now ls e count_of.result entry.targets.now clear-numbers.new.t count_of.ensures.0 (omega (arith, if2.false)) (omega (arith, if3.false))
+    (clear-numbers.ensures ∙ ap (λ (k : ℕ). replicate k 0) (sym clear-numbers.auto.t))
 
 pub returns : goal.returns
 returns c =
@@ -91,12 +91,12 @@ returns c =
     let (ls, e) = is-some (decode_lent entry.set.now) (sym check-lent.ensures ∙ not-false _ if1.false) in
     let known = set_known entry.set.now ls e in
     let count : count_of.result ≡ length ls = count_of.ensures.0 ∙ known.counted in
-    let targets : List ℕ = each-sized.new.1.1.1.1.0 in
-    let answers : List ℕ = each-sized.new.1.1.1.1.1.0 in
+    let targets : List ℕ = each-sized.new.targets in
+    let answers : List ℕ = each-sized.new.answers in
     let room = length entry.targets.now in
     let places = length entry.answers.now in
     let runs : ℕ → Type 0 = λ k. RunsIn entry.text.now entry.set.now entry.sheet.now room k targets answers in
-    let ran : runs places = subst runs clear-numbers.auto.0 each-sized.ensures in
+    let ran : runs places = subst runs clear-numbers.auto.t each-sized.ensures in
     each_whole entry.text.now entry.set.now entry.sheet.now room places ls e
-    (omega (arith, if2.false, count)) (omega (arith, if3.false, count, clear-numbers.auto.0))
+    (omega (arith, if2.false, count)) (omega (arith, if3.false, count, clear-numbers.auto.t))
     accepted.result count_of.result count accepted.ensures targets answers ran

@@ -15,19 +15,19 @@ pub run_table-requires : goal.run_table-requires
 run_table-requires c =
     let pre = c.requires in
     let read = c.in-Accepted in
-    (pre.0, rw read.given.1 at pre.1, pre.2)
+    (pre.0, rw read.is at pre.1, pre.2)
 
 pub refused-requires : goal.refused-requires
 refused-requires c =
     let read2 = c.in-Refused in
     let pre = c.requires in
-    let small : read2.given.0.1.0 < 65536 = rw read2.given.1 at pre.1 in omega (arith, small)
+    let small : read2.line < 65536 = rw read2.is at pre.1 in omega (arith, small)
 
 pub returns-in-Accepted : goal.returns-in-Accepted
 returns-in-Accepted c =
     let run-table = c.run_table in
     let read = c.in-Accepted in
-    λ text e. run-table.ensures text (rw read.given.1 at e)
+    λ text e. run-table.ensures text (rw read.is at e)
 
 pub returns-in-Refused : goal.returns-in-Refused
 returns-in-Refused c =
@@ -37,7 +37,7 @@ returns-in-Refused c =
     let entry = c.args in
     let pre = c.requires in
     λ text e.
-    let said : read_text reader text ≡ refused (line read2.given.0.1.0 (refusal_of read2.given.0.0)) = rw read2.given.1 at e in
+    let said : read_text reader text ≡ refused (line read2.line (refusal_of read2.why)) = rw read2.is at e in
     ap (answered the-refused.result) clear.ensures
     ∙ the-refused.ensures (length entry.target.now)
     ∙ sym (run-text text entry.device.now entry.outcome.now entry.sheet.now (length entry.target.now) pre.0 _ said)

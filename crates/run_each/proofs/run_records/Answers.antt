@@ -111,10 +111,10 @@ loop-i-preserved c =
     let size = length_part loop.targets start (start + fullest_outcome) (omega (arith, loop-test.true, room)) in (
       turning_next entry.values.now entry.rows.now entry.rules.now entry.read entry.set.now entry.sheet.now entry.n loop.targets loop.answers
           loop.p loop.i loop.invariant.0 (omega (arith, loop-test.true)) room
-          lent-in.result lent-in.ensures run-read.result bytes_of.result.now bytes-of2.result.now run-read.new.1.1.1.1.1.1.1.1.1.0 _
-          bytes_of.ensures bytes-of2.ensures (size ∙ omega arith) run-read.auto.1.1.1.1.1.1.1.1.1.0 run-read.ensures _ put-numbers.new.0 put-numbers.ensures put-numbers.auto.0,
-      same_len_mid start (start + fullest_outcome - start) loop.targets run-read.new.1.1.1.1.1.1.1.1.1.0 run-read.auto.1.1.1.1.1.1.1.1.1.0 ∙ loop.invariant.1,
-      put-numbers.auto.0 ∙ loop.invariant.2,
+          lent-in.result lent-in.ensures run-read.result bytes_of.result.now bytes-of2.result.now run-read.new.target _
+          bytes_of.ensures bytes-of2.ensures (size ∙ omega arith) run-read.auto.target run-read.ensures _ put-numbers.new.t put-numbers.ensures put-numbers.auto.t,
+      same_len_mid start (start + fullest_outcome - start) loop.targets run-read.new.target run-read.auto.target ∙ loop.invariant.1,
+      put-numbers.auto.t ∙ loop.invariant.2,
     )
 
 pub overflow_mul-n : goal.overflow_mul-n
@@ -145,7 +145,7 @@ shape_of-targets c =
     let entry = c.args in
     let loop = c.loop-i in
     let clear = c.clear in
-    same_len_mid (entry.n * fullest_outcome) (length loop.targets - entry.n * fullest_outcome) loop.targets clear.new.0 clear.auto.0 ∙ loop.invariant.1
+    same_len_mid (entry.n * fullest_outcome) (length loop.targets - entry.n * fullest_outcome) loop.targets clear.new.t clear.auto.t ∙ loop.invariant.1
 
 pub shape_of-answers : goal.shape_of-answers
 shape_of-answers c =
@@ -160,4 +160,4 @@ returns c =
     let pre = c.requires in
     let clear = c.clear in
     λ text e. turning_last entry.values.now entry.rows.now entry.rules.now entry.read entry.set.now entry.sheet.now entry.n loop.targets loop.answers
-    loop.p loop.i loop.invariant.0 (omega (arith, loop-test.false)) (omega (arith, pre.0.room, loop.invariant.1)) clear.new.0 _ _ loop.invariant.1 loop.invariant.2 clear.ensures text e
+    loop.p loop.i loop.invariant.0 (omega (arith, loop-test.false)) (omega (arith, pre.0.room, loop.invariant.1)) clear.new.t _ _ loop.invariant.1 loop.invariant.2 clear.ensures text e

@@ -73,7 +73,7 @@ returns-in-Refused c =
     let pre = c.requires in
     let loop-test = c.loop-k-test in
     let here : text_of.result.now ≡ (file_on entry.set.now entry.starts.now (get_or entry.order.now loop.k 0)).text = text_of.ensures ∙ ap (λ (i : ℕ). (file_on entry.set.now entry.starts.now i).text) wide.ensures in
-    let is : TextIsJudged text_of.result.now (verdict.Refused judged.given.0.0 judged.given.0.1.0) = rw judged.given.1 at judge-text.ensures in
+    let is : TextIsJudged text_of.result.now (verdict.Refused judged.why judged.line) = judged.ensures in
     reading_fault entry.set.now entry.starts.now entry.order.now entry.count pre loop.k loop.invariant (omega (arith, loop-test.true)) _ _ _ (ap (λ (i : ℕ). i + 1) wide.ensures) is.0 (ap (read_text reader) (sym here) ∙ is.1)
 
 pub loop-k-preserved : goal.loop-k-preserved
@@ -87,7 +87,7 @@ loop-k-preserved c =
     let pre = c.requires in
     let loop-test = c.loop-k-test in
     let here : text_of.result.now ≡ (file_on entry.set.now entry.starts.now (get_or entry.order.now loop.k 0)).text = text_of.ensures ∙ ap (λ (i : ℕ). (file_on entry.set.now entry.starts.now i).text) wide.ensures in
-    let is : TextIsJudged text_of.result.now verdict.Accepted = rw enum_told.given.1 at judge-text.ensures in
+    let is : TextIsJudged text_of.result.now verdict.Accepted = enum_told.ensures in
     reading_next entry.set.now entry.starts.now entry.order.now entry.count pre loop.k loop.invariant (omega (arith, loop-test.true)) is.0 (ap (read_text reader) (sym here) ∙ is.1)
 
 pub returns : goal.returns

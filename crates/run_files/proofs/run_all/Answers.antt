@@ -69,7 +69,7 @@ overflow_add-visited c =
     let left = c.in-Ended in
     let loop-test = c.loop-k-test in
     let pre = c.requires in
-    let is : TextRuns text_of.result.now entry.dev.now entry.chain entry.sheet.now loop.t loop.layout run-text.new.1.1.1.1.0 (text.Ended left.given.0.0 left.given.0.1.0 left.given.0.1.1.0) = rw left.given.1 at run-text.ensures in
+    let is : TextRuns text_of.result.now entry.dev.now entry.chain entry.sheet.now loop.t loop.layout run-text.new.t (text.Ended left.left left.more left.devices) = left.ensures in
     omega (arith, is.small.0, loop.invariant.visited, loop-test.true, pre.0.short)
 
 pub overflow_add-tried : goal.overflow_add-tried
@@ -81,7 +81,7 @@ overflow_add-tried c =
     let left = c.in-Ended in
     let loop-test = c.loop-k-test in
     let pre = c.requires in
-    let is : TextRuns text_of.result.now entry.dev.now entry.chain entry.sheet.now loop.t loop.layout run-text.new.1.1.1.1.0 (text.Ended left.given.0.0 left.given.0.1.0 left.given.0.1.1.0) = rw left.given.1 at run-text.ensures in
+    let is : TextRuns text_of.result.now entry.dev.now entry.chain entry.sheet.now loop.t loop.layout run-text.new.t (text.Ended left.left left.more left.devices) = left.ensures in
     omega (arith, is.small.1, loop.invariant.tried, loop-test.true, pre.0.short)
 
 pub loop-k-preserved : goal.loop-k-preserved
@@ -95,7 +95,7 @@ loop-k-preserved c =
     let pre = c.requires in
     let loop-test = c.loop-k-test in
     let here : text_of.result.now ≡ (file_on entry.set.now entry.starts.now (get_or entry.order.now loop.k 0)).text = text_of.ensures ∙ ap (λ (i : ℕ). (file_on entry.set.now entry.starts.now i).text) wide.ensures in
-    let is : TextRuns text_of.result.now entry.dev.now entry.chain entry.sheet.now loop.t loop.layout run-text.new.1.1.1.1.0 (text.Ended left.given.0.0 left.given.0.1.0 left.given.0.1.1.0) = rw left.given.1 at run-text.ensures in
+    let is : TextRuns text_of.result.now entry.dev.now entry.chain entry.sheet.now loop.t loop.layout run-text.new.t (text.Ended left.left left.more left.devices) = left.ensures in
     going_next entry.set.now entry.starts.now entry.order.now entry.count entry.dev.now entry.chain entry.sheet.now entry.t.now entry.layout pre.0 loop.t loop.layout loop.k loop.visited loop.tried loop.invariant (omega (arith, loop-test.true)) text_of.result.now here _ _ _ _ is
 
 pub overflow_add-result : goal.overflow_add-result
@@ -126,7 +126,7 @@ returns-in-Refused c =
     let why = c.in-Refused in
     let number = kept_at pre.0.files entry.order.now entry.count loop.k pre.0.kept (omega (arith, loop-test.true)) in
     let here : text_of.result.now ≡ (file_on entry.set.now entry.starts.now (get_or entry.order.now loop.k 0)).text = text_of.ensures ∙ ap (λ (i : ℕ). (file_on entry.set.now entry.starts.now i).text) wide.ensures in
-    let is : TextRuns text_of.result.now entry.dev.now entry.chain entry.sheet.now loop.t loop.layout run-text.new.1.1.1.1.0 (text.Refused why.given.0.0 why.given.0.1.0) = rw why.given.1 at run-text.ensures in
+    let is : TextRuns text_of.result.now entry.dev.now entry.chain entry.sheet.now loop.t loop.layout run-text.new.t (text.Refused why.why why.line) = why.ensures in
     record {
       says = λ ls r a q d s z. going_fault entry.set.now entry.starts.now entry.order.now entry.count entry.dev.now entry.chain entry.sheet.now entry.t.now entry.layout pre.0 loop.t loop.layout
           loop.k loop.visited loop.tried loop.invariant (omega (arith, loop-test.true)) text_of.result.now here _ _ _ _ (ap (λ (i : ℕ). i + 1) wide.ensures) is ls r a q d s z;

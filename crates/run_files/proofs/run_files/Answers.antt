@@ -17,7 +17,7 @@ returns-then-t-lt-FULLEST c =
     let clear = c.clear in
     let refused = c.refused in
     let if1 = c.if-t-lt-FULLEST in
-    cleared (length entry.t.now) (length entry.t.now) clear.new.0 refused.result (of_set target_short) refused.ensures clear.ensures refl _
+    cleared (length entry.t.now) (length entry.t.now) clear.new.t refused.result (of_set target_short) refused.ensures clear.ensures refl _
     (gives-short entry.set.now entry.dev.now entry.rec.now entry.sheet.now (length entry.t.now) (omega (arith, if1.true)))
 
 pub returns-in_default : goal.returns-in_default
@@ -28,8 +28,8 @@ returns-in_default c =
     let clear2 = c.clear-in_default in
     let refused2 = c.refused-in_default in
     let if1 = c.if-t-lt-FULLEST in
-    let none-there : decode_files entry.set.now ≡ none = rw enum_told.given.1 at find-files.ensures in
-    cleared (length entry.t.now) (length entry.t.now) clear2.new.0 refused2.result (of_set set_bad) refused2.ensures clear2.ensures refl _
+    let none-there : decode_files entry.set.now ≡ none = enum_told.ensures in
+    cleared (length entry.t.now) (length entry.t.now) clear2.new.t refused2.result (of_set set_bad) refused2.ensures clear2.ensures refl _
     (gives_none entry.set.now entry.dev.now entry.rec.now entry.sheet.now (length entry.t.now) (omega (arith, if1.false)) none-there)
 
 pub doubled-requires : goal.doubled-requires
@@ -37,8 +37,8 @@ doubled-requires c =
     let entry = c.args in
     let find-files = c.find_files in
     let n = c.in-Files in
-    let there : FilesIn entry.set.now find-files.new.1.0 n.given.0.0 = rw n.given.1 at find-files.ensures in
-    let room : n.given.0.0 ≤ length find-files.new.1.0 = omega (arith, there.few, find-files.auto.1.0) in
+    let there : FilesIn entry.set.now find-files.new.starts n.n = n.ensures in
+    let room : n.n ≤ length find-files.new.starts = omega (arith, there.few, find-files.auto.starts) in
     record { room = room; stand = there.stand }
 
 pub returns-then-doubled : goal.returns-then-doubled
@@ -51,8 +51,8 @@ returns-then-doubled c =
     let if1 = c.if-t-lt-FULLEST in
     let doubled = c.doubled in
     let if2 = c.if-doubled in
-    let there : FilesIn entry.set.now find-files.new.1.0 n.given.0.0 = rw n.given.1 at find-files.ensures in
-    cleared (length entry.t.now) (length entry.t.now) clear3.new.0 refused3.result (of_set file_twice) refused3.ensures clear3.ensures refl _
+    let there : FilesIn entry.set.now find-files.new.starts n.n = n.ensures in
+    cleared (length entry.t.now) (length entry.t.now) clear3.new.t refused3.result (of_set file_twice) refused3.ensures clear3.ensures refl _
     (gives-twice entry.set.now entry.dev.now entry.rec.now entry.sheet.now (length entry.t.now) (omega (arith, if1.false)) _ there.files (sym doubled.ensures ∙ if2.true))
 
 pub winners-count-requires : goal.winners-count-requires
@@ -60,8 +60,8 @@ winners-count-requires c =
     let entry = c.args in
     let find-files = c.find_files in
     let n = c.in-Files in
-    let there : FilesIn entry.set.now find-files.new.1.0 n.given.0.0 = rw n.given.1 at find-files.ensures in
-    let room : n.given.0.0 ≤ length find-files.new.1.0 = omega (arith, there.few, find-files.auto.1.0) in
+    let there : FilesIn entry.set.now find-files.new.starts n.n = n.ensures in
+    let room : n.n ≤ length find-files.new.starts = omega (arith, there.few, find-files.auto.starts) in
     (record { room = room; stand = there.stand }, omega (arith, there.few), omega (arith, there.few))
 
 pub run_winners-requires : goal.run_winners-requires
@@ -73,8 +73,8 @@ run_winners-requires c =
     let if2 = c.if-doubled in
     let winners = c.winners-count in
     let if1 = c.if-t-lt-FULLEST in
-    let there : FilesIn entry.set.now find-files.new.1.0 n.given.0.0 = rw n.given.1 at find-files.ensures in
-    let room : n.given.0.0 ≤ length find-files.new.1.0 = omega (arith, there.few, find-files.auto.1.0) in
+    let there : FilesIn entry.set.now find-files.new.starts n.n = n.ensures in
+    let room : n.n ≤ length find-files.new.starts = omega (arith, there.few, find-files.auto.starts) in
     (record { room = room; files = there; once = sym doubled.ensures ∙ if2.false; winners = winners.ensures }, omega (arith, if1.false))
 
 pub returns : goal.returns

@@ -18,7 +18,7 @@ load-requires c =
     let entry = c.args in
     let shared-slice-known6 = c.type_inv.rec in
     let (d, s, held) = pre.2 in
-    omega (arith, record_short entry.dev.now entry.rec.now entry.chain entry.layout d s (λ i. (shared-slice-known6.given i).fits) held, pre.4)
+    omega (arith, record_short entry.dev.now entry.rec.now entry.chain entry.layout d s (λ i. (shared-slice-known6 i).fits) held, pre.4)
 
 pub run_all-requires : goal.run_all-requires
 run_all-requires c =
@@ -27,7 +27,7 @@ run_all-requires c =
     let load = c.load in
     let (ls, read) = pre.1 in
     let (d, s, held) = pre.2 in
-    let start = loaded entry.dev.now entry.rec.now entry.chain entry.layout d s held load.new.0 load.ensures (omega (arith, pre.4, load.auto.0)) in
+    let start = loaded entry.dev.now entry.rec.now entry.chain entry.layout d s held load.new.t load.ensures (omega (arith, pre.4, load.auto.t)) in
     (ranked entry.set.now entry.starts.now entry.n entry.order.now entry.count pre.0, pre.1, (d, s, start), pre.3)
 
 pub accepted-requires : goal.accepted-requires
@@ -39,12 +39,12 @@ accepted-requires c =
     let left = c.in-Ended in
     let (ls, read) = pre.1 in
     let (d, s, held) = pre.2 in
-    let start = loaded entry.dev.now entry.rec.now entry.chain entry.layout d s held load.new.0 load.ensures (omega (arith, pre.4, load.auto.0)) in
+    let start = loaded entry.dev.now entry.rec.now entry.chain entry.layout d s held load.new.t load.ensures (omega (arith, pre.4, load.auto.t)) in
     let (a, q) = is-some (decode entry.sheet.now) pre.3 in
-    let is : FilesRun entry.set.now entry.starts.now entry.order.now entry.count entry.dev.now entry.chain entry.sheet.now load.new.0 entry.layout run-all.new.1.1.1.1.1.1.1.0 (files.Ended
-    left.given.0.0 left.given.0.1.0 left.given.0.1.1.0) = rw left.given.1 at run-all.ensures in
+    let is : FilesRun entry.set.now entry.starts.now entry.order.now entry.count entry.dev.now entry.chain entry.sheet.now load.new.t entry.layout run-all.new.t (files.Ended
+    left.left left.visited left.tried) = left.ensures in
     let (l, _, z, _, _) = is.says ls read a q d s start in
-    (is.counted.0, is.counted.1, omega (arith, used_few (length (chain d)) _ left.given.0.0 l.state z.held), omega arith)
+    (is.counted.0, is.counted.1, omega (arith, used_few (length (chain d)) _ left.left l.state z.held), omega arith)
 
 pub refused-requires : goal.refused-requires
 refused-requires c =
@@ -52,15 +52,15 @@ refused-requires c =
     let load = c.load in
     let run-all = c.run_all in
     let why = c.in-Refused in
-    let is : FilesRun entry.set.now entry.starts.now entry.order.now entry.count entry.dev.now entry.chain entry.sheet.now load.new.0 entry.layout run-all.new.1.1.1.1.1.1.1.0 (files.Refused
-    why.given.0.0 why.given.0.1.0 why.given.0.1.1.0) = rw why.given.1 at run-all.ensures in
+    let is : FilesRun entry.set.now entry.starts.now entry.order.now entry.count entry.dev.now entry.chain entry.sheet.now load.new.t entry.layout run-all.new.t (files.Refused
+    why.why why.position why.line) = why.ensures in
     (omega (arith, is.counted.0), omega (arith, is.counted.1))
 
 pub shape_of-t-in-Ended : goal.shape_of-t-in-Ended
 shape_of-t-in-Ended c =
     let run-all = c.run_all in
     let load = c.load in
-    run-all.ensures.length ∙ load.auto.0
+    run-all.ensures.length ∙ load.auto.t
 
 pub returns-in-Ended : goal.returns-in-Ended
 returns-in-Ended c =
@@ -72,12 +72,12 @@ returns-in-Ended c =
     let accepted = c.accepted in
     let (ls, read) = pre.1 in
     let (d, s, held) = pre.2 in
-    let start = loaded entry.dev.now entry.rec.now entry.chain entry.layout d s held load.new.0 load.ensures (omega (arith, pre.4, load.auto.0)) in
+    let start = loaded entry.dev.now entry.rec.now entry.chain entry.layout d s held load.new.t load.ensures (omega (arith, pre.4, load.auto.t)) in
     let (a, q) = is-some (decode entry.sheet.now) pre.3 in
-    let is : FilesRun entry.set.now entry.starts.now entry.order.now entry.count entry.dev.now entry.chain entry.sheet.now load.new.0 entry.layout run-all.new.1.1.1.1.1.1.1.0 (files.Ended
-    left.given.0.0 left.given.0.1.0 left.given.0.1.1.0) = rw left.given.1 at run-all.ensures in
+    let is : FilesRun entry.set.now entry.starts.now entry.order.now entry.count entry.dev.now entry.chain entry.sheet.now load.new.t entry.layout run-all.new.t (files.Ended
+    left.left left.visited left.tried) = left.ensures in
     let (l, e, z, v, w) = is.says ls read a q d s start in
-    holds (length entry.t.now) (length (chain d)) run-all.new.1.1.1.1.1.1.1.0 left.given.0.0 left.given.0.1.0 left.given.0.1.1.0 l z.held v w (is.length ∙ load.auto.0) accepted.result accepted.ensures _
+    holds (length entry.t.now) (length (chain d)) run-all.new.t left.left left.visited left.tried l z.held v w (is.length ∙ load.auto.t) accepted.result accepted.ensures _
     (gives-run entry.set.now entry.starts.now entry.n entry.order.now entry.count pre.0 entry.dev.now entry.rec.now entry.sheet.now (length entry.t.now) pre.4 ls read entry.chain entry.layout d s held a q l e)
 
 pub returns-in-Refused : goal.returns-in-Refused
@@ -91,9 +91,9 @@ returns-in-Refused c =
     let refused = c.refused in
     let (ls, read) = pre.1 in
     let (d, s, held) = pre.2 in
-    let start = loaded entry.dev.now entry.rec.now entry.chain entry.layout d s held load.new.0 load.ensures (omega (arith, pre.4, load.auto.0)) in
+    let start = loaded entry.dev.now entry.rec.now entry.chain entry.layout d s held load.new.t load.ensures (omega (arith, pre.4, load.auto.t)) in
     let (a, q) = is-some (decode entry.sheet.now) pre.3 in
-    let is : FilesRun entry.set.now entry.starts.now entry.order.now entry.count entry.dev.now entry.chain entry.sheet.now load.new.0 entry.layout run-all.new.1.1.1.1.1.1.1.0 (files.Refused
-    why.given.0.0 why.given.0.1.0 why.given.0.1.1.0) = rw why.given.1 at run-all.ensures in
-    cleared (length entry.t.now) (length run-all.new.1.1.1.1.1.1.1.0) clear.new.0 refused.result (record { why = refusal_of why.given.0.0; position = why.given.0.1.0; line = why.given.0.1.1.0 }) refused.ensures clear.ensures (is.length ∙ load.auto.0) _
+    let is : FilesRun entry.set.now entry.starts.now entry.order.now entry.count entry.dev.now entry.chain entry.sheet.now load.new.t entry.layout run-all.new.t (files.Refused
+    why.why why.position why.line) = why.ensures in
+    cleared (length entry.t.now) (length run-all.new.t) clear.new.t refused.result (record { why = refusal_of why.why; position = why.position; line = why.line }) refused.ensures clear.ensures (is.length ∙ load.auto.t) _
     (gives-running entry.set.now entry.starts.now entry.n entry.order.now entry.count pre.0 entry.dev.now entry.rec.now entry.sheet.now (length entry.t.now) pre.4 ls read entry.chain entry.layout d s held a q _ _ _ (is.says ls read a q d s start))

@@ -20,8 +20,8 @@ run_rules-requires c =
     let counts = c.in-Accepted in
     let pre = c.requires in
     let x = read-text.new in
-    let is : TextIs entry.text.now x.1.0 x.1.1.0 x.1.1.1.0 x.1.1.1.1.0 x.1.1.1.1.1.0 (read.Accepted counts.given.0.0) = rw counts.given.1 at read-text.ensures in
-    (runnable entry.text.now _ _ _ _ _ counts.given.0.0 is (omega (arith, read-text.auto.1.1.1.0)) (omega (arith, read-text.auto.1.1.1.1.1.0)), pre.0, pre.1)
+    let is : TextIs entry.text.now x.1.0 x.1.1.0 x.1.1.1.0 x.1.1.1.1.0 x.1.1.1.1.1.0 (read.Accepted counts.counts) = counts.ensures in
+    (runnable entry.text.now _ _ _ _ _ counts.counts is (omega (arith, read-text.auto.rules)) (omega (arith, read-text.auto.jumps)), pre.0, pre.1)
 
 pub returns-in-Accepted : goal.returns-in-Accepted
 returns-in-Accepted c =
@@ -30,10 +30,10 @@ returns-in-Accepted c =
     let counts = c.in-Accepted in
     let run-rules = c.run_rules in
     let x = read-text.new in
-    let is : TextIs entry.text.now x.1.0 x.1.1.0 x.1.1.1.0 x.1.1.1.1.0 x.1.1.1.1.1.0 (read.Accepted counts.given.0.0) = rw counts.given.1 at read-text.ensures in
+    let is : TextIs entry.text.now x.1.0 x.1.1.0 x.1.1.1.0 x.1.1.1.1.0 x.1.1.1.1.1.0 (read.Accepted counts.counts) = counts.ensures in
     record {
       says = λ rs e a q d s z.
-          subst (λ (r : List (Placed Rule)). Says entry.dev.now entry.chain d run-rules.new.1.1.1.1.1.1.1.1.0 run-rules.result (run_from (engine a) d next s r)) (one_reading entry.text.now is.is e) (run-rules.ensures.says a q d s z);
+          subst (λ (r : List (Placed Rule)). Says entry.dev.now entry.chain d run-rules.new.t run-rules.result (run_from (engine a) d next s r)) (one_reading entry.text.now is.is e) (run-rules.ensures.says a q d s z);
       small = run-rules.ensures.small;
       length = run-rules.ensures.length;
     }
@@ -44,5 +44,5 @@ returns-in-Refused c =
     let entry = c.args in
     let why = c.in-Refused in
     let x = read-text.new in
-    let is : TextIs entry.text.now x.1.0 x.1.1.0 x.1.1.1.0 x.1.1.1.1.0 x.1.1.1.1.1.0 (read.Refused why.given.0.0 why.given.0.1.0) = rw why.given.1 at read-text.ensures in
+    let is : TextIs entry.text.now x.1.0 x.1.1.0 x.1.1.1.0 x.1.1.1.1.0 x.1.1.1.1.1.0 (read.Refused why.why why.line) = why.ensures in
     record { says = λ rs e a q d s z. no_reading entry.text.now is.1 e; small = is.0; length = refl }

@@ -21,7 +21,7 @@ refused-requires c =
     let why = c.in-Refused in
     let read-files = c.read_files in
     let pre = c.requires in
-    let is : FilesAreRead entry.set.now entry.starts.now entry.order.now entry.count (read.Refused why.given.0.0 why.given.0.1.0 why.given.0.1.1.0) = rw why.given.1 at read-files.ensures in
+    let is : FilesAreRead entry.set.now entry.starts.now entry.order.now entry.count (read.Refused why.why why.position why.line) = why.ensures in
     let number = kept_at entry.n entry.order.now entry.count is.k pre.0.winners.kept is.few in
     (omega (arith, is.position, number, pre.0.files.few), omega (arith, is.line))
 
@@ -31,7 +31,7 @@ run_read-requires c =
     let enum_told = c.in-All in
     let read-files = c.read_files in
     let pre = c.requires in
-    let is : FilesAreRead entry.set.now entry.starts.now entry.order.now entry.count (read.All) = rw enum_told.given.1 at read-files.ensures in
+    let is : FilesAreRead entry.set.now entry.starts.now entry.order.now entry.count (read.All) = enum_told.ensures in
     (pre.0, is, pre.1)
 
 pub returns-in-Refused : goal.returns-in-Refused
@@ -42,8 +42,8 @@ returns-in-Refused c =
     let clear = c.clear in
     let refused = c.refused in
     let pre = c.requires in
-    let is : FilesAreRead entry.set.now entry.starts.now entry.order.now entry.count (read.Refused why.given.0.0 why.given.0.1.0 why.given.0.1.1.0) = rw why.given.1 at read-files.ensures in
-    cleared (length entry.t.now) (length entry.t.now) clear.new.0 refused.result (record { why = refusal_of why.given.0.0; position = why.given.0.1.0; line = why.given.0.1.1.0 }) refused.ensures clear.ensures refl _
+    let is : FilesAreRead entry.set.now entry.starts.now entry.order.now entry.count (read.Refused why.why why.position why.line) = why.ensures in
+    cleared (length entry.t.now) (length entry.t.now) clear.new.t refused.result (record { why = refusal_of why.why; position = why.position; line = why.line }) refused.ensures clear.ensures refl _
     (gives-text entry.set.now entry.starts.now entry.n entry.order.now entry.count pre.0 entry.dev.now entry.rec.now entry.sheet.now (length entry.t.now) pre.1 _ _ _ is)
 
 pub returns-in-All : goal.returns-in-All

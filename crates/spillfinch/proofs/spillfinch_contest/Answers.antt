@@ -3,4 +3,4 @@ use Rattle.spillfinch.proofs.Laws.{set_gives}
 use Rattle.spillfinch.proofs.spillfinch_contest.Goals as goal
 
 pub returns : goal.returns
-returns c = set_gives c.contest.result c.put_set_answer.new.1.0 c.contest.new.1.0 _ c.contest.ensures c.put_set_answer.ensures
+returns c = set_gives c.contest.result c.put_set_answer.new.answer c.contest.new.target _ c.contest.ensures c.put_set_answer.ensures

@@ -6,4 +6,4 @@ pub returns : goal.returns
 returns c =
     let plan = c.plan in
     let put-set-answer = c.put_set_answer in
-    set_gives plan.result put-set-answer.new.1.0 plan.new.1.0 _ plan.ensures put-set-answer.ensures
+    set_gives plan.result put-set-answer.new.answer plan.new.target _ plan.ensures put-set-answer.ensures

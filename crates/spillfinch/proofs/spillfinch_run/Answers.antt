@@ -3,4 +3,4 @@ use Rattle.spillfinch.proofs.Laws.{gives}
 use Rattle.spillfinch.proofs.spillfinch_run.Goals as goal
 
 pub returns : goal.returns
-returns c = gives c.run.result c.put_answer.new.1.0 c.run.new.1.1.1.1.0 _ c.run.ensures c.put_answer.ensures
+returns c = gives c.run.result c.put_answer.new.answer c.run.new.target _ c.run.ensures c.put_answer.ensures

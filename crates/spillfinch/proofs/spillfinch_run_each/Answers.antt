@@ -5,4 +5,4 @@ use Rattle.spillfinch.proofs.spillfinch_run_each.Goals as goal
 pub returns : goal.returns
 returns c =
     let run-each = c.run_each in
-    each_gives run-each.result c.put_set_answer.new.1.0 run-each.new.1.1.1.0 run-each.new.1.1.1.1.0 _ run-each.ensures c.put_set_answer.ensures
+    each_gives run-each.result c.put_set_answer.new.answer run-each.new.targets run-each.new.answers _ run-each.ensures c.put_set_answer.ensures

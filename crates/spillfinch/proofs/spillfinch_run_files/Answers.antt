@@ -3,4 +3,4 @@ use Rattle.spillfinch.proofs.Laws.{set_gives}
 use Rattle.spillfinch.proofs.spillfinch_run_files.Goals as goal
 
 pub returns : goal.returns
-returns c = set_gives c.run_files.result c.put_set_answer.new.1.0 c.run_files.new.1.1.1.1.0 _ c.run_files.ensures c.put_set_answer.ensures
+returns c = set_gives c.run_files.result c.put_set_answer.new.answer c.run_files.new.t _ c.run_files.ensures c.put_set_answer.ensures

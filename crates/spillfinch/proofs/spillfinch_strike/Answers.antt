@@ -5,4 +5,4 @@ use Rattle.spillfinch.proofs.spillfinch_strike.Goals as goal
 pub returns : goal.returns
 returns c =
     let strike = c.strike-struck in
-    strike-gives strike.result c.put_counted.new.1.1.0 strike.new.1.0 strike.new.1.1.0 _ strike.ensures c.put_counted.ensures
+    strike-gives strike.result c.put_counted.new.answer strike.new.target strike.new.list _ strike.ensures c.put_counted.ensures

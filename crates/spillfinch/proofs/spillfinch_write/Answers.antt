@@ -3,4 +3,4 @@ use Rattle.spillfinch.proofs.Laws.{gives}
 use Rattle.spillfinch.proofs.spillfinch_write.Goals as goal
 
 pub returns : goal.returns
-returns c = gives c.write.result c.put_answer.new.1.0 c.write.new.1.0 _ c.write.ensures c.put_answer.ensures
+returns c = gives c.write.result c.put_answer.new.answer c.write.new.target _ c.write.ensures c.put_answer.ensures
