@@ -57,22 +57,19 @@ fn put_set_answer(told: set_answers::Given, answer: &mut [u32; 8])
     ];
 }
 
-#[unsafe(no_mangle)]
-pub extern "C" fn spillfinch_check(text: &[u8], answer: &mut [u32; 8])
+pub fn spillfinch_check(text: &[u8], answer: &mut [u32; 8])
     ensures { CheckGives text.now answer.new }
 {
     put_answer(text_check::check(text), answer);
 }
 
-#[unsafe(no_mangle)]
-pub extern "C" fn spillfinch_fresh(device: &[u8], target: &mut [u8], answer: &mut [u32; 8])
+pub fn spillfinch_fresh(device: &[u8], target: &mut [u8], answer: &mut [u32; 8])
     ensures { Gives answer.new target.new (fresh_answer device.now (length target.old)) }
 {
     put_answer(fresh::fresh(device, target), answer);
 }
 
-#[unsafe(no_mangle)]
-pub extern "C" fn spillfinch_run(
+pub fn spillfinch_run(
     text: &[u8],
     device: &[u8],
     outcome: &[u8],
@@ -85,8 +82,7 @@ pub extern "C" fn spillfinch_run(
     put_answer(run::run(text, device, outcome, sheet, target), answer);
 }
 
-#[unsafe(no_mangle)]
-pub extern "C" fn spillfinch_close(
+pub fn spillfinch_close(
     device: &[u8],
     outcome: &[u8],
     target: &mut [u8],
@@ -97,8 +93,7 @@ pub extern "C" fn spillfinch_close(
     put_answer(close::close(device, outcome, target), answer);
 }
 
-#[unsafe(no_mangle)]
-pub extern "C" fn spillfinch_newer(
+pub fn spillfinch_newer(
     device: &[u8],
     outcome: &[u8],
     target: &mut [u8],
@@ -109,8 +104,7 @@ pub extern "C" fn spillfinch_newer(
     put_answer(convert::newer(device, outcome, target), answer);
 }
 
-#[unsafe(no_mangle)]
-pub extern "C" fn spillfinch_older(
+pub fn spillfinch_older(
     device: &[u8],
     outcome: &[u8],
     target: &mut [u8],
@@ -122,16 +116,14 @@ pub extern "C" fn spillfinch_older(
 }
 
 // Document 02, Item 2.
-#[unsafe(no_mangle)]
-pub extern "C" fn spillfinch_write(text: &[u8], target: &mut [u8], answer: &mut [u32; 8])
+pub fn spillfinch_write(text: &[u8], target: &mut [u8], answer: &mut [u32; 8])
     ensures { WriteGives text.now (length target.old) answer.new target.new }
 {
     put_answer(write::write(text, target), answer);
 }
 
 // Document 02, Item 12.
-#[unsafe(no_mangle)]
-pub extern "C" fn spillfinch_strike(
+pub fn spillfinch_strike(
     text: &[u8],
     target: &mut [u8],
     strikes: &mut [u16],
@@ -145,16 +137,14 @@ pub extern "C" fn spillfinch_strike(
 }
 
 // Document 02, Item 7.
-#[unsafe(no_mangle)]
-pub extern "C" fn spillfinch_contest(set: &[u8], target: &mut [u8], answer: &mut [u32; 8])
+pub fn spillfinch_contest(set: &[u8], target: &mut [u8], answer: &mut [u32; 8])
     ensures { ContestGives set.now (length target.old) answer.new target.new }
 {
     put_set_answer(holders::contest(set, target), answer);
 }
 
 // Document 02, Item 11.
-#[unsafe(no_mangle)]
-pub extern "C" fn spillfinch_run_files(
+pub fn spillfinch_run_files(
     set: &[u8],
     device: &[u8],
     outcome: &[u8],
@@ -171,23 +161,20 @@ pub extern "C" fn spillfinch_run_files(
 }
 
 // Document 02, Item 14.
-#[unsafe(no_mangle)]
-pub extern "C" fn spillfinch_plan_check(set: &[u8], text: &[u8], answer: &mut [u32; 8])
+pub fn spillfinch_plan_check(set: &[u8], text: &[u8], answer: &mut [u32; 8])
     ensures { PlanCheckGives set.now text.now answer.new }
 {
     put_set_answer(plan_check::check(set, text), answer);
 }
 
-#[unsafe(no_mangle)]
-pub extern "C" fn spillfinch_plan(set: &[u8], target: &mut [u8], answer: &mut [u32; 8])
+pub fn spillfinch_plan(set: &[u8], target: &mut [u8], answer: &mut [u32; 8])
     ensures { PlanGives set.now (length target.old) answer.new target.new }
 {
     put_set_answer(planner::plan(set, target), answer);
 }
 
 // A text over each record of a set.
-#[unsafe(no_mangle)]
-pub extern "C" fn spillfinch_run_each(
+pub fn spillfinch_run_each(
     text: &[u8],
     set: &[u8],
     sheet: &[u8],

@@ -15,14 +15,14 @@ returns-then-not-check_lent c =
     let entry = c.args in
     let check-lent = c.check_lent in
     let if1 = c.if-not-check_lent in
-    (set-none entry.set.now (sym check-lent.ensures ∙ not-true _ if1.true), omega arith)
+    (set-none entry.set.now (sym check-lent.ensures ∙ if1.true), omega arith)
 
 pub count_of-count-requires : goal.count_of-count-requires
 count_of-count-requires c =
     let entry = c.args in
     let check-lent = c.check_lent in
     let if1 = c.if-not-check_lent in
-    set-counted entry.set.now (sym check-lent.ensures ∙ not-false _ if1.false)
+    set-counted entry.set.now (sym check-lent.ensures ∙ if1.false)
 
 pub loop-i-init : goal.loop-i-init
 loop-i-init c =
@@ -30,7 +30,7 @@ loop-i-init c =
     let count_of = c.count_of-count in
     let check-lent = c.check_lent in
     let if1 = c.if-not-check_lent in
-    set-left entry.set.now count_of.result count_of.ensures.0 (sym check-lent.ensures ∙ not-false _ if1.false)
+    set-left entry.set.now count_of.result count_of.ensures.0 (sym check-lent.ensures ∙ if1.false)
 
 pub lent_in-place-requires : goal.lent_in-place-requires
 lent_in-place-requires c =

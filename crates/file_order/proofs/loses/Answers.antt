@@ -21,7 +21,7 @@ returns-then-not-is_rules c =
     let is-rules = c.is_rules in
     let if1 = c.if-not-is_rules in
     let f = file_at entry.set.now entry.p in
-    let other : is_rules f ≡ false = ap (ends_in (bytes ".rules")) (sym name-of.ensures) ∙ sym is-rules.ensures ∙ not-true _ if1.true in
+    let other : is_rules f ≡ false = ap (ends_in (bytes ".rules")) (sym name-of.ensures) ∙ sym is-rules.ensures ∙ if1.true in
     sym (ap (λ (t : Bool). not t || any (above f) (files_at entry.set.now entry.starts.now entry.n)) other)
 
 pub returns : goal.returns
@@ -32,5 +32,5 @@ returns c =
     let if1 = c.if-not-is_rules in
     let any-above = c.any_above in
     let f = file_at entry.set.now entry.p in
-    let rules : is_rules f ≡ true = ap (ends_in (bytes ".rules")) (sym name-of.ensures) ∙ sym is-rules.ensures ∙ not-false _ if1.false in
+    let rules : is_rules f ≡ true = ap (ends_in (bytes ".rules")) (sym name-of.ensures) ∙ sym is-rules.ensures ∙ if1.false in
     any-above.ensures ∙ sym (ap (λ (t : Bool). not t || any (above f) (files_at entry.set.now entry.starts.now entry.n)) rules)

@@ -3,7 +3,7 @@ use borrow.Author.Tests.{not-true, not-false}
 use lib.IntN.{ℤ}
 use lib.ListN.{length, drop}
 use mathlib.Core.List.{◌∷◌}
-use mathlib.Core.Logic.{⊎_elim}
+use Rattle.holders.proofs.list_record.Goals.{then-not-claimed_before, else-not-claimed_before}
 use mathlib.Core.Option.{some}
 use mathlib.Core.Path.{◌≡◌, refl, sym, ap, ◌∙◌, subst}
 use mir.Facts.{to_z-of_z}
@@ -127,7 +127,7 @@ put_name-end-requires c =
     let held : decode first-is.chain bytes_of.result.now ≡ some here.0 = ap (decode first-is.chain) bytes_of.ensures ∙ first-is.held in
     let next = subst (λ (m : ℕ). Standing entry.set.now lent-in.result.outcome.end (drop m (states_in entry.set.now))) (sym (add-one entry.done.records)) first-is.others in
     let by = subst Bytes (sym bytes_of.ensures) (bytes_take (lent-in.result.outcome.end - lent-in.result.outcome.start) (drop lent-in.result.outcome.start entry.set.now) (bytes_drop lent-in.result.outcome.start entry.set.now (λ i. (shared-slice-known i).fits))) in
-    let unclaimed = sym claimed-before.ensures ∙ not-true _ if1.true in
+    let unclaimed = sym claimed-before.ensures ∙ if1.true in
     turning_naming entry.set.now bytes_of.result.now entry.done.records _ loop.t loop.end loop.names loop.q loop.left loop.invariant.0
     (omega (arith, loop-test.true)) parts_at.result parts_at.ensures unclaimed
     entry.n lent-in.result.outcome.end entry.t.now _ pre.0 loop.invariant.1 by pre.2 next refl refl
@@ -142,7 +142,7 @@ overflow_add-names c =
     let loop-test = c.loop-left-test in
     let parts_at = c.parts_at-entry in
     let pre = c.requires in
-    let unclaimed = sym claimed-before.ensures ∙ not-true _ if1.true in
+    let unclaimed = sym claimed-before.ensures ∙ if1.true in
     let room = turning_room entry.set.now bytes_of.result.now entry.done.records _ loop.t loop.end loop.names loop.q loop.left loop.invariant.0
     (omega (arith, loop-test.true)) parts_at.result parts_at.ensures unclaimed entry.n entry.t.now pre.0 loop.invariant.1 in
     let few = names_few entry.set.now _ loop.t loop.end loop.names loop.invariant.0.written in
@@ -158,20 +158,21 @@ loop-left-preserved c =
     let parts_at = c.parts_at-entry in
     let if1 = c.if-not-claimed_before in
     let more : 0 < loop.left = omega (arith, loop-test.true) in
-    ⊎_elim
-    (λ w. let unclaimed = sym claimed-before.ensures ∙ not-true _ w.0.taken in
-    let put-name = w.3 in
-    let size = ap length w.6 ∙ put-name.kept.0 in (
-      turning_new entry.set.now bytes_of.result.now entry.done.records _ loop.t loop.end loop.names loop.q loop.left loop.invariant.0 more parts_at.result parts_at.ensures
-          unclaimed if1.t if1.end if1.names (w.6 ∙ put-name.ensures.0) (w.7 ∙ put-name.ensures.1) size w.8,
-      size ∙ loop.invariant.1,
-    ))
-    (λ w. let claimed = sym claimed-before.ensures ∙ not-false _ w.0.left in (
-      turning_known entry.set.now bytes_of.result.now entry.done.records _ loop.t loop.end loop.names loop.q loop.left loop.invariant.0 more parts_at.result parts_at.ensures
-          claimed if1.t if1.end if1.names w.1 w.2 w.3,
-      ap length w.1 ∙ loop.invariant.1,
-    ))
-    if1.branch
+    elim if1.branch [
+      then-not-claimed_before w ↦
+          let unclaimed = sym claimed-before.ensures ∙ w.if-not-claimed_before.true in
+          let size = ap length w.t-is ∙ w.put_name-end.auto.t in (
+            turning_new entry.set.now bytes_of.result.now entry.done.records _ loop.t loop.end loop.names loop.q loop.left loop.invariant.0 more parts_at.result parts_at.ensures
+                unclaimed if1.t if1.end if1.names (w.t-is ∙ w.put_name-end.ensures.0) (w.end-is ∙ w.put_name-end.ensures.1) size w.names-is,
+            size ∙ loop.invariant.1,
+          )
+    | else-not-claimed_before w ↦
+          let claimed = sym claimed-before.ensures ∙ w.if-not-claimed_before.false in (
+            turning_known entry.set.now bytes_of.result.now entry.done.records _ loop.t loop.end loop.names loop.q loop.left loop.invariant.0 more parts_at.result parts_at.ensures
+                claimed if1.t if1.end if1.names w.t-is w.end-is w.names-is,
+            ap length w.t-is ∙ loop.invariant.1,
+          )
+    ]
 
 pub overflow_add-result : goal.overflow_add-result
 overflow_add-result c =

@@ -2,7 +2,7 @@ use Prim.Native.Nat.{ℕ, ◌+◌, ◌-◌}
 use borrow.Author.Tests.{eq-eqb, ne_eqb}
 use lib.ListN.{length, take, get_or, length-append, length-set}
 use mathlib.Core.List.{List, ◌∷◌}
-use mathlib.Core.Logic.{⊎_elim}
+use Rattle.holders.proofs.put_others.Goals.{then-list-k, else-list-k}
 use mathlib.Core.Path.{refl, sym, ap, ◌∙◌}
 use native.Mathlib.Omega.{arith}
 use Rattle.holders.proofs.Rows.{but, but_holder, but_other, but_room, but-all, put_one, stored-none}
@@ -45,22 +45,24 @@ loop-k-preserved c =
     let if1 = c.if-list-k in
     let v = get_or entry.list.now loop.k 0 in
     let x = but entry.holder (take loop.k entry.list.now) in
-    ⊎_elim
-    (λ w. let other = ne_eqb v entry.holder w.0.taken in
-    let room = but_room entry.holder entry.list.now loop.k (omega (arith, loop-test.true)) other in
-    let grown = but_other entry.holder entry.list.now loop.k (omega (arith, loop-test.true)) other in (
-      omega (arith, loop-test.true),
-      w.3 ∙ omega (arith, loop.invariant.1, ap length grown, length-append x (v ∷ [])),
-      w.2 ∙ put_one entry.t.now loop.t x entry.at loop.end v loop.invariant.2 loop.invariant.1 (omega (arith, room, loop.invariant.1, pre)) ∙ ap (stored entry.t.now entry.at) (sym grown),
-      ap length w.2 ∙ length-set loop.t loop.end v ∙ loop.invariant.3,
-    ))
-    (λ w. let same = but_holder entry.holder entry.list.now loop.k (omega (arith, loop-test.true)) (eq-eqb v entry.holder w.0.left) in (
-      omega (arith, loop-test.true),
-      w.2 ∙ loop.invariant.1 ∙ ap (λ (y : List ℕ). entry.at + length y) (sym same),
-      w.1 ∙ loop.invariant.2 ∙ ap (stored entry.t.now entry.at) (sym same),
-      ap length w.1 ∙ loop.invariant.3,
-    ))
-    if1.branch
+    elim if1.branch [
+      then-list-k w ↦
+          let other = ne_eqb v entry.holder w.if-list-k.true in
+          let room = but_room entry.holder entry.list.now loop.k (omega (arith, loop-test.true)) other in
+          let grown = but_other entry.holder entry.list.now loop.k (omega (arith, loop-test.true)) other in (
+            omega (arith, loop-test.true),
+            w.end-is ∙ omega (arith, loop.invariant.1, ap length grown, length-append x (v ∷ [])),
+            w.t-is ∙ put_one entry.t.now loop.t x entry.at loop.end v loop.invariant.2 loop.invariant.1 (omega (arith, room, loop.invariant.1, pre)) ∙ ap (stored entry.t.now entry.at) (sym grown),
+            ap length w.t-is ∙ length-set loop.t loop.end v ∙ loop.invariant.3,
+          )
+    | else-list-k w ↦
+          let same = but_holder entry.holder entry.list.now loop.k (omega (arith, loop-test.true)) (eq-eqb v entry.holder w.if-list-k.false) in (
+            omega (arith, loop-test.true),
+            w.end-is ∙ loop.invariant.1 ∙ ap (λ (y : List ℕ). entry.at + length y) (sym same),
+            w.t-is ∙ loop.invariant.2 ∙ ap (stored entry.t.now entry.at) (sym same),
+            ap length w.t-is ∙ loop.invariant.3,
+          )
+    ]
 
 pub shape_of-t : goal.shape_of-t
 shape_of-t c =

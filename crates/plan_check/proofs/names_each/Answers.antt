@@ -60,7 +60,7 @@ returns-then-not-named c =
     let if1 = c.if-not-named in
     let here = walk_here (Decide entry.values.now entry.rows.now entry.rules.now entry.read entry.set.now) entry.set.now loop.p loop.left loop.invariant.0 (omega (arith, loop-test.true)) wish-in.result wish-in.ensures in
     decide_not entry.values.now entry.rows.now entry.rules.now entry.read entry.set.now loop.invariant.0.namings loop.invariant.0.so_far wish-in.result here bytes_of.result.now bytes-of2.result.now bytes_of.ensures bytes-of2.ensures
-    names.result names.ensures (not-true _ if1.true)
+    names.result names.ensures (if1.true)
 
 pub loop-left-preserved : goal.loop-left-preserved
 loop-left-preserved c =
@@ -75,7 +75,7 @@ loop-left-preserved c =
     let here = walk_here (Decide entry.values.now entry.rows.now entry.rules.now entry.read entry.set.now) entry.set.now loop.p loop.left loop.invariant.0 (omega (arith, loop-test.true)) wish-in.result wish-in.ensures in (
       walk_next (Decide entry.values.now entry.rows.now entry.rules.now entry.read entry.set.now) entry.set.now loop.p loop.left loop.invariant.0 wish-in.result here
           (decide_next entry.values.now entry.rows.now entry.rules.now entry.read entry.set.now loop.invariant.0.namings loop.invariant.0.so_far wish-in.result here bytes_of.result.now bytes-of2.result.now bytes_of.ensures bytes-of2.ensures
-          names.result names.ensures (not-false _ if1.false)),
+          names.result names.ensures (if1.false)),
       names.auto.t ∙ loop.invariant.1,
     )
 

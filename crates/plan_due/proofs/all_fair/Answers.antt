@@ -17,7 +17,7 @@ returns-then-not-is_fair c =
     let loop-test = c.loop-i-test in
     let is-fair = c.is_fair in
     let if1 = c.if-not-is_fair in
-    sym (all-not (is_fair entry.marks.now) entry.x.now loop.i (omega (arith, loop-test.true)) (sym is-fair.ensures ∙ not-true _ if1.true)) ∙ loop.invariant
+    sym (all-not (is_fair entry.marks.now) entry.x.now loop.i (omega (arith, loop-test.true)) (sym is-fair.ensures ∙ if1.true)) ∙ loop.invariant
 
 pub loop-i-preserved : goal.loop-i-preserved
 loop-i-preserved c =
@@ -26,7 +26,7 @@ loop-i-preserved c =
     let loop-test = c.loop-i-test in
     let is-fair = c.is_fair in
     let if1 = c.if-not-is_fair in
-    sym (all-next (is_fair entry.marks.now) entry.x.now loop.i (omega (arith, loop-test.true)) (sym is-fair.ensures ∙ not-false _ if1.false)) ∙ loop.invariant
+    sym (all-next (is_fair entry.marks.now) entry.x.now loop.i (omega (arith, loop-test.true)) (sym is-fair.ensures ∙ if1.false)) ∙ loop.invariant
 
 pub returns : goal.returns
 returns c =

@@ -51,7 +51,7 @@ returns-then-not-other c =
     let if1 = c.if-not-other in
     let here = walk_here (Apart entry.set.now entry.p entry.n entry.path.now entry.link.now) entry.set.now loop.q loop.left loop.invariant (omega (arith, loop-test.true)) wish-in.result wish-in.ensures in
     apart-not entry.set.now entry.p entry.n entry.path.now entry.link.now loop.invariant.namings loop.invariant.so_far wish-in.result here bytes_of.result.now bytes-of2.result.now bytes_of.ensures bytes-of2.ensures
-    differs.result differs.ensures (not-true _ if1.true)
+    differs.result differs.ensures (if1.true)
 
 pub loop-left-preserved : goal.loop-left-preserved
 loop-left-preserved c =
@@ -66,7 +66,7 @@ loop-left-preserved c =
     let here = walk_here (Apart entry.set.now entry.p entry.n entry.path.now entry.link.now) entry.set.now loop.q loop.left loop.invariant (omega (arith, loop-test.true)) wish-in.result wish-in.ensures in
     walk_next (Apart entry.set.now entry.p entry.n entry.path.now entry.link.now) entry.set.now loop.q loop.left loop.invariant wish-in.result here
     (apart_next entry.set.now entry.p entry.n entry.path.now entry.link.now loop.invariant.namings loop.invariant.so_far wish-in.result here bytes_of.result.now bytes-of2.result.now bytes_of.ensures bytes-of2.ensures
-    differs.result differs.ensures (not-false _ if1.false))
+    differs.result differs.ensures (if1.false))
 
 pub returns : goal.returns
 returns c =

@@ -51,7 +51,7 @@ returns-then-not-plan_naming c =
     let if1 = c.if-not-plan_naming in
     let here = walk_here (Due entry.set.now) entry.set.now loop.p loop.left loop.invariant (omega (arith, loop-test.true)) wish-in.result wish-in.ensures in
     due_unspoken entry.set.now loop.invariant.namings loop.invariant.so_far wish-in.result here bytes_of.result.now bytes-of2.result.now bytes_of.ensures bytes-of2.ensures
-    plan-naming.result plan-naming.ensures (not-true _ if1.true)
+    plan-naming.result plan-naming.ensures (if1.true)
 
 pub event_path-requires : goal.event_path-requires
 event_path-requires c =
@@ -90,7 +90,7 @@ returns-then-not-apart c =
     let if2 = c.if-not-apart in
     let here = walk_here (Due entry.set.now) entry.set.now loop.p loop.left loop.invariant (omega (arith, loop-test.true)) wish-in.result wish-in.ensures in
     due_twice entry.set.now loop.invariant.namings loop.invariant.so_far wish-in.result here bytes_of.result.now bytes-of2.result.now bytes_of.ensures bytes-of2.ensures
-    plan-naming.result plan-naming.ensures (not-false _ if1.false) event-path.result.now event-path.ensures apart.result loop.left loop.invariant.counted apart.ensures (not-true _ if2.true)
+    plan-naming.result plan-naming.ensures (if1.false) event-path.result.now event-path.ensures apart.result loop.left loop.invariant.counted apart.ensures (if2.true)
 
 pub loop-left-preserved : goal.loop-left-preserved
 loop-left-preserved c =
@@ -108,7 +108,7 @@ loop-left-preserved c =
     let here = walk_here (Due entry.set.now) entry.set.now loop.p loop.left loop.invariant (omega (arith, loop-test.true)) wish-in.result wish-in.ensures in
     walk_next (Due entry.set.now) entry.set.now loop.p loop.left loop.invariant wish-in.result here
     (due-next entry.set.now loop.invariant.namings loop.invariant.so_far wish-in.result here bytes_of.result.now bytes-of2.result.now bytes_of.ensures bytes-of2.ensures
-    plan-naming.result plan-naming.ensures (not-false _ if1.false) event-path.result.now event-path.ensures apart.result loop.left loop.invariant.counted apart.ensures (not-false _ if2.false))
+    plan-naming.result plan-naming.ensures (if1.false) event-path.result.now event-path.ensures apart.result loop.left loop.invariant.counted apart.ensures (if2.false))
 
 pub returns : goal.returns
 returns c =

@@ -10,7 +10,7 @@ returns-then-not-all_fair c =
     let entry = c.args in
     let all_fair = c.all_fair in
     let if1 = c.if-not-all_fair in
-    sym (ap (λ (t : Bool). t && ok_name entry.link.now) (sym all_fair.ensures ∙ not-true _ if1.true))
+    sym (ap (λ (t : Bool). t && ok_name entry.link.now) (sym all_fair.ensures ∙ if1.true))
 
 pub returns : goal.returns
 returns c =
@@ -18,4 +18,4 @@ returns c =
     let entry = c.args in
     let all_fair = c.all_fair in
     let if1 = c.if-not-all_fair in
-    ok-name.ensures ∙ sym (ap (λ (t : Bool). t && ok_name entry.link.now) (sym all_fair.ensures ∙ not-false _ if1.false))
+    ok-name.ensures ∙ sym (ap (λ (t : Bool). t && ok_name entry.link.now) (sym all_fair.ensures ∙ if1.false))

@@ -11,7 +11,7 @@ returns-then-not-plan_path c =
     let event-path = c.event_path in
     let plan-path = c.plan_path in
     let if1 = c.if-not-plan_path in
-    λ d e. sym (ap (λ (t : Bool). t && plan_link entry.link.now) (ap plan_path (sym (event-path.ensures d e)) ∙ sym plan-path.ensures ∙ not-true _ if1.true))
+    λ d e. sym (ap (λ (t : Bool). t && plan_link entry.link.now) (ap plan_path (sym (event-path.ensures d e)) ∙ sym plan-path.ensures ∙ if1.true))
 
 pub returns : goal.returns
 returns c =
@@ -20,4 +20,4 @@ returns c =
     let event-path = c.event_path in
     let plan-path = c.plan_path in
     let if1 = c.if-not-plan_path in
-    λ d e. plan-link.ensures ∙ sym (ap (λ (t : Bool). t && plan_link entry.link.now) (ap plan_path (sym (event-path.ensures d e)) ∙ sym plan-path.ensures ∙ not-false _ if1.false))
+    λ d e. plan-link.ensures ∙ sym (ap (λ (t : Bool). t && plan_link entry.link.now) (ap plan_path (sym (event-path.ensures d e)) ∙ sym plan-path.ensures ∙ if1.false))

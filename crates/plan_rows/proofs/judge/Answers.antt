@@ -10,14 +10,14 @@ returns-then-not-check_wishes c =
     let entry = c.args in
     let check-wishes = c.check_wishes in
     let if1 = c.if-not-check_wishes in
-    (set-none entry.set.now (sym check-wishes.ensures ∙ not-true _ if1.true), omega arith)
+    (set-none entry.set.now (sym check-wishes.ensures ∙ if1.true), omega arith)
 
 pub count_of-count-requires : goal.count_of-count-requires
 count_of-count-requires c =
     let entry = c.args in
     let check-wishes = c.check_wishes in
     let if1 = c.if-not-check_wishes in
-    set-counted entry.set.now (sym check-wishes.ensures ∙ not-false _ if1.false)
+    set-counted entry.set.now (sym check-wishes.ensures ∙ if1.false)
 
 pub loop-i-init : goal.loop-i-init
 loop-i-init c =
@@ -25,7 +25,7 @@ loop-i-init c =
     let count_of = c.count_of-count in
     let check-wishes = c.check_wishes in
     let if1 = c.if-not-check_wishes in
-    set-left entry.set.now count_of.result count_of.ensures.0 (sym check-wishes.ensures ∙ not-false _ if1.false)
+    set-left entry.set.now count_of.result count_of.ensures.0 (sym check-wishes.ensures ∙ if1.false)
 
 pub wish_in-place-requires : goal.wish_in-place-requires
 wish_in-place-requires c =
@@ -51,7 +51,7 @@ returns-then-not-check c =
     let check = c.check in
     let if2 = c.if-not-check in (
       left-faulty entry.set.now loop.p loop.i count_of.result loop.invariant (omega (arith, loop-test.true)) wish-in.result wish-in.ensures
-          bytes_of.result.now bytes_of.ensures (sym check.ensures ∙ not-true _ if2.true),
+          bytes_of.result.now bytes_of.ensures (sym check.ensures ∙ if2.true),
       omega (arith, loop.invariant.few, loop-test.true),
     )
 
@@ -66,7 +66,7 @@ loop-i-preserved c =
     let check = c.check in
     let if2 = c.if-not-check in
     left-sound entry.set.now loop.p loop.i count_of.result loop.invariant (omega (arith, loop-test.true)) wish-in.result wish-in.ensures
-    bytes_of.result.now bytes_of.ensures (sym check.ensures ∙ not-false _ if2.false)
+    bytes_of.result.now bytes_of.ensures (sym check.ensures ∙ if2.false)
 
 pub returns : goal.returns
 returns c =

@@ -73,7 +73,7 @@ returns-then-not-due c =
     let whole : Whole entry.set.now = enum_told.ensures in
     let room : most_text ≤ length entry.target.now = omega (arith, if1.false, clear.auto.t) in
     ap (answered the-accepted.result) clear.ensures
-    ∙ plan-none entry.set.now (length entry.target.now) the-accepted.result room (namings_in entry.set.now) whole.held (sym due.ensures ∙ not-true _ if2.true) the-accepted.ensures
+    ∙ plan-none entry.set.now (length entry.target.now) the-accepted.result room (namings_in entry.set.now) whole.held (sym due.ensures ∙ if2.true) the-accepted.ensures
 
 pub put_plan-requires : goal.put_plan-requires
 put_plan-requires c =
@@ -85,7 +85,7 @@ put_plan-requires c =
     let count_of = c.count_of-n in
     let if1 = c.if-target-lt-MOST_TEXT in
     let whole : Whole entry.set.now = enum_told.ensures in
-    let is-due = sym due.ensures ∙ not-false _ if2.false in
+    let is-due = sym due.ensures ∙ if2.false in
     let fits = plan-fits entry.set.now (namings_in entry.set.now) whole.held is-due in
     (whole, count_of.ensures.0 ∙ whole.counted, omega (arith, fits, if1.false))
 
@@ -98,7 +98,7 @@ accepted-requires-2 c =
     let if2 = c.if-not-due in
     let put-plan = c.put_plan in
     let whole : Whole entry.set.now = enum_told.ensures in
-    let is-due = sym due.ensures ∙ not-false _ if2.false in
+    let is-due = sym due.ensures ∙ if2.false in
     let fits = plan-fits entry.set.now (namings_in entry.set.now) whole.held is-due in
     (omega arith, omega arith, omega (arith, fits, put-plan.ensures.end), omega arith)
 
@@ -115,6 +115,6 @@ returns c =
     let accepted2 = c.accepted-2 in
     let whole : Whole entry.set.now = enum_told.ensures in
     let room : most_text ≤ length entry.target.now = omega (arith, if1.false, clear.auto.t) in
-    let is-due = sym due.ensures ∙ not-false _ if2.false in
+    let is-due = sym due.ensures ∙ if2.false in
     let put = subst (λ (l : List ℕ). Placed (plan_text (namings_in entry.set.now)) l 0 put-plan.result put-plan.new.out) clear.ensures put-plan.ensures in
     plan-made entry.set.now (length entry.target.now) accepted2.result room (namings_in entry.set.now) whole.held is-due put-plan.result put-plan.new.out put accepted2.ensures

@@ -21,14 +21,14 @@ returns-then-not-check_lent c =
     let check-lent = c.check_lent in
     let if1 = c.if-not-check_lent in
     wrote-refused refuse.result refuse.new.targets clear-numbers.new.t (length entry.targets.now) (length entry.answers.now) (of_set set_bad) refuse.ensures clear-numbers.ensures
-    ∙ sym (each_bad entry.text.now entry.set.now entry.sheet.now (length entry.targets.now) (length entry.answers.now) (sym check-lent.ensures ∙ not-true _ if1.true))
+    ∙ sym (each_bad entry.text.now entry.set.now entry.sheet.now (length entry.targets.now) (length entry.answers.now) (sym check-lent.ensures ∙ if1.true))
 
 pub count_of-n-requires : goal.count_of-n-requires
 count_of-n-requires c =
     let entry = c.args in
     let check-lent = c.check_lent in
     let if1 = c.if-not-check_lent in
-    let (ls, e) = is-some (decode_lent entry.set.now) (sym check-lent.ensures ∙ not-false _ if1.false) in
+    let (ls, e) = is-some (decode_lent entry.set.now) (sym check-lent.ensures ∙ if1.false) in
     let known = set_known entry.set.now ls e in
     known.some
 
@@ -41,7 +41,7 @@ returns-then-targets-n c =
     let refuse2 = c.refuse-then-targets-n in
     let clear-numbers = c.clear_numbers in
     let if2 = c.if-targets-n in
-    let (ls, e) = is-some (decode_lent entry.set.now) (sym check-lent.ensures ∙ not-false _ if1.false) in
+    let (ls, e) = is-some (decode_lent entry.set.now) (sym check-lent.ensures ∙ if1.false) in
     let known = set_known entry.set.now ls e in
     let count : count_of.result ≡ length ls = count_of.ensures.0 ∙ known.counted in
     wrote-refused refuse2.result refuse2.new.targets clear-numbers.new.t (length entry.targets.now) (length entry.answers.now) (of_set target_short) refuse2.ensures clear-numbers.ensures
@@ -57,7 +57,7 @@ returns-then-answers-n c =
     let clear-numbers = c.clear_numbers in
     let if2 = c.if-targets-n in
     let if3 = c.if-answers-n in
-    let (ls, e) = is-some (decode_lent entry.set.now) (sym check-lent.ensures ∙ not-false _ if1.false) in
+    let (ls, e) = is-some (decode_lent entry.set.now) (sym check-lent.ensures ∙ if1.false) in
     let known = set_known entry.set.now ls e in
     let count : count_of.result ≡ length ls = count_of.ensures.0 ∙ known.counted in
     wrote-refused refuse3.result refuse3.new.targets clear-numbers.new.t (length entry.targets.now) (length entry.answers.now) (of_set target_short) refuse3.ensures clear-numbers.ensures
@@ -72,7 +72,7 @@ each_sized-requires c =
     let clear-numbers = c.clear_numbers in
     let if2 = c.if-targets-n in
     let if3 = c.if-answers-n in
-    let (ls, e) = is-some (decode_lent entry.set.now) (sym check-lent.ensures ∙ not-false _ if1.false) in
+    let (ls, e) = is-some (decode_lent entry.set.now) (sym check-lent.ensures ∙ if1.false) in
     let known = set_known entry.set.now ls e in
     going entry.set.now ls e count_of.result entry.targets.now clear-numbers.new.t count_of.ensures.0 (omega (arith, if2.false)) (omega (arith, if3.false))
     (clear-numbers.ensures ∙ ap (λ (k : ℕ). replicate k 0) (sym clear-numbers.auto.t))
@@ -88,7 +88,7 @@ returns c =
     let if2 = c.if-targets-n in
     let if3 = c.if-answers-n in
     let accepted = c.accepted in
-    let (ls, e) = is-some (decode_lent entry.set.now) (sym check-lent.ensures ∙ not-false _ if1.false) in
+    let (ls, e) = is-some (decode_lent entry.set.now) (sym check-lent.ensures ∙ if1.false) in
     let known = set_known entry.set.now ls e in
     let count : count_of.result ≡ length ls = count_of.ensures.0 ∙ known.counted in
     let targets : List ℕ = each-sized.new.targets in

@@ -9,7 +9,7 @@ returns-in-Accepted c =
     let entry = c.args in
     let enum_told = c.in-Accepted in
     let x = read-text.new in
-    let is : TextIs entry.text.now x.1.0 x.1.1.0 x.1.1.1.0 x.1.1.1.1.0 x.1.1.1.1.1.0 (read.Accepted enum_told.field-0) = enum_told.ensures in
+    let is : TextIs entry.text.now x.values x.rows x.rules x.labels x.jumps (read.Accepted enum_told.field-0) = enum_told.ensures in
     (_, is.is)
 
 pub returns-in-Refused : goal.returns-in-Refused
@@ -18,5 +18,5 @@ returns-in-Refused c =
     let entry = c.args in
     let why = c.in-Refused in
     let x = read-text.new in
-    let is : TextIs entry.text.now x.1.0 x.1.1.0 x.1.1.1.0 x.1.1.1.1.0 x.1.1.1.1.1.0 (read.Refused why.why why.line) = why.ensures in
+    let is : TextIs entry.text.now x.values x.rows x.rules x.labels x.jumps (read.Refused why.why why.line) = why.ensures in
     is

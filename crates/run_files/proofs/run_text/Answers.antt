@@ -20,7 +20,7 @@ run_rules-requires c =
     let counts = c.in-Accepted in
     let pre = c.requires in
     let x = read-text.new in
-    let is : TextIs entry.text.now x.1.0 x.1.1.0 x.1.1.1.0 x.1.1.1.1.0 x.1.1.1.1.1.0 (read.Accepted counts.counts) = counts.ensures in
+    let is : TextIs entry.text.now x.values x.rows x.rules x.labels x.jumps (read.Accepted counts.counts) = counts.ensures in
     (runnable entry.text.now _ _ _ _ _ counts.counts is (omega (arith, read-text.auto.rules)) (omega (arith, read-text.auto.jumps)), pre.0, pre.1)
 
 pub returns-in-Accepted : goal.returns-in-Accepted
@@ -30,7 +30,7 @@ returns-in-Accepted c =
     let counts = c.in-Accepted in
     let run-rules = c.run_rules in
     let x = read-text.new in
-    let is : TextIs entry.text.now x.1.0 x.1.1.0 x.1.1.1.0 x.1.1.1.1.0 x.1.1.1.1.1.0 (read.Accepted counts.counts) = counts.ensures in
+    let is : TextIs entry.text.now x.values x.rows x.rules x.labels x.jumps (read.Accepted counts.counts) = counts.ensures in
     record {
       says = λ rs e a q d s z.
           subst (λ (r : List (Placed Rule)). Says entry.dev.now entry.chain d run-rules.new.t run-rules.result (run_from (engine a) d next s r)) (one_reading entry.text.now is.is e) (run-rules.ensures.says a q d s z);
@@ -44,5 +44,5 @@ returns-in-Refused c =
     let entry = c.args in
     let why = c.in-Refused in
     let x = read-text.new in
-    let is : TextIs entry.text.now x.1.0 x.1.1.0 x.1.1.1.0 x.1.1.1.1.0 x.1.1.1.1.1.0 (read.Refused why.why why.line) = why.ensures in
+    let is : TextIs entry.text.now x.values x.rows x.rules x.labels x.jumps (read.Refused why.why why.line) = why.ensures in
     record { says = λ rs e a q d s z. no_reading entry.text.now is.1 e; small = is.0; length = refl }
