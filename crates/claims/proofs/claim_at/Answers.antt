@@ -1,6 +1,7 @@
 -- `claims::claim_at` meets its contract.
 use mathlib.Core.Option.{some}
 use mathlib.Core.Path.{◌≡◌, ap, ◌∙◌}
+use borrow.Author.Rules.{rules}
 use mir.Facts.{to_z-of_z}
 use mir.Syntax.{w32}
 use Rattle.claims.proofs.Records.{first-from, first-here}
@@ -50,13 +51,12 @@ returns c =
     let bytes_of = c.bytes_of-rec in
     let claims-in = c.claims_in-row in
     let has = c.has in
-    let struct_told = c.struct_told-1 in
     λ s ss w.
     let here = first-here entry.set.now entry.p lent-in.result lent-in.ensures s ss w in
     let held : decode here.chain bytes_of.result.now ≡ some s = ap (decode here.chain) bytes_of.ensures ∙ here.held in
     let row = claims-in.ensures here.chain s held in
     record {
       made = has.ensures ∙ ap (among entry.name.now) row.named;
-      priority = to_z-of_z {w = w32} {z = claims-in.result.priority} (record { sfits = struct_told.given.1.1.0.1 }) ∙ row.priority;
+      priority = to_z-of_z {w = w32} {z = claims-in.result.priority} (search rules) ∙ row.priority;
       others = here.others;
     }

@@ -2,6 +2,7 @@ use Prim.Native.Nat.{◌+◌, ◌-◌}
 use lib.IntN.{ℤ}
 use lib.ListN.{length, length-set}
 use mathlib.Core.Path.{◌≡◌, refl, ap, ◌∙◌}
+use borrow.Author.Rules.{rules}
 use mir.Facts.{to_z-of_z}
 use mir.Syntax.{w32}
 use native.Mathlib.Omega.{arith}
@@ -58,14 +59,13 @@ loop-i-preserved-then-claim c =
     let entry = c.args in
     let byte = c.byte in
     let claim-at = c.claim_at-claim in
-    let struct_told = c.type_inv.claim in
     let loop-test = c.loop-i-test in
     let pre = c.requires in
     let byte2 = c.byte-then-claim in
     let higher = c.higher-top in
     let if1 = c.if-claim in
     let sized : length loop.list ≡ length entry.list.now = loop.invariant.1 ∙ length-set entry.list.now 0 byte.result in
-    let priority = to_z-of_z {w = w32} {z = claim-at.result.priority} (record { sfits = struct_told.1.0.1 }) in (
+    let priority = to_z-of_z {w = w32} {z = claim-at.result.priority} (search rules) in (
       seen-made entry.set.now entry.name.now (as_claimant entry.first) entry.n loop.list (as_claimant loop.top) loop.q loop.i loop.count
           loop.invariant.0 (omega (arith, loop-test.true, pre.0)) (omega (arith, loop-test.true)) claim-at.result claim-at.ensures _
           byte2.result (as_claimant higher.result) if1.true

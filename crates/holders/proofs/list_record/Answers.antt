@@ -6,6 +6,7 @@ use mathlib.Core.List.{◌∷◌}
 use Rattle.holders.proofs.list_record.Goals.{then-not-claimed_before, else-not-claimed_before}
 use mathlib.Core.Option.{some}
 use mathlib.Core.Path.{◌≡◌, refl, sym, ap, ◌∙◌, subst}
+use borrow.Author.Rules.{rules}
 use mir.Facts.{to_z-of_z}
 use mir.Syntax.{w32}
 use native.Mathlib.Numerals.{add-one}
@@ -56,13 +57,12 @@ loop-left-init c =
     let lent-in = c.lent_in-place in
     let bytes_of = c.bytes_of-rec in
     let claims-in = c.claims_in-row in
-    let struct_told = c.struct_told-1 in
     let here = next_of (states_in entry.set.now) entry.done.records (omega (arith, pre.2, pre.0.counted)) in
     let standing : Standing entry.set.now entry.done.next (here.0 ∷ drop (suc entry.done.records) (states_in entry.set.now)) = subst (Standing entry.set.now entry.done.next) here.1 pre.1.standing in
     let first-is = first-here entry.set.now entry.done.next lent-in.result lent-in.ensures here.0 (drop (suc entry.done.records) (states_in entry.set.now)) standing in
     let held : decode first-is.chain bytes_of.result.now ≡ some here.0 = ap (decode first-is.chain) bytes_of.ensures ∙ first-is.held in
     let row = claims-in.ensures first-is.chain here.0 held in
-    let priority = to_z-of_z {w = w32} {z = claims-in.result.priority} (record { sfits = struct_told.given.1.1.0.1 }) in
+    let priority = to_z-of_z {w = w32} {z = claims-in.result.priority} (search rules) in
     let start = turning_first entry.set.now bytes_of.result.now entry.done.records entry.t.now entry.done.end entry.done.names claims-in.result here.0 here.1 row pre.1.written in
     (subst (λ (z : ℤ). Turning entry.set.now bytes_of.result.now entry.done.records z entry.t.now entry.done.end entry.done.names claims-in.result.links claims-in.result.count) (sym priority) start, refl)
 
