@@ -1,27 +1,26 @@
 -- `assign_env::set_clean` meets its contract.
 use Rattle.assign_env.proofs.Env.{prop_ok, front-size, copy, copy-size, copy_room, copy-ok}
-use Rattle.assign_env.proofs.Env.{prop_ok}
 use Rattle.assign_env.proofs.set_clean.Goals as goal
 
 pub slice_bounds-clean-end : goal.slice_bounds-clean-end
 slice_bounds-clean-end c =
     let entry = c.args in
     let store = c.store in
-    front-size entry.value.now _ store.new.0 store.new.0 store.ensures
+    front-size entry.value.now _ store.new.t store.new.t store.ensures
 
 pub slice_bounds-out-end-in-Replaced : goal.slice_bounds-out-end-in-Replaced
 slice_bounds-out-end-in-Replaced c =
     let entry = c.args in
     let store = c.store in
     let clean = c.clean in
-    copy_room entry.value.now _ store.new.0 clean.new.0 store.ensures clean.ensures
+    copy_room entry.value.now _ store.new.t clean.new.x store.ensures clean.ensures
 
 pub slice_bounds-set_property-end : goal.slice_bounds-set_property-end
 slice_bounds-set_property-end c =
     let entry = c.args in
     let store = c.store in
     let clean = c.clean in
-    copy-size entry.value.now _ store.new.0 clean.new.0 store.ensures clean.ensures
+    copy-size entry.value.now _ store.new.t clean.new.x store.ensures clean.ensures
 
 pub set_property-requires : goal.set_property-requires
 set_property-requires c =
@@ -30,7 +29,7 @@ set_property-requires c =
     let store = c.store in
     let clean = c.clean in (
       pre.0,
-      copy-ok entry.value.now _ store.new.0 clean.new.0 store.ensures clean.ensures entry.key.now pre.1
+      copy-ok entry.value.now _ store.new.t clean.new.x store.ensures clean.ensures entry.key.now pre.1
           pre.3 pre.2,
     )
 
@@ -53,15 +52,15 @@ returns-in-Replaced c =
     let store = c.store in
     let clean = c.clean in
     let set-property = c.set_property in
-    rw (enum_told.given.1, ← copy entry.value.now _ store.new.0 clean.new.0 store.ensures clean.ensures)
+    rw (enum_told.is, ← copy entry.value.now _ store.new.t clean.new.x store.ensures clean.ensures)
     set-property.ensures
 
 pub returns-in-Unset : goal.returns-in-Unset
 returns-in-Unset c =
     let enum-told2 = c.in-Unset in
-    rw enum-told2.given.1 c.set_property-in-Unset.ensures
+    rw enum-told2.is c.set_property-in-Unset.ensures
 
 pub returns-in-AsIs : goal.returns-in-AsIs
 returns-in-AsIs c =
     let enum-told3 = c.in-AsIs in
-    rw enum-told3.given.1 c.set_property-in-AsIs.ensures
+    rw enum-told3.is c.set_property-in-AsIs.ensures

@@ -30,14 +30,14 @@ returns-in-Watch c =
     let a = c.args in
     let setting-of = c.setting_of in
     let told = c.in-Watch in
-    λ n s h. (_, option_watch a.value.now s a.work.escape setting-of.result setting-of.ensures told.given.1, c.set_watch.ensures n a.work.layout s h)
+    λ n s h. (_, option_watch a.value.now s a.work.escape setting-of.result setting-of.ensures told.is, c.set_watch.ensures n a.work.layout s h)
 
 pub returns-in-NoWatch : goal.returns-in-NoWatch
 returns-in-NoWatch c =
     let a = c.args in
     let setting-of = c.setting_of in
     let told = c.in-NoWatch in
-    λ n s h. (_, option_nowatch a.value.now s a.work.escape setting-of.result setting-of.ensures told.given.1, c.set_watch-in-NoWatch.ensures n a.work.layout s h)
+    λ n s h. (_, option_nowatch a.value.now s a.work.escape setting-of.result setting-of.ensures told.is, c.set_watch-in-NoWatch.ensures n a.work.layout s h)
 
 pub returns-in-Priority : goal.returns-in-Priority
 returns-in-Priority c =
@@ -47,7 +47,7 @@ returns-in-Priority c =
     let from-signed = c.from_signed in
     λ n s h. (
       _,
-      option_priority a.value.now s a.work.escape setting-of.result setting-of.ensures priority.given.0.0 priority.given.1 _ from-signed.ensures,
+      option_priority a.value.now s a.work.escape setting-of.result setting-of.ensures priority.priority priority.is _ from-signed.ensures,
       c.set_priority.ensures n a.work.layout s h,
     )
 

@@ -21,7 +21,7 @@ slice_bounds-change_link-count c =
     let start = c.in-At in
     let w =
     name_placed (operator_of entry.operator) entry.text.now entry.t.now entry.layout loop.t loop.left loop.at
-    loop.invariant name-from.result name-from.ensures start.given.0.0 start.given.0.1.0 start.given.1 in
+    loop.invariant name-from.result name-from.ensures start.start start.end start.is in
     omega (arith, w.2)
 
 pub slice_bounds-change_link-start : goal.slice_bounds-change_link-start
@@ -32,7 +32,7 @@ slice_bounds-change_link-start c =
     let start = c.in-At in
     let w =
     name_placed (operator_of entry.operator) entry.text.now entry.t.now entry.layout loop.t loop.left loop.at
-    loop.invariant name-from.result name-from.ensures start.given.0.0 start.given.0.1.0 start.given.1 in
+    loop.invariant name-from.result name-from.ensures start.start start.end start.is in
     omega (arith, w.2)
 
 pub slice_bounds-change_link-end : goal.slice_bounds-change_link-end
@@ -43,7 +43,7 @@ slice_bounds-change_link-end c =
     let start = c.in-At in
     let w =
     name_placed (operator_of entry.operator) entry.text.now entry.t.now entry.layout loop.t loop.left loop.at
-    loop.invariant name-from.result name-from.ensures start.given.0.0 start.given.0.1.0 start.given.1 in
+    loop.invariant name-from.result name-from.ensures start.start start.end start.is in
     w.3
 
 pub change_link-requires : goal.change_link-requires
@@ -54,7 +54,7 @@ change_link-requires c =
     let start = c.in-At in
     let (n, s₀, h) = pre.0 in
     let (s, z, f) = loop.invariant.going n s₀ h in
-    ((n, s, z), part-clean entry.text.now start.given.0.0 start.given.0.1.0 pre.1)
+    ((n, s, z), part-clean entry.text.now start.start start.end pre.1)
 
 pub loop-start-smaller : goal.loop-start-smaller
 loop-start-smaller c =
@@ -64,7 +64,7 @@ loop-start-smaller c =
     let start = c.in-At in
     let w =
     name_placed (operator_of entry.operator) entry.text.now entry.t.now entry.layout loop.t loop.left loop.at
-    loop.invariant name-from.result name-from.ensures start.given.0.0 start.given.0.1.0 start.given.1 in
+    loop.invariant name-from.result name-from.ensures start.start start.end start.is in
     omega (arith, w.1, w.2, w.3)
 
 pub loop-start-preserved : goal.loop-start-preserved
@@ -75,7 +75,7 @@ loop-start-preserved c =
     let start = c.in-At in
     let change-link = c.change_link in
     links-on (operator_of entry.operator) entry.text.now entry.t.now entry.layout loop.t loop.left loop.at loop.invariant
-    name-from.result name-from.ensures start.given.0.0 start.given.0.1.0 start.given.1 _ change-link.result
+    name-from.result name-from.ensures start.start start.end start.is _ change-link.result
     (search rules) change-link.ensures c.in-Left.next c.in-Left.is
 
 pub returns-in-Refused : goal.returns-in-Refused
@@ -86,7 +86,7 @@ returns-in-Refused c =
     let start = c.in-At in
     let change-link = c.change_link in
     links-refused (operator_of entry.operator) entry.text.now entry.t.now entry.layout loop.t loop.left loop.at
-    loop.invariant name-from.result name-from.ensures start.given.0.0 start.given.0.1.0 start.given.1 _
+    loop.invariant name-from.result name-from.ensures start.start start.end start.is _
     change-link.result (search rules) change-link.ensures c.in-Refused.refusal c.in-Refused.is
 
 pub shape_of-t-in-End : goal.shape_of-t-in-End

@@ -12,7 +12,7 @@ returns-in-Unset c =
     let entry = c.args in
     let enum-told2 = c.in-Unset in
     let clean = c.clean in
-    rw enum-told2.given.1 (
+    rw enum-told2.is (
       names-unset entry.x.now _ clean.ensures,
       names-clean entry.x.now _ clean.ensures,
       names-size entry.x.now _ clean.ensures,
@@ -23,7 +23,7 @@ returns-in-Replaced c =
     let entry = c.args in
     let enum-told3 = c.in-Replaced in
     let clean2 = c.clean-in-Replaced in
-    rw enum-told3.given.1 (
+    rw enum-told3.is (
       names-replaced entry.x.now _ clean2.ensures,
       names-clean entry.x.now _ clean2.ensures,
       names-size entry.x.now _ clean2.ensures,

@@ -30,9 +30,9 @@ finish-requires c =
     let (s', e, z) =
     subst
     (λ (r : Change).
-    Says n change-links.new.0 r
+    Says n change-links.new.t r
     (the_links (operator_of entry.operator) (names entry.text.now) (begun Links (operator_of entry.operator) s)))
-    left.given.1 (change-links.ensures n (begun Links (operator_of entry.operator) s) (begin.ensures n s h)) in
+    left.is (change-links.ensures n (begun Links (operator_of entry.operator) s) (begin.ensures n s h)) in
     omega (arith, z.room)
 
 pub returns-in-Left : goal.returns-in-Left
@@ -44,8 +44,8 @@ returns-in-Left c =
     let finish = c.finish in
     λ n s h.
     all_left (operator_of entry.operator) (names entry.text.now) n s _ change-links.result
-    (change-links.ensures n (begun Links (operator_of entry.operator) s) (begin.ensures n s h)) left.given.0.0
-    left.given.1 _ finish.ensures
+    (change-links.ensures n (begun Links (operator_of entry.operator) s) (begin.ensures n s h)) left.left
+    left.is _ finish.ensures
 
 pub returns-in-Refused : goal.returns-in-Refused
 returns-in-Refused c =

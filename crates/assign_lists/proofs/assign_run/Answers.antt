@@ -35,7 +35,7 @@ finish-requires c =
     subst
     (Left n (with_runs (begun Runs (operator_of entry.operator) s))
     (queued_runs entry.builtin entry.place entry.value.now (begun Runs (operator_of entry.operator) s).runs) _)
-    left.given.1 (change-runs.ensures n (begun Runs (operator_of entry.operator) s) (begin.ensures n s h) k) in
+    left.is (change-runs.ensures n (begun Runs (operator_of entry.operator) s) (begin.ensures n s h) k) in
     omega (arith, z.room)
 
 pub returns-in-Done : goal.returns-in-Done
@@ -50,8 +50,8 @@ returns-in-Done c =
     (queued_runs entry.builtin entry.place entry.value.now (begun Runs (operator_of entry.operator) s).runs) _
     change-runs.result (change-runs.ensures n (begun Runs (operator_of entry.operator) s) (begin.ensures n s h) k)
     (operator_of entry.operator) closable.Runs (queued entry.place p s)
-    (run-whole (operator_of entry.operator) entry.builtin entry.place entry.value.now s p e f g) left.given.0.0
-    left.given.1 _ finish.ensures
+    (run-whole (operator_of entry.operator) entry.builtin entry.place entry.value.now s p e f g) left.left
+    left.is _ finish.ensures
 
 pub returns-in-Full : goal.returns-in-Full
 returns-in-Full c =

@@ -32,7 +32,7 @@ finish-requires c =
     subst
     (Left n (with_tags (begun Tags (operator_of entry.operator) s))
     (change_tags (operator_of entry.operator) entry.value.now (begun Tags (operator_of entry.operator) s).tags) _)
-    left.given.1 (change-tags.ensures n (begun Tags (operator_of entry.operator) s) (begin.ensures n s h)) in
+    left.is (change-tags.ensures n (begun Tags (operator_of entry.operator) s) (begin.ensures n s h)) in
     omega (arith, z.room)
 
 pub returns-in-Done : goal.returns-in-Done
@@ -47,7 +47,7 @@ returns-in-Done c =
     (change_tags (operator_of entry.operator) entry.value.now (begun Tags (operator_of entry.operator) s).tags) _
     change-tags.result (change-tags.ensures n (begun Tags (operator_of entry.operator) s) (begin.ensures n s h))
     (operator_of entry.operator) closable.Tags (tagged p s) (tag_whole (operator_of entry.operator) entry.value.now s p e f)
-    left.given.0.0 left.given.1 _ finish.ensures
+    left.left left.is _ finish.ensures
 
 pub returns-in-Full : goal.returns-in-Full
 returns-in-Full c =

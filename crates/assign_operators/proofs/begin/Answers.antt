@@ -9,14 +9,14 @@ returns-in-Assign c =
     let entry = c.args in
     let enum_told = c.in-Assign in
     let empty = c.empty in
-    begun-emptied entry.t.now entry.layout entry.section entry.operator _ _ Assign enum_told.given.1 refl empty.ensures
+    begun-emptied entry.t.now entry.layout entry.section entry.operator _ _ Assign enum_told.is refl empty.ensures
 
 pub returns-in-Final : goal.returns-in-Final
 returns-in-Final c =
     let entry = c.args in
     let enum-told2 = c.in-Final in
     let empty2 = c.empty-in-Final in
-    begun-emptied entry.t.now entry.layout entry.section entry.operator _ _ Final enum-told2.given.1 refl empty2.ensures
+    begun-emptied entry.t.now entry.layout entry.section entry.operator _ _ Final enum-told2.is refl empty2.ensures
 
 pub returns-in-Equal : goal.returns-in-Equal
 returns-in-Equal c =

@@ -9,7 +9,7 @@ returns-in-Final c =
     let entry = c.args in
     let enum_told = c.in-Final in
     let close = c.close in
-    closed-final entry.t.now entry.key entry.operator _ enum_told.given.1 close.ensures
+    closed-final entry.t.now entry.key entry.operator _ enum_told.is close.ensures
 
 pub returns-in-Equal : goal.returns-in-Equal
 returns-in-Equal c =

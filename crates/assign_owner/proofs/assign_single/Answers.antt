@@ -13,53 +13,53 @@ use Rattle.assign_owner.proofs.assign_single.Goals as goal
 
 pub fill-requires : goal.fill-requires
 fill-requires c =
-    let pre = c.before.before.before.before.before.requires in
+    let pre = c.requires in
     (pre.2, pre.0, pre.1, refl)
 
 pub slice_bounds-out-end : goal.slice_bounds-out-end
 slice_bounds-out-end c =
-    let pre = c.before.before.before.before.before.before.before.before.before.before.before.requires in
-    let entry = c.before.before.before.before.before.before.before.before.before.before.before.args in
+    let pre = c.requires in
+    let entry = c.args in
     let fill = c.fill in
     let k = c.in-Done in
     let (d, s, h) = pre.0 in
     omega (
       arith,
       (filled-front (filled false (source_of d entry.place s) entry.value.now) _ fill.result _ (fill.ensures d s h)
-          k.given.0.0 k.given.1).room,
+          k.k k.is).room,
     )
 
 pub slice_bounds-set_text-end : goal.slice_bounds-set_text-end
 slice_bounds-set_text-end c =
-    let pre = c.before.before.before.before.before.before.before.before.before.before.before.before.requires in
-    let entry = c.before.before.before.before.before.before.before.before.before.before.before.before.args in
+    let pre = c.requires in
+    let entry = c.args in
     let fill = c.fill in
     let k = c.in-Done in
     let (d, s, h) = pre.0 in
-    front-size (filled false (source_of d entry.place s) entry.value.now) _ k.given.0.0 _
+    front-size (filled false (source_of d entry.place s) entry.value.now) _ k.k _
     (filled-front (filled false (source_of d entry.place s) entry.value.now) _ fill.result _ (fill.ensures d s h)
-    k.given.0.0 k.given.1)
+    k.k k.is)
 
 pub set_text-requires : goal.set_text-requires
 set_text-requires c =
-    let pre = c.before.before.before.before.before.before.before.before.before.before.before.before.requires in
+    let pre = c.requires in
     let (d, s, h) = pre.0 in (length (chain d), s, h.held)
 
 pub returns-in-Done : goal.returns-in-Done
 returns-in-Done c =
-    let entry = c.before.before.before.before.before.before.before.before.before.before.before.before.before.before.before.args in
+    let entry = c.args in
     let fill = c.fill in
     let k = c.in-Done in
     let set-text = c.set_text in
     λ p e f d s h.
     single-says d entry.place s p (operator_of entry.operator) entry.value.now e f entry.key _
     (filled-front (filled false (source_of d entry.place s) entry.value.now) _ fill.result _ (fill.ensures d s h)
-    k.given.0.0 k.given.1).is
+    k.k k.is).is
     (length (chain d)) _ set-text.result (set-text.ensures (length (chain d)) s h.held)
 
 pub returns-in-Full : goal.returns-in-Full
 returns-in-Full c =
-    let entry = c.before.before.before.before.before.before.before.before.before.args in
+    let entry = c.args in
     let fill = c.fill in
     λ p e f d s h.
     single-long d entry.place s p (operator_of entry.operator) entry.value.now e f entry.key

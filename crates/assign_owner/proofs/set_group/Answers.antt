@@ -42,4 +42,4 @@ returns c =
     let set-group = c.set_group-left in
     let finish = c.finish in
     owner-done with_group (operator_of entry.operator) closable.Group entry.x.now entry.t.now entry.layout ok-owner.result
-    ok-owner.ensures (omega (arith, if1.false)) if2.false _ set-group.result set-group.ensures _ finish.ensures
+    ok-owner.ensures (omega (arith, if1.false)) if2.false-raw _ set-group.result set-group.ensures _ finish.ensures

@@ -42,4 +42,4 @@ returns c =
     let set-owner = c.set_owner-left in
     let finish = c.finish in
     owner-done with_owner (operator_of entry.operator) closable.Owner entry.x.now entry.t.now entry.layout ok-owner.result
-    ok-owner.ensures (omega (arith, if1.false)) if2.false _ set-owner.result set-owner.ensures _ finish.ensures
+    ok-owner.ensures (omega (arith, if1.false)) if2.false-raw _ set-owner.result set-owner.ensures _ finish.ensures

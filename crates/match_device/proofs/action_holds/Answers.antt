@@ -14,10 +14,10 @@ use Rattle.match_device.proofs.action_holds.Goals as goal
 
 pub take-action-requires : goal.take-action-requires
 take-action-requires c =
-    omega (arith, record_head c.args.dev.now c.requires.0.0 (λ i. (c.type_inv.dev.given i).fits) c.requires.0.1)
+    omega (arith, record_head c.args.dev.now c.requires.0.0 (λ i. (c.type_inv.dev i).fits) c.requires.0.1)
 
 pub returns : goal.returns
 unfolding action_of
 returns c =
     let x = c.args in
-    λ d e. c.action_holds.ensures ∙ ap (λ (i : ℕ). judged (operator_of x.operator) (matches x.pattern.now (or_empty (nth i action_names)))) (c.take-action.ensures.value ∙ action_is x.dev.now d (λ i. (c.type_inv.dev.given i).fits) e)
+    λ d e. c.action_holds.ensures ∙ ap (λ (i : ℕ). judged (operator_of x.operator) (matches x.pattern.now (or_empty (nth i action_names)))) (c.take-action.ensures.value ∙ action_is x.dev.now d (λ i. (c.type_inv.dev i).fits) e)

@@ -13,12 +13,12 @@ pub returns-in-At : goal.returns-in-At
 returns-in-At c = λ m h.
     let args = c.args in
     let find = c.find_attribute_at-found in
-    let told = c.in-At.given in
+    let told = c.in-At in
     let op = operator_of args.operator in
     let value = args.pattern.now in
     c.attribute_holds.ensures
     ∙ ap (λ (x : List ℕ). judged op (matches value (seen_by value x))) c.part_of.ensures
-    ∙ present op value args.dev.now find.result (attr_of args.argument.now m) (find.ensures.0 m h) _ _ told.1
+    ∙ present op value args.dev.now find.result (attr_of args.argument.now m) (find.ensures.0 m h) _ _ told.is
 
 pub returns-in-Missing : goal.returns-in-Missing
 returns-in-Missing c = λ m h.

@@ -12,49 +12,49 @@ use Rattle.step.proofs.step.Goals as goal
 
 pub match_rule-requires : goal.match_rule-requires
 match_rule-requires c =
-    let entry = c.before.before.before.before.before.before in
+    let entry = c in
     let x = entry.args in
     let (d, s, h) = entry.requires.1 in
     (entry.requires.0.ordered, entry.requires.0.rows, begun-from x.dev.now x.chain x.t.now x.layout d s h)
 
 pub step_at-requires : goal.step_at-requires
 step_at-requires c =
-    let entry = c.before.before.before.before.before.before.before.before.before.before.before in
+    let entry = c in
     let x = entry.args in
     let m = c.match_rule in
-    let place = c.in-At.given in
-    let few = subst (λ (y : Matched). tried_in (near_of y) ≤ x.chain.len) place.1 m.ensures.0.1 in
-    (entry.requires.0, entry.requires.1, few, entry.requires.2, asks_at (pairs_from x.values.now x.rows.now x.from (x.to - x.from)) m.result m.ensures.1 _ _ place.1)
+    let place = c.in-At in
+    let few = subst (λ (y : Matched). tried_in (near_of y) ≤ x.chain.len) place.is m.ensures.0.1 in
+    (entry.requires.0, entry.requires.1, few, entry.requires.2, asks_at (pairs_from x.values.now x.rows.now x.from (x.to - x.from)) m.result m.ensures.1 _ _ place.is)
 
 pub returns-in-At : goal.returns-in-At
 returns-in-At c =
-    let entry = c.before.before.before.before.before.before.before.before.before.before.before.before.before.before in
+    let entry = c in
     let x = entry.args in
     let m = c.match_rule in
-    let place = c.in-At.given in
+    let place = c.in-At in
     let step-at = c.step_at in
     let (d₀, s₀, h₀) = entry.requires.1 in
     let (a₀, is₀) = is-some (decode x.sheet.now) entry.requires.2 in
-    let few = few_tried x.dev.now x.chain x.t.now x.layout d₀ s₀ h₀ place.0.0 (subst (λ (y : Matched). tried_in (near_of y) ≤ x.chain.len) place.1 m.ensures.0.1) in
+    let few = few_tried x.dev.now x.chain x.t.now x.layout d₀ s₀ h₀ place.place (subst (λ (y : Matched). tried_in (near_of y) ≤ x.chain.len) place.is m.ensures.0.1) in
     record {
       says = λ a is d s h.
           let e = m.ensures.0.0 (begun-from x.dev.now x.chain x.t.now x.layout d s h) in
-          step_placed a d s (pairs_from x.values.now x.rows.now x.from (x.to - x.from)) m.result e.0 e.1 x.dev.now x.chain x.t.now x.layout h _ _ place.1 _ step-at.result (step-at.ensures a is d s h);
-      few = says_few x.dev.now x.chain x.layout d₀ s₀ _ step-at.result _ place.0.0 few (step-at.ensures a₀ is₀ d₀ s₀ h₀);
+          step_placed a d s (pairs_from x.values.now x.rows.now x.from (x.to - x.from)) m.result e.0 e.1 x.dev.now x.chain x.t.now x.layout h _ _ place.is _ step-at.result (step-at.ensures a is d s h);
+      few = says_few x.dev.now x.chain x.layout d₀ s₀ _ step-at.result _ place.place few (step-at.ensures a₀ is₀ d₀ s₀ h₀);
       length = search rules;
     }
 
 pub returns-in-Missed : goal.returns-in-Missed
 returns-in-Missed c =
-    let entry = c.before.before.before.before.before.before.before.before.before.before in
+    let entry = c in
     let x = entry.args in
     let m = c.match_rule in
-    let tried = c.in-Missed.given in
+    let tried = c.in-Missed in
     let (d₀, s₀, h₀) = entry.requires.1 in
     record {
       says = λ a is d s h.
           let e = m.ensures.0.0 (begun-from x.dev.now x.chain x.t.now x.layout d s h) in
-          step_missed a d s (pairs_from x.values.now x.rows.now x.from (x.to - x.from)) m.result e.0 e.1 x.dev.now x.chain x.t.now x.layout h _ tried.1;
-      few = few_tried x.dev.now x.chain x.t.now x.layout d₀ s₀ h₀ tried.0.0 (subst (λ (y : Matched). tried_in (near_of y) ≤ x.chain.len) tried.1 m.ensures.0.1);
+          step_missed a d s (pairs_from x.values.now x.rows.now x.from (x.to - x.from)) m.result e.0 e.1 x.dev.now x.chain x.t.now x.layout h _ tried.is;
+      few = few_tried x.dev.now x.chain x.t.now x.layout d₀ s₀ h₀ tried.tried (subst (λ (y : Matched). tried_in (near_of y) ≤ x.chain.len) tried.is m.ensures.0.1);
       length = refl;
     }
