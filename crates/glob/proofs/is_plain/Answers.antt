@@ -15,22 +15,22 @@ pub returns-in-42 : goal.returns-in-42
 returns-in-42 c = ⊎_elim (λ w. rw w) (⊎_elim (λ w. rw w) (⊎_elim (λ w. rw w) (λ w. rw w))) c.in-42.is
 
 pub returns-in-97-to-122 : goal.returns-in-97-to-122
-returns-in-97-to-122 c = plain _ c.in_default-1.rest.1
+returns-in-97-to-122 c = plain _ c.in-97-to-122.in_default-own.rest.1
 
 pub returns-in-97-to-122-2 : goal.returns-in-97-to-122-2
-returns-in-97-to-122-2 c = plain _ c.in_default-1.rest.1
+returns-in-97-to-122-2 c = plain _ c.in-97-to-122.in_default-own.rest.1
 
 pub returns-in-97-to-122-3 : goal.returns-in-97-to-122-3
-returns-in-97-to-122-3 c = plain _ c.in_default-1.rest.1
+returns-in-97-to-122-3 c = plain _ c.in-97-to-122.in_default-own.rest.1
 
 pub returns-in_default : goal.returns-in_default
-returns-in_default c = plain _ c.in_default-1.rest.1
+returns-in_default c = plain _ c.in_default.in_default-own.rest.1
 
 pub returns-in_default-2 : goal.returns-in_default-2
-returns-in_default-2 c = plain _ c.in_default-1.rest.1
+returns-in_default-2 c = plain _ c.in_default.in_default-own.rest.1
 
 pub returns-in_default-3 : goal.returns-in_default-3
-returns-in_default-3 c = plain _ c.in_default-1.rest.1
+returns-in_default-3 c = plain _ c.in_default.in_default-own.rest.1
 
 pub returns-in_default-4 : goal.returns-in_default-4
-returns-in_default-4 c = plain _ c.in_default-1.rest.1
+returns-in_default-4 c = plain _ c.in_default.in_default-own.rest.1

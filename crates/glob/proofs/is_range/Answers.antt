@@ -36,7 +36,7 @@ returns-in_default c =
     let if2 = c.if-pattern-i-ne45 in
     let args = entry in
     let s = args.pattern.now in
-    let n = c.in_default.rest.1 in
+    let n = c.in_default.in_default-own.rest.1 in
     rw (
       ← get_d_any s (args.i + 1) 0 124 (omega arith),
       ← get_d_any s (args.i + 2) 0 124 (omega arith),

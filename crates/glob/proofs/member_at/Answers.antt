@@ -50,7 +50,7 @@ returns-then-high-low c =
     let is-range = c.is_range in
     let if1 = c.if-not-is_range in
     let args = entry in
-    member_falling args.pattern.now args.i pre (sym is-range.ensures ∙ not-false _ if1.false) c.if-high-low.true
+    member_falling args.pattern.now args.i pre (sym is-range.ensures ∙ not-false _ if1.false-raw) c.if-high-low.true
 
 pub overflow_add-result-2 : goal.overflow_add-result-2
 overflow_add-result-2 c =
@@ -58,7 +58,7 @@ overflow_add-result-2 c =
     let is-range = c.is_range in
     let if1 = c.if-not-is_range in
     let args = entry in
-    omega (arith, range_in args.pattern.now args.i (sym is-range.ensures ∙ not-false _ if1.false))
+    omega (arith, range_in args.pattern.now args.i (sym is-range.ensures ∙ not-false _ if1.false-raw))
 
 pub returns : goal.returns
 returns c =
@@ -67,4 +67,4 @@ returns c =
     let is-range = c.is_range in
     let if1 = c.if-not-is_range in
     let args = entry in
-    member-rising args.pattern.now args.i pre (sym is-range.ensures ∙ not-false _ if1.false) c.if-high-low.false
+    member-rising args.pattern.now args.i pre (sym is-range.ensures ∙ not-false _ if1.false-raw) c.if-high-low.false

@@ -7,7 +7,7 @@ pub set_from-requires : goal.set_from-requires
 set_from-requires c = λ e. c.if-byte_or_bar-eq124.false (c.byte_or_bar-in-33.ensures ∙ e)
 
 pub set_from-requires-in_default : goal.set_from-requires-in_default
-set_from-requires-in_default c = λ e. c.in_default.rest.1 (c.byte_or_bar.ensures ∙ e)
+set_from-requires-in_default c = λ e. c.in_default.in_default-own.rest.1 (c.byte_or_bar.ensures ∙ e)
 
 pub returns-then-byte_or_bar-eq124 : goal.returns-then-byte_or_bar-eq124
 returns-then-byte_or_bar-eq124 c =
@@ -16,7 +16,7 @@ returns-then-byte_or_bar-eq124 c =
     let match = c.in-33 in
     let args = entry in
     sym
-    (set_opposite_short args.pattern.now args.p args.x (sym byte-or-bar.ensures ∙ match.keys1)
+    (set_opposite_short args.pattern.now args.p args.x (sym byte-or-bar.ensures ∙ match.is)
     (sym c.byte_or_bar-in-33.ensures ∙ c.if-byte_or_bar-eq124.true))
 
 pub returns-else-byte_or_bar-eq124 : goal.returns-else-byte_or_bar-eq124
@@ -27,7 +27,7 @@ returns-else-byte_or_bar-eq124 c =
     let byte-or-bar2 = c.byte_or_bar-in-33 in
     let args = entry in
     c.set_from.ensures ∙ sym
-    (set_opposite args.pattern.now args.p args.x (sym byte-or-bar.ensures ∙ match.keys1)
+    (set_opposite args.pattern.now args.p args.x (sym byte-or-bar.ensures ∙ match.is)
     (λ e. c.if-byte_or_bar-eq124.false (byte-or-bar2.ensures ∙ e)))
 
 pub returns-in-124 : goal.returns-in-124
@@ -42,5 +42,5 @@ returns-in_default c =
     let args = entry in
     let byte-or-bar = byte-or-bar-call in
     c.set_from-in_default.ensures ∙ sym
-    (set-plain args.pattern.now args.p args.x (λ e. c.in_default.rest.1 (byte-or-bar.ensures ∙ e))
-    (λ e. c.in_default.rest.0.1 (byte-or-bar.ensures ∙ e)))
+    (set-plain args.pattern.now args.p args.x (λ e. c.in_default.in_default-own.rest.1 (byte-or-bar.ensures ∙ e))
+    (λ e. c.in_default.in_default-own.rest.0.1 (byte-or-bar.ensures ∙ e)))

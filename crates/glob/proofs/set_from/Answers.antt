@@ -19,10 +19,8 @@ overflow_add-next c =
     let entry = c.args in
     let loop = c.loop-low in
     let member-at = c.member_at in
-    let low-call = c.in-Range in
-    let low = low-call in
-    let l = low.given.0 in
-    let r : ReadOn entry.pattern.now loop.i l.0 l.1.0 l.1.1.0 = rw low.given.1 at member-at.ensures in
+    let arm = c.in-Range in
+    let r : ReadOn entry.pattern.now loop.i arm.low arm.high arm.next = arm.ensures in
     omega (arith, r.inside)
 
 pub returns-in-93 : goal.returns-in-93
@@ -30,16 +28,14 @@ returns-in-93 c =
     let entry = c.args in
     let loop-call = c.loop-low in
     let member-at = c.member_at in
-    let low-call = c.in-Range in
+    let arm = c.in-Range in
     let found_in = c.found_in-found in
     let byte-or-bar = c.byte_or_bar in
     let args = entry in
     let loop = loop-call in
-    let low = low-call in
-    let l = low.given.0 in
-    let r : ReadOn args.pattern.now loop.i l.0 l.1.0 l.1.1.0 = rw low.given.1 at member-at.ensures in
-    c.answer.ensures ∙ ap (λ (t : Bool). answered args.opposite t (l.1.1.0 + 1)) found_in.ensures ∙ sym
-    (read_closes args.pattern.now loop.i l.0 l.1.0 l.1.1.0 r args.opposite loop.found args.x
+    let r : ReadOn args.pattern.now loop.i arm.low arm.high arm.next = arm.ensures in
+    c.answer.ensures ∙ ap (λ (t : Bool). answered args.opposite t (arm.next + 1)) found_in.ensures ∙ sym
+    (read_closes args.pattern.now loop.i arm.low arm.high arm.next r args.opposite loop.found args.x
     (sym byte-or-bar.ensures ∙ c.in-93.is))
     ∙ loop.invariant.1
 
@@ -48,14 +44,12 @@ returns-in-124 c =
     let entry = c.args in
     let loop-call = c.loop-low in
     let member-at = c.member_at in
-    let low-call = c.in-Range in
+    let arm = c.in-Range in
     let args = entry in
     let loop = loop-call in
-    let low = low-call in
-    let l = low.given.0 in
-    let r : ReadOn args.pattern.now loop.i l.0 l.1.0 l.1.1.0 = rw low.given.1 at member-at.ensures in
+    let r : ReadOn args.pattern.now loop.i arm.low arm.high arm.next = arm.ensures in
     sym
-    (read_ends args.pattern.now loop.i l.0 l.1.0 l.1.1.0 r args.opposite loop.found args.x
+    (read_ends args.pattern.now loop.i arm.low arm.high arm.next r args.opposite loop.found args.x
     (sym c.byte_or_bar.ensures ∙ c.in-124.is))
     ∙ loop.invariant.1
 
@@ -64,10 +58,8 @@ loop-low-smaller c =
     let entry = c.args in
     let loop = c.loop-low in
     let member-at = c.member_at in
-    let low-call = c.in-Range in
-    let low = low-call in
-    let l = low.given.0 in
-    let r : ReadOn entry.pattern.now loop.i l.0 l.1.0 l.1.1.0 = rw low.given.1 at member-at.ensures in
+    let arm = c.in-Range in
+    let r : ReadOn entry.pattern.now loop.i arm.low arm.high arm.next = arm.ensures in
     omega (arith, r.forward, r.inside)
 
 pub loop-low-preserved : goal.loop-low-preserved
@@ -75,20 +67,18 @@ loop-low-preserved c =
     let entry = c.args in
     let loop-call = c.loop-low in
     let member-at = c.member_at in
-    let low-call = c.in-Range in
+    let arm = c.in-Range in
     let found_in = c.found_in-found in
     let args = entry in
     let loop = loop-call in
-    let low = low-call in
     let byte-or-bar = c.byte_or_bar in
-    let l = low.given.0 in
-    let r : ReadOn args.pattern.now loop.i l.0 l.1.0 l.1.1.0 = rw low.given.1 at member-at.ensures in
-    let n : NotBar args.pattern.now l.1.1.0 = λ e. c.in_default.rest.1 (byte-or-bar.ensures ∙ e) in (
+    let r : ReadOn args.pattern.now loop.i arm.low arm.high arm.next = arm.ensures in
+    let n : NotBar args.pattern.now arm.next = λ e. c.in_default.in_default-own.rest.1 (byte-or-bar.ensures ∙ e) in (
       n,
       rw found_in.ensures
           (sym
-          (read_on args.pattern.now loop.i l.0 l.1.0 l.1.1.0 r args.opposite loop.found args.x n
-          (λ e. c.in_default.rest.0.1 (byte-or-bar.ensures ∙ e)))
+          (read_on args.pattern.now loop.i arm.low arm.high arm.next r args.opposite loop.found args.x n
+          (λ e. c.in_default.in_default-own.rest.0.1 (byte-or-bar.ensures ∙ e)))
           ∙ loop.invariant.1),
     )
 

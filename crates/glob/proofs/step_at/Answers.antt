@@ -14,7 +14,7 @@ set_step-requires c =
     omega (
       arith,
       not_bar_in args.pattern.now args.p
-          (not_bar args.pattern.now args.p 91 (sym byte-or-bar.ensures ∙ match.keys4) (λ z. absurd (omega arith))),
+          (not_bar args.pattern.now args.p 91 (sym byte-or-bar.ensures ∙ match.is) (λ z. absurd (omega arith))),
     )
 
 pub returns-then-byte_or_bar-eq124 : goal.returns-then-byte_or_bar-eq124
@@ -23,7 +23,7 @@ returns-then-byte_or_bar-eq124 c =
     let byte-or-bar = c.byte_or_bar-b in
     let match = c.in-42 in
     let args = entry in
-    step-star_last args.pattern.now args.p args.value.now args.t (sym byte-or-bar.ensures ∙ match.keys1)
+    step-star_last args.pattern.now args.p args.value.now args.t (sym byte-or-bar.ensures ∙ match.is)
     (sym c.byte_or_bar.ensures ∙ c.if-byte_or_bar-eq124.true)
 
 pub returns-else-byte_or_bar-eq124 : goal.returns-else-byte_or_bar-eq124
@@ -32,7 +32,7 @@ returns-else-byte_or_bar-eq124 c =
     let byte-or-bar = c.byte_or_bar-b in
     let match = c.in-42 in
     let args = entry in
-    step-star args.pattern.now args.p args.value.now args.t (sym byte-or-bar.ensures ∙ match.keys1)
+    step-star args.pattern.now args.p args.value.now args.t (sym byte-or-bar.ensures ∙ match.is)
 
 pub returns-then-value-t : goal.returns-then-value-t
 returns-then-value-t c =
@@ -82,7 +82,7 @@ returns-else-value-t-3 c =
     let if4 = c.if-value-t-3 in
     let args = entry in
     rw c.set_step.ensures
-    (step_set args.pattern.now args.p args.value.now args.t (sym byte-or-bar.ensures ∙ match.keys4) if4.false)
+    (step_set args.pattern.now args.p args.value.now args.t (sym byte-or-bar.ensures ∙ match.is) if4.false)
 
 pub returns-in_default : goal.returns-in_default
 returns-in_default c =
@@ -92,5 +92,5 @@ returns-in_default c =
     let byte-or-bar = byte-or-bar-call in
     rw c.byte_step.ensures
     (step-byte args.pattern.now args.p args.value.now args.t byte-or-bar.result (sym byte-or-bar.ensures)
-    c.in_default.rest.0.0.1 c.in_default.rest.0.0.0.1 c.in_default.rest.0.1
-    c.in_default.rest.1)
+    c.in_default.in_default-own.rest.0.0.1 c.in_default.in_default-own.rest.0.0.0.1 c.in_default.in_default-own.rest.0.1
+    c.in_default.in_default-own.rest.1)

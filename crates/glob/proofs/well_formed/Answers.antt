@@ -20,7 +20,7 @@ loop-p-smaller-in-Takes c =
     let loop = loop-call in
     let set_at = set-at-call in
     let k : SoundIs set_at.result args.pattern.now loop.p =
-    rw set_at.ensures (sound-set args.pattern.now loop.p 0 (omega arith) match.keys1) in
+    rw set_at.ensures (sound-set args.pattern.now loop.p 0 (omega arith) match.is) in
     let w : SoundOn args.pattern.now loop.p c.in-Takes.next = rw c.in-Takes.is at k in
     omega (arith, w.forward, w.inside)
 
@@ -34,7 +34,7 @@ loop-p-preserved-in-Takes c =
     let loop = loop-call in
     let set_at = set-at-call in
     let k : SoundIs set_at.result args.pattern.now loop.p =
-    rw set_at.ensures (sound-set args.pattern.now loop.p 0 (omega arith) match.keys1) in
+    rw set_at.ensures (sound-set args.pattern.now loop.p 0 (omega arith) match.is) in
     let w : SoundOn args.pattern.now loop.p c.in-Takes.next = rw c.in-Takes.is at k in
     (w.inside, sym w.same ∙ loop.invariant.1)
 
@@ -48,7 +48,7 @@ loop-p-smaller-in-Leaves c =
     let loop = loop-call in
     let set_at = set-at-call in
     let k : SoundIs set_at.result args.pattern.now loop.p =
-    rw set_at.ensures (sound-set args.pattern.now loop.p 0 (omega arith) match.keys1) in
+    rw set_at.ensures (sound-set args.pattern.now loop.p 0 (omega arith) match.is) in
     let w : SoundOn args.pattern.now loop.p c.in-Leaves.next = rw c.in-Leaves.is at k in
     omega (arith, w.forward, w.inside)
 
@@ -62,7 +62,7 @@ loop-p-preserved-in-Leaves c =
     let loop = loop-call in
     let set_at = set-at-call in
     let k : SoundIs set_at.result args.pattern.now loop.p =
-    rw set_at.ensures (sound-set args.pattern.now loop.p 0 (omega arith) match.keys1) in
+    rw set_at.ensures (sound-set args.pattern.now loop.p 0 (omega arith) match.is) in
     let w : SoundOn args.pattern.now loop.p c.in-Leaves.next = rw c.in-Leaves.is at k in
     (w.inside, sym w.same ∙ loop.invariant.1)
 
@@ -76,7 +76,7 @@ returns-in-Fault c =
     let loop = loop-call in
     let set_at = set-at-call in
     let k : SoundIs set_at.result args.pattern.now loop.p =
-    rw set_at.ensures (sound-set args.pattern.now loop.p 0 (omega arith) match.keys1) in
+    rw set_at.ensures (sound-set args.pattern.now loop.p 0 (omega arith) match.is) in
     let w : SoundIs Fault args.pattern.now loop.p = rw c.in-Fault.is at k in
     sym w ∙ loop.invariant.1
 
@@ -85,7 +85,7 @@ loop-p-preserved c =
     let entry = c.args in
     let loop-call = c.loop-p in
     let loop = loop-call in
-    (omega arith, sym (sound-on entry.pattern.now loop.p (omega arith) c.in_default.rest.1) ∙ loop.invariant.1)
+    (omega arith, sym (sound-on entry.pattern.now loop.p (omega arith) c.in_default.in_default-own.rest.1) ∙ loop.invariant.1)
 
 pub returns : goal.returns
 returns c = sym (sound-end c.args.pattern.now c.loop-p.p (omega arith)) ∙ c.loop-p.invariant.1

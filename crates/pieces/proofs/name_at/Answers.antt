@@ -39,7 +39,7 @@ returns-then-byte_at-eq101 c =
     let byte-at2 = c.byte_at-in-100 in
     let if1 = c.if-byte_at-eq101 in
     let args = entry in
-    let here = sym byte_at.ensures ∙ match.keys3 in (
+    let here = sym byte_at.ensures ∙ match.is in (
       c.if_named-then-byte_at-eq101.ensures.0 ∙ sym (name_de args.template.now args.at here (sym byte-at2.ensures ∙ if1.true)),
       c.if_named-then-byte_at-eq101.ensures.1,
     )
@@ -53,7 +53,7 @@ returns-else-byte_at-eq101 c =
     let byte-at2 = c.byte_at-in-100 in
     let if1 = c.if-byte_at-eq101 in
     let args = entry in
-    let here = sym byte_at.ensures ∙ match.keys3 in (
+    let here = sym byte_at.ensures ∙ match.is in (
       c.if_named-else-byte_at-eq101.ensures.0 ∙ sym (name_d args.template.now args.at here (λ e. if1.false (byte-at2.ensures ∙ e))),
       c.if_named-else-byte_at-eq101.ensures.1,
     )
@@ -74,7 +74,7 @@ returns-then-starts_at c =
     let match = c.in-97 in
     let starts-at = c.starts_at in
     let args = entry in
-    let here = sym byte_at.ensures ∙ match.keys5 in
+    let here = sym byte_at.ensures ∙ match.is in
     let named = sym starts-at.ensures ∙ c.if-starts_at.true in (
       c.attr_at.ensures.0 ∙ sym (name_a args.template.now args.at here ∙ rw named),
       behind args.template.now args.at 4 c.attr_at.result c.attr_at.ensures.1,
@@ -98,7 +98,7 @@ returns-then-starts_at-2 c =
     let match = c.in-101 in
     let starts-at2 = c.starts_at-in-101 in
     let args = entry in
-    let here = sym byte_at.ensures ∙ match.keys6 in
+    let here = sym byte_at.ensures ∙ match.is in
     let named = sym starts-at2.ensures ∙ c.if-starts_at-2.true in (
       c.env_at.ensures.0 ∙ sym (name_e args.template.now args.at here ∙ rw named),
       behind args.template.now args.at 3 c.env_at.result c.env_at.ensures.1,
@@ -123,7 +123,7 @@ returns-then-byte_at-eq97 c =
     let byte-at3 = c.byte_at-in-109 in
     let if4 = c.if-byte_at-eq97 in
     let args = entry in
-    let here = sym byte_at.ensures ∙ match.keys7 in (
+    let here = sym byte_at.ensures ∙ match.is in (
       c.if_named-then-byte_at-eq97.ensures.0 ∙ sym (name_ma args.template.now args.at here (sym byte-at3.ensures ∙ if4.true)),
       c.if_named-then-byte_at-eq97.ensures.1,
     )
@@ -137,7 +137,7 @@ returns-else-byte_at-eq97 c =
     let byte-at3 = c.byte_at-in-109 in
     let if4 = c.if-byte_at-eq97 in
     let args = entry in
-    let here = sym byte_at.ensures ∙ match.keys7 in (
+    let here = sym byte_at.ensures ∙ match.is in (
       c.if_named-else-byte_at-eq97.ensures.0 ∙ sym (name_m args.template.now args.at here (λ e. if4.false (byte-at3.ensures ∙ e))),
       c.if_named-else-byte_at-eq97.ensures.1,
     )
@@ -150,7 +150,7 @@ returns-then-starts_at-3 c =
     let match = c.in-114 in
     let starts-at3 = c.starts_at-in-114 in
     let args = entry in
-    let here = sym byte_at.ensures ∙ match.keys8 in
+    let here = sym byte_at.ensures ∙ match.is in
     let named = sym starts-at3.ensures ∙ c.if-starts_at-3.true in
     (c.result_at.ensures.0 ∙ sym (name_r args.template.now args.at here ∙ rw named), c.result_at.ensures.1)
 

@@ -19,7 +19,7 @@ loop-next-smaller c =
     let piece-at = c.piece_at in
     let args = entry in
     let written-end = written-end-call in
-    let g = c.in-Read.given.0 in
+    let g = c.in-Read.known_told-1-own.given.0 in
     let w : Ahead g.0 g.1.0 args.template.now written-end.result = rw c.in-Read.is at piece-at.ensures.1 in
     omega (arith, w.forward, w.inside, written-end.ensures.from)
 
@@ -32,7 +32,7 @@ loop-next-preserved c =
     let args = entry in
     let written-end = written-end-call in
     let piece-at = piece-at-call in
-    let g = c.in-Read.given.0 in
+    let g = c.in-Read.known_told-1-own.given.0 in
     let w : Ahead g.0 g.1.0 args.template.now written-end.result = rw c.in-Read.is at piece-at.ensures.1 in
     let e : told (Read g.0 g.1.0) args.template.now ≡ read_at args.template.now written-end.result =
     rw c.in-Read.is at piece-at.ensures.0 in (
