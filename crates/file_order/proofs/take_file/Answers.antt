@@ -1,7 +1,7 @@
 -- `file_order::take_file` meets its contract.
 use Prim.Native.Nat.{ℕ}
 use mathlib.Core.Path.{sym, ap, ◌∙◌}
-use mathlib.Core.List.{◌∷◌}
+use mathlib.Core.List.{[], ◌∷◌}
 use Rattle.splice.specs.Moves.{inserted}
 use Rattle.file_order.proofs.Taking.{passed, taken}
 use native.Mathlib.Omega.{arith}
@@ -47,3 +47,15 @@ insert-requires c =
     let place_of = c.place_of-at in
     let pre = c.requires in
     (place_of.ensures.1, omega (arith, pre.4))
+
+pub returns : goal.returns
+returns c =
+    let entry = c.args in
+    let pre = c.requires in
+    let place_of = c.place_of-at in
+    let insert = c.insert in
+    let byte = c.byte in
+    let loses = c.loses in
+    let if1 = c.if-loses in
+    taken entry.set.now entry.starts.now entry.n entry.order.now entry.k entry.i pre.3 place_of.result insert.new.t place_of.ensures pre.4 pre.1 (insert.ensures ∙ ap
+    (λ (x : ℕ). inserted entry.order.now place_of.result entry.k (x ∷ [])) byte.ensures) insert.auto.t (sym loses.ensures ∙ if1.false)
