@@ -4,7 +4,7 @@ use Rattle.device_lookup.proofs.find_attribute.Goals as goal
 
 pub find_value-requires : goal.find_value-requires
 find_value-requires c =
-    let s = before in
+    let s = c in
     let p = c.parts_at-parts in (
       p.ensures.1.within,
       attributes_stand s.args.rec.now s.args.at s.requires.member s.requires.lies p.result

@@ -5,9 +5,9 @@ use Rattle.device_lookup.proofs.Devices.{record_head, count-is}
 use Rattle.device_lookup.proofs.property_count.Goals as goal
 
 pub take-count-requires : goal.take-count-requires
-take-count-requires c = omega (arith, record_head c.args.rec.now c.requires.0 (λ i. (c.type_inv.rec.given i).fits) c.requires.1)
+take-count-requires c = omega (arith, record_head c.args.rec.now c.requires.0 (λ i. (c.type_inv.rec i).fits) c.requires.1)
 
 pub returns : goal.returns
 returns c =
     let entry = c.args in
-    λ d e. c.take-count.ensures.value ∙ count-is entry.rec.now d (λ i. (c.type_inv.rec.given i).fits) e
+    λ d e. c.take-count.ensures.value ∙ count-is entry.rec.now d (λ i. (c.type_inv.rec i).fits) e
