@@ -32,14 +32,6 @@ overflow_add-len c = omega (arith, c.loop-i.invariant.counted)
 pub loop-i-smaller : goal.loop-i-smaller
 loop-i-smaller c = omega (arith, c.if-taken-eq0.false)
 
-pub loop-i-preserved : goal.loop-i-preserved
-loop-i-preserved c =
-    let at = c.loop-i in
-    scan_next c.args.line.now c.args.start c.args.out.now at.out at.i at.len at.invariant
-    c.taken_at-taken.result (omega arith)
-    c.if-line-i-eq34.false c.taken_at-taken.ensures.0
-    c.if-taken-eq0.false c.put_at.new.0 c.put_at.ensures
-
 pub shape_of-out : goal.shape_of-out
 shape_of-out c = c.loop-i.invariant.kept
 
@@ -47,3 +39,11 @@ pub returns : goal.returns
 returns c =
     let at = c.loop-i in
     scan_out c.args.line.now c.args.start c.args.out.now at.out at.i at.len at.invariant (omega arith)
+
+pub loop-i-preserved : goal.loop-i-preserved
+loop-i-preserved c =
+    let at = c.loop-i in
+    scan_next c.args.line.now c.args.start c.args.out.now at.out at.i at.len at.invariant
+    c.taken_at-taken.result (omega arith)
+    c.if-line-i-eq34.false c.taken_at-taken.ensures.0
+    c.if-taken-eq0.false c.put_at.new.out c.put_at.ensures

@@ -1,5 +1,6 @@
 -- `escapes::letter_byte` meets its contract.
 use mathlib.Core.Path.{sym}
+use native.Mathlib.Omega.{arith}
 use borrow.Author.Tests.{ne_eqb}
 use Rattle.rules.specs.Coded.{escapes, escape_in}
 use Rattle.escapes.proofs.letter_byte.Goals as goal
@@ -49,14 +50,14 @@ unfolding escapes escape_in
 returns-in_default c =
     let l = c.args.letter in
     simp (
-      ne_eqb 97 l (λ e. c.in_default.rest.0.0.0.0.0.0.0.0.0.1 (sym e)),
-      ne_eqb 98 l (λ e. c.in_default.rest.0.0.0.0.0.0.0.0.1 (sym e)),
-      ne_eqb 102 l (λ e. c.in_default.rest.0.0.0.0.0.0.0.1 (sym e)),
-      ne_eqb 110 l (λ e. c.in_default.rest.0.0.0.0.0.0.1 (sym e)),
-      ne_eqb 114 l (λ e. c.in_default.rest.0.0.0.0.0.1 (sym e)),
-      ne_eqb 116 l (λ e. c.in_default.rest.0.0.0.0.1 (sym e)),
-      ne_eqb 118 l (λ e. c.in_default.rest.0.0.0.1 (sym e)),
-      ne_eqb 92 l (λ e. c.in_default.rest.0.0.1 (sym e)),
-      ne_eqb 34 l (λ e. c.in_default.rest.0.1 (sym e)),
-      ne_eqb 39 l (λ e. c.in_default.rest.1 (sym e)),
+      ne_eqb 97 l (λ e. omega arith),
+      ne_eqb 98 l (λ e. omega arith),
+      ne_eqb 102 l (λ e. omega arith),
+      ne_eqb 110 l (λ e. omega arith),
+      ne_eqb 114 l (λ e. omega arith),
+      ne_eqb 116 l (λ e. omega arith),
+      ne_eqb 118 l (λ e. omega arith),
+      ne_eqb 92 l (λ e. omega arith),
+      ne_eqb 34 l (λ e. omega arith),
+      ne_eqb 39 l (λ e. omega arith),
     )
