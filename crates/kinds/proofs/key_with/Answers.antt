@@ -1,7 +1,7 @@
 -- `kinds::key_with` meets its contract.
 use native.Mathlib.Omega.{arith}
 use Rattle.kinds.specs.Numbers.{key_with}
-use Rattle.kinds.proofs.Numbers.{above, key_last}
+use Rattle.kinds.proofs.Numbers.{key_last}
 use mathlib.Core.Path.{sym}
 use Rattle.kinds.proofs.key_with.Goals as goal
 
@@ -90,28 +90,4 @@ unfolding key_with
 returns-in-20 c = rw c.in-20.is
 
 pub returns-in_default : goal.returns-in_default
-returns-in_default c =
-    let n = c.args.n in
-    let r = c.in_default.rest in
-    let from1 = above 0 n (omega arith) r.0.0.0.0.0.0.0.0.0.0.0.0.0.0.0.0.0.0.0.0.1 in
-    let from2 = above 1 n from1 r.0.0.0.0.0.0.0.0.0.0.0.0.0.0.0.0.0.0.0.1 in
-    let from3 = above 2 n from2 r.0.0.0.0.0.0.0.0.0.0.0.0.0.0.0.0.0.0.1 in
-    let from4 = above 3 n from3 r.0.0.0.0.0.0.0.0.0.0.0.0.0.0.0.0.0.1 in
-    let from5 = above 4 n from4 r.0.0.0.0.0.0.0.0.0.0.0.0.0.0.0.0.1 in
-    let from6 = above 5 n from5 r.0.0.0.0.0.0.0.0.0.0.0.0.0.0.0.1 in
-    let from7 = above 6 n from6 r.0.0.0.0.0.0.0.0.0.0.0.0.0.0.1 in
-    let from8 = above 7 n from7 r.0.0.0.0.0.0.0.0.0.0.0.0.0.1 in
-    let from9 = above 8 n from8 r.0.0.0.0.0.0.0.0.0.0.0.0.1 in
-    let from10 = above 9 n from9 r.0.0.0.0.0.0.0.0.0.0.0.1 in
-    let from11 = above 10 n from10 r.0.0.0.0.0.0.0.0.0.0.1 in
-    let from12 = above 11 n from11 r.0.0.0.0.0.0.0.0.0.1 in
-    let from13 = above 12 n from12 r.0.0.0.0.0.0.0.0.1 in
-    let from14 = above 13 n from13 r.0.0.0.0.0.0.0.1 in
-    let from15 = above 14 n from14 r.0.0.0.0.0.0.1 in
-    let from16 = above 15 n from15 r.0.0.0.0.0.1 in
-    let from17 = above 16 n from16 r.0.0.0.0.1 in
-    let from18 = above 17 n from17 r.0.0.0.1 in
-    let from19 = above 18 n from18 r.0.0.1 in
-    let from20 = above 19 n from19 r.0.1 in
-    let from21 = above 20 n from20 r.1 in
-    sym (key_last n from21)
+returns-in_default c = sym (key_last c.args.n (omega arith))
