@@ -18,7 +18,7 @@ pub returns-in_default : goal.returns-in_default
 returns-in_default c =
     let entry = c.args in
     let args = entry in
-    (no_name args.template.now args.at c.byte_at.ensures c.in_default.rest.1 (λ h l. omega arith), tt)
+    (no_name args.template.now args.at c.byte_at.ensures c.in_default.in_default-own.rest.1 (λ h l. omega arith), tt)
 
 pub returns-in_default-2 : goal.returns-in_default-2
 returns-in_default-2 c =
@@ -26,4 +26,4 @@ returns-in_default-2 c =
     let byte_at = c.byte_at in
     let match = c.in_default in
     let args = entry in
-    (no_name args.template.now args.at byte_at.ensures match.rest.1 (λ h l. omega arith), tt)
+    (no_name args.template.now args.at byte_at.ensures match.in_default-own.rest.1 (λ h l. omega arith), tt)

@@ -19,7 +19,7 @@ returns-in_default c =
     let entry = c.args in
     let byte_at = c.byte_at in
     let args = entry in (
-      no_letter args.template.now args.at byte_at.ensures c.in_default.rest.1 (λ h l. omega arith) (λ h l. omega arith),
+      no_letter args.template.now args.at byte_at.ensures c.in_default.in_default-own.rest.1 (λ h l. omega arith) (λ h l. omega arith),
       tt,
     )
 
@@ -29,7 +29,7 @@ returns-in_default-2 c =
     let byte_at = c.byte_at in
     let match = c.in_default in
     let args = entry in
-    (no_letter args.template.now args.at byte_at.ensures match.rest.1 (λ h l. omega arith) (λ h l. omega arith), tt)
+    (no_letter args.template.now args.at byte_at.ensures match.in_default-own.rest.1 (λ h l. omega arith) (λ h l. omega arith), tt)
 
 pub returns-in_default-3 : goal.returns-in_default-3
 returns-in_default-3 c =
@@ -37,4 +37,4 @@ returns-in_default-3 c =
     let byte_at = c.byte_at in
     let match = c.in_default in
     let args = entry in
-    (no_letter args.template.now args.at byte_at.ensures match.rest.1 (λ h l. omega arith) (λ h l. omega arith), tt)
+    (no_letter args.template.now args.at byte_at.ensures match.in_default-own.rest.1 (λ h l. omega arith) (λ h l. omega arith), tt)

@@ -80,11 +80,10 @@ returns-in-99 c =
 
 pub returns-in_default : goal.returns-in_default
 returns-in_default c =
-    let entry = before in
-    let args = entry.args in
+    let args = c.args in
     let byte = c.byte_at.ensures in
-    let rest = c.in_default.rest in (
-      letter_none args.template.now args.at byte (λ e. entry.requires.1 (sym byte ∙ e)) rest.0.0.0.0.0.0.0.0.1
+    let rest = c.in_default.in_default-own.rest in (
+      letter_none args.template.now args.at byte (λ e. c.requires.1 (sym byte ∙ e)) rest.0.0.0.0.0.0.0.0.1
           rest.0.0.0.0.0.0.0.1 rest.0.0.0.0.0.0.1 rest.0.0.0.0.0.1 rest.0.0.0.0.1 rest.0.0.0.1
           rest.0.0.1 rest.0.1 rest.1,
       tt,

@@ -33,6 +33,6 @@ pub returns-in_default : goal.returns-in_default
 returns-in_default c =
     let entry = c.args in
     let args = entry in (
-      sym (read_written args.template.now args.at (omega arith) c.in_default.in_default-own.rest.0.1 c.in_default.rest.1),
+      sym (read_written args.template.now args.at (omega arith) c.in_default.in_default-own.rest.0.1 c.in_default.in_default-own.rest.1),
       record { forward = omega arith; inside = omega arith; text = tt },
     )

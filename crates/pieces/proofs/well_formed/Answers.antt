@@ -19,8 +19,8 @@ loop-next-smaller c =
     let piece-at = c.piece_at in
     let args = entry in
     let written-end = written-end-call in
-    let g = c.in-Read.known_told-1-own.given.0 in
-    let w : Ahead g.0 g.1.0 args.template.now written-end.result = rw c.in-Read.is at piece-at.ensures.1 in
+    let arm = c.in-Read in
+    let w : Ahead arm.field-0 arm.next args.template.now written-end.result = arm.ensures.1 in
     omega (arith, w.forward, w.inside, written-end.ensures.from)
 
 pub loop-next-preserved : goal.loop-next-preserved
@@ -32,12 +32,11 @@ loop-next-preserved c =
     let args = entry in
     let written-end = written-end-call in
     let piece-at = piece-at-call in
-    let g = c.in-Read.known_told-1-own.given.0 in
-    let w : Ahead g.0 g.1.0 args.template.now written-end.result = rw c.in-Read.is at piece-at.ensures.1 in
-    let e : told (Read g.0 g.1.0) args.template.now ≡ read_at args.template.now written-end.result =
-    rw c.in-Read.is at piece-at.ensures.0 in (
+    let arm = c.in-Read in
+    let w : Ahead arm.field-0 arm.next args.template.now written-end.result = arm.ensures.1 in
+    let e : told (Read arm.field-0 arm.next) args.template.now ≡ read_at args.template.now written-end.result = arm.ensures.0 in (
       w.inside,
-      some-behind args.template.now written-end.result (meaning g.0 args.template.now) g.1.0 (sym e) ∙
+      some-behind args.template.now written-end.result (meaning arm.field-0 args.template.now) arm.next (sym e) ∙
           written-end.ensures.same ∙ loop.invariant.1,
     )
 

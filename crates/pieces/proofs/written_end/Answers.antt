@@ -1,9 +1,9 @@
 use Prim.Native.Nat.{◌-◌}
 use mathlib.Core.Path.{refl}
-use mathlib.Core.Logic.{⊎_elim}
 use native.Mathlib.Omega.{arith}
 use Rattle.pieces.proofs.Pieces.{written_on}
 use Rattle.pieces.proofs.written_end.Goals as goal
+use Rattle.pieces.proofs.written_end.Goals.{in_default-via-then-template-i-lt36, in_default-via-else-template-i-lt36+else-this-lt38}
 
 pub loop-i-init : goal.loop-i-init
 loop-i-init c = record { from = omega arith; within = c.requires; same = refl }
@@ -20,8 +20,10 @@ loop-i-preserved c =
     let args = entry in
     let loop = loop-call in
     let on = written_on args.template.now args.at loop.i loop.invariant (omega arith) in
-    ⊎_elim (λ w. on (λ e. omega (arith, w.taken)) (λ e. omega (arith, w.taken)))
-    (λ w. on (λ e. omega (arith, w.1.left)) (λ e. omega (arith, w.1.left))) c.in_default.branch
+    elim c.in_default.branch [
+      | in_default-via-then-template-i-lt36 w ↦ on (λ e. omega arith) (λ e. omega arith)
+      | in_default-via-else-template-i-lt36+else-this-lt38 w ↦ on (λ e. omega arith) (λ e. omega arith)
+    ]
 
 pub returns : goal.returns
 returns c = c.loop-i.invariant
