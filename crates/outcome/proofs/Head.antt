@@ -7,8 +7,8 @@ use native.Mathlib.Omega.{arith}
 use lib.ListN.{length}
 use lib.Dec.{eqb}
 use Rattle.lists.specs.Bytes.{Bytes}
-use Rattle.bits.specs.Bits.{number_at, put_at}
-use Rattle.bits.specs.Fields.{Field, packed, fields_at, bit, flag_at}
+use Rattle.bits.specs.Bits.{put_at}
+use Rattle.bits.specs.Fields.{Field, packed, fields_at}
 use Rattle.bits.proofs.Numbers.{number_lt}
 use Rattle.bits.proofs.Fields as F
 use Rattle.bits.proofs.Fields.{length-packed, bit_small, eqb-bit, bit-flag}

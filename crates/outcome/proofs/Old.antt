@@ -1,15 +1,15 @@
 -- Document 02, Item 5: a record of edition 1 and the record of edition 2 that says the same are made of each other.
 -- Assumes nothing.
-use Prim.Native.Nat.{ℕ, zero, suc, ◌+◌, ◌-◌, ◌*◌, ◌/◌, ◌%◌, ◌^◌, ◌≤◌, ◌<◌}
+use Prim.Native.Nat.{ℕ, zero, suc, ◌+◌, ◌-◌, ◌*◌, ◌/◌, ◌^◌, ◌≤◌, ◌<◌}
 use mathlib.Core.Path.{◌≡◌, refl, sym, ap, ap₂, ◌∙◌, subst}
-use mathlib.Core.Bool.{Bool, true, false, ◌&&◌}
+use mathlib.Core.Bool.{Bool, true, false}
 use mathlib.Core.List.{List, [], ◌∷◌, ◌++◌, append_assoc}
-use mathlib.Core.Option.{Option, some, none}
+use mathlib.Core.Option.{some, none}
 use native.Mathlib.Omega.{arith}
 use lib.ListN.{length, get_or, take, drop, length-append, take-append-drop}
 use lib.Seq.{take-append_seam, drop-append_seam, length-take-le}
-use lib.Dec.{eqb, leb}
-use borrow.Author.Tests.{eqb-true, leb-true, eq-eqb}
+use lib.Dec.{eqb}
+use borrow.Author.Tests.{eqb-true, eq-eqb}
 use Rattle.lists.specs.Lists.{is_empty}
 use Rattle.lists.specs.Bytes.{Bytes}
 use Rattle.lists.proofs.Tests.{and_both, both_and}
@@ -26,7 +26,7 @@ use Rattle.outcome.specs.Head.{Head, fields, header, head_of}
 use Rattle.outcome.specs.State.{State, head_for, body, encode, decode, Good}
 use Rattle.outcome.specs.Old.{renewed, aged, plain, encode_old, decode_old}
 use Rattle.outcome.proofs.Head.{header-length, head_there}
-use Rattle.outcome.proofs.RoundTrip.{good_fit, there, back}
+use Rattle.outcome.proofs.RoundTrip.{good_fit, back}
 use Rattle.outcome.proofs.Fits.{encode-size, fits-plain}
 
 -- ---- bytes put in and taken out

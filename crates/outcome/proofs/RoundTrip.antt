@@ -22,7 +22,7 @@ use Rattle.outcome.specs.Head.{Head, header, head_of}
 use Rattle.outcome.proofs.Head.{Fit, header-first, head_there, head_back, head_fits}
 use Rattle.outcome.specs.Content.{ok_link, ok_owner, owner_byte, ok_output, others_write}
 use Rattle.outcome.proofs.Parts.{mode_there, mode-set, mode_bits_lem, mode_okay, mode_small, mode-kept, set_small, set-or, sized_there, sized-back, run-laws}
-use Rattle.outcome.specs.State.{Run, State, mode_set, OkModeBits, ok_run, enc_run, one_run, ok_tag, head_for, encode, ok_head, apart, Good, read_head, state_of, one_sized, parts, ended, decode}
+use Rattle.outcome.specs.State.{Run, State, OkModeBits, ok_run, enc_run, one_run, ok_tag, head_for, encode, ok_head, apart, Good, read_head, state_of, one_sized, parts, ended, decode}
 
 -- ---- what a good state's header is
 

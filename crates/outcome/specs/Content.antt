@@ -1,7 +1,6 @@
 -- Document 01, Sizes and Numbers given back (31, 33, 34): what a link, an owner, a group and a mode may be.
 -- Assumes nothing.
-use Rattle.std.specs.Prelude.{ℕ, zero, suc, ◌+◌, ◌-◌, ◌*◌, ◌/◌, ◌%◌, Bool, true, false, ◌&&◌, ◌||◌, not, List, [], ◌∷◌, length, leb, eqb}
-use Rattle.std.proofs.Math.Option.{Option, none, some}
+use Rattle.std.specs.Prelude.{ℕ, ◌+◌, ◌-◌, ◌*◌, ◌/◌, ◌%◌, Bool, ◌&&◌, ◌||◌, not, List, [], ◌∷◌, length, leb, eqb}
 use Rattle.lists.specs.Lists.{is_empty, all}
 use Rattle.lists.specs.Bytes.{between, is_digit, same_bytes, clean, is_letter}
 use Rattle.lists.specs.Runs.{split_at}

@@ -1,6 +1,6 @@
 -- Document 01, Running: what assigning does to one list or to the properties, with refusal 32.
 -- Assumes nothing.
-use Rattle.std.specs.Prelude.{ℕ, Bool, true, false, List, [], ◌∷◌, ◌++◌, ltb, length}
+use Rattle.std.specs.Prelude.{ℕ, true, false, List, [], ◌∷◌, ◌++◌, ltb, length}
 use Rattle.lists.specs.Lists.{pick, reject}
 use Rattle.lists.specs.Bytes.{same_bytes, among}
 use Rattle.lists.specs.Checked.{Checked, refused, ok}

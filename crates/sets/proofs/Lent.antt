@@ -1,8 +1,8 @@
 -- Document 02, Item 7: every set of at most 64 pairs of records is read back from its layout, and no other bytes are read as a set.
 -- Assumes nothing.
 use Prim.Native.Nat.{ℕ, ◌≤◌}
-use mathlib.Core.Path.{◌≡◌, refl, sym, ap, ◌∙◌, subst}
-use mathlib.Core.Bool.{true, ◌&&◌}
+use mathlib.Core.Path.{◌≡◌, sym, ap, ◌∙◌, subst}
+use mathlib.Core.Bool.{true}
 use mathlib.Core.List.{List, ◌++◌, append_assoc}
 use mathlib.Core.Option.{some}
 use native.Mathlib.Omega.{arith}
@@ -11,7 +11,7 @@ use Rattle.lists.specs.Lists.{all}
 use Rattle.lists.specs.Bytes.{Bytes}
 use Rattle.lists.proofs.Tests.{and_both, both_and}
 use Rattle.lists.proofs.Bytes.{bytes_rest}
-use Rattle.entries.specs.Parse.{got, bind}
+use Rattle.entries.specs.Parse.{got}
 use Rattle.entries.proofs.Rows.{Laws, through}
 use Rattle.sets.specs.Sets.{ok_long, enc_long, one_long}
 use Rattle.sets.proofs.Sets.{long-laws, set_there, set_back, set_laid_out}

@@ -1,8 +1,8 @@
 -- Every set within its size can be laid out and is read back; bytes that are read as a set are its layout.
 -- Assumes nothing.
-use Prim.Native.Nat.{ℕ, zero, suc, ◌≤◌, ◌<◌}
+use Prim.Native.Nat.{ℕ, suc, ◌≤◌, ◌<◌}
 use mathlib.Core.Path.{◌≡◌, refl, sym, ap, ap₂, ◌∙◌, subst}
-use mathlib.Core.Bool.{Bool, true, false, ◌&&◌}
+use mathlib.Core.Bool.{Bool, true, false}
 use mathlib.Core.List.{List, [], ◌∷◌, ◌++◌, append_assoc, append-nil}
 use mathlib.Core.Option.{Option, none, some, none-ne-some, some-injective}
 use native.Mathlib.Omega.{arith}
@@ -13,7 +13,6 @@ use Rattle.lists.specs.Lists.{all, cat}
 use Rattle.lists.specs.Bytes.{Bytes, between}
 use Rattle.lists.proofs.Tests.{and_both, both_and}
 use Rattle.lists.proofs.Records.{bytes-first}
-use Rattle.lists.proofs.Bytes.{bytes_rest}
 use Rattle.bits.specs.Bits.{number_at}
 use Rattle.bits.specs.Fields.{Field, packed, fields_at}
 use Rattle.bits.proofs.Numbers.{number_lt}

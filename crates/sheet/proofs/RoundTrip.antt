@@ -1,7 +1,7 @@
 -- Document 02, Item 6: a sheet is read back from its bytes, what was read was so written, refusal 6 is for all other bytes and no more, and
 -- the layout takes no more than the 8 bytes allowed for the sheet, and for each of its entries, beside the texts.
 -- Assumes nothing.
-use Prim.Native.Nat.{ℕ, zero, suc, ◌+◌, ◌*◌, ◌≤◌, ◌<◌}
+use Prim.Native.Nat.{ℕ, suc, ◌+◌, ◌*◌, ◌≤◌}
 use mathlib.Core.Path.{◌≡◌, refl, sym, ap, ap₂, ◌∙◌, subst}
 use mathlib.Core.Logic.{◌↔◌}
 use mathlib.Core.Bool.{Bool, true, false, ◌&&◌}
@@ -12,13 +12,13 @@ use lib.ListN.{length, take, drop, length-append, take-append-drop}
 use lib.Seq.{take-append_seam, drop-append_seam, length-take-le}
 use lib.Dec.{leb, eqb}
 use borrow.Author.Tests.{le-leb, leb-true, eqb-true}
-use Rattle.lists.specs.Lists.{cat, all}
+use Rattle.lists.specs.Lists.{cat}
 use Rattle.lists.specs.Bytes.{Bytes, clean, distinct, ok_text}
-use Rattle.lists.specs.Sizes.{most_sheet, most_replies, most_command, most_output}
+use Rattle.lists.specs.Sizes.{most_sheet, most_replies}
 use Rattle.lists.proofs.Tests.{and_both, both_and}
 use Rattle.lists.proofs.Records.{bytes-first}
 use Rattle.bits.specs.Bits.{number_at}
-use Rattle.bits.specs.Fields.{Field, packed, fields_at, bit, flag_at}
+use Rattle.bits.specs.Fields.{Field, packed, fields_at, flag_at}
 use Rattle.bits.proofs.Fields.{length-packed, bit_small, eqb-bit, bit-flag}
 use Rattle.entries.specs.Parse.{Parse, got, bad, bind, many}
 use Rattle.entries.specs.Entry.{exactly}
