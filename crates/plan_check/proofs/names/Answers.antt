@@ -25,7 +25,7 @@ returns-in_default c =
     let enum_told = c.in_default in
     let entry = c.args in
     λ text e d is.
-    let unread : read_text reader text ≡ refused (line enum_told.field-1 (refusal_of enum_told.given.0.0)) = rw enum_told.is at e in
+    let unread : read_text reader text ≡ refused (line enum_told.field-1 (refusal_of enum_told.field-0)) = rw enum_told.is at e in
     names-unread entry.device.now entry.link.now d is text _ unread
 
 pub run_rules-ran-requires : goal.run_rules-ran-requires
@@ -65,7 +65,7 @@ returns-in_default-ran c =
     in
     let held : Holds text entry.values.now entry.rows.now entry.rules.now read.counts.rules = rw read.is at e in
     let runs : Ran State = run_from (engine unanswered) d next (O.fresh d) (rules_from entry.values.now entry.rows.now entry.rules.now 0 read.counts.rules) in
-    let stopped : Says entry.device.now chain-of.result d run-rules.new.t (all.Refused enum-told2.given.0.0 enum-told2.field-1) runs =
+    let stopped : Says entry.device.now chain-of.result d run-rules.new.t (all.Refused enum-told2.field-0 enum-told2.field-1) runs =
     (enum-told2.ensures.says unanswered sheet_none d (O.fresh d) holds) in
     names-refused entry.device.now entry.link.now d is text (rules_from entry.values.now entry.rows.now entry.rules.now 0 read.counts.rules) held _ stopped
 
@@ -150,6 +150,6 @@ returns c =
     let runs : Ran State = run_from (engine unanswered) d next (O.fresh d) (rules_from entry.values.now entry.rows.now entry.rules.now 0 read.counts.rules) in
     let (h, e, left, _, _) : Says entry.device.now chain-of.result d run-rules.new.t (all.Ended ran.left ran.field-1 ran.field-2) runs =
     (ran.ensures.says unanswered sheet_none d (O.fresh d) holds) in
-    let held : Holds text entry.values.now entry.rows.now entry.rules.now read.counts.rules = rw read.given.1 at f in
+    let held : Holds text entry.values.now entry.rows.now entry.rules.now read.counts.rules = rw read.is at f in
     has-only.ensures (length (chain d)) h.state (left_read (length (chain d)) run-rules.new.t ran.left h.state left.held)
     ∙ sym (names-ended entry.device.now entry.link.now d is text (rules_from entry.values.now entry.rows.now entry.rules.now 0 read.counts.rules) held h e)
