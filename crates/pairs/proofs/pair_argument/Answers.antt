@@ -13,14 +13,14 @@ pair_operator-requires-in-Given c =
     let x = c.args in
     let w : ArgumentIn x.line.now (Given c.in-Given.start c.in-Given.end) = rw c.in-Given.is at c.read_argument.ensures.1 in (omega (arith, w.1), w.0, omega (arith, w.1))
 
-pub returns-in-Absent : goal.returns-in-Absent
+pub returns-in-Absent-clause-by_index : goal.returns-in-Absent-clause-by_index
 unfolding argument_then
-returns-in-Absent c = (λ name. rw (← c.read_argument.ensures.0, c.in-Absent.is) c.pair_operator.ensures.0, c.pair_operator.ensures.1)
+returns-in-Absent-clause-by_index c = λ name. rw (← c.read_argument.ensures.0, c.in-Absent.is) c.pair_operator.ensures.0
 
-pub returns-in-Given : goal.returns-in-Given
+pub returns-in-Given-clause-by_index : goal.returns-in-Given-clause-by_index
 unfolding argument_then
-returns-in-Given c = (λ name. rw (← c.read_argument.ensures.0, c.in-Given.is) c.pair_operator-in-Given.ensures.0, c.pair_operator-in-Given.ensures.1)
+returns-in-Given-clause-by_index c = λ name. rw (← c.read_argument.ensures.0, c.in-Given.is) c.pair_operator-in-Given.ensures.0
 
-pub returns-in-Faulty : goal.returns-in-Faulty
+pub returns-in-Faulty-clause-by_index : goal.returns-in-Faulty-clause-by_index
 unfolding argument_then
-returns-in-Faulty c = (λ name. rw (← c.read_argument.ensures.0, c.in-Faulty.is), tt)
+returns-in-Faulty-clause-by_index c = λ name. rw (← c.read_argument.ensures.0, c.in-Faulty.is)

@@ -17,8 +17,13 @@ slice_bounds-find_key-end c = omega (arith, c.upper_end-end.ensures.within, c.bl
 pub pair_argument-requires : goal.pair_argument-requires
 pair_argument-requires c = omega (arith, c.upper_end-end.ensures.within, c.blank_end-start.ensures.within)
 
-pub whole_pair-requires : goal.whole_pair-requires
-whole_pair-requires c = c.pair_argument.ensures.1
+pub returns-in-Unknown : goal.returns-in-Unknown
+unfolding pair_written
+returns-in-Unknown c =
+    let s = c.args.line.now in
+    let blank = c.blank_end-start in
+    let upper = c.upper_end-end in
+    (rw (unblank_at s c.args.at blank.result blank.ensures.place, key_at s blank.result upper.result upper.ensures.place, ← c.find_key.ensures, c.in-Unknown.is), tt)
 
 pub returns-in-Known : goal.returns-in-Known
 unfolding pair_written
@@ -33,14 +38,6 @@ returns-in-Known c =
                 upper.ensures.place,
             ← c.find_key.ensures,
             c.in-Known.is,
-          ) (c.pair_argument.ensures.0 _),
+          ) (c.pair_argument.ensures.by_index _),
       c.whole_pair.ensures.1,
     )
-
-pub returns-in-Unknown : goal.returns-in-Unknown
-unfolding pair_written
-returns-in-Unknown c =
-    let s = c.args.line.now in
-    let blank = c.blank_end-start in
-    let upper = c.upper_end-end in
-    (rw (unblank_at s c.args.at blank.result blank.ensures.place, key_at s blank.result upper.result upper.ensures.place, ← c.find_key.ensures, c.in-Unknown.is), tt)
