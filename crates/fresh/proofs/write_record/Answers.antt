@@ -1,4 +1,5 @@
 -- `fresh::write_record` meets its contract.
+use Rattle.std.proofs.Common.{rules}
 use Rattle.fresh.proofs.Laws.{made, made-length, made-fits, head_count}
 use Rattle.device_lookup.proofs.Devices.{record_head}
 use Rattle.outcome.specs.State.{encode, fresh}
@@ -33,11 +34,9 @@ pub returns : goal.returns
 returns c =
     let pre = c.requires in
     let entry = c.args in
-    let slice-known = c.type_inv.t in
     let read_head = c.read_head-head in
     let properties = c.properties-properties in
     let put-field = c.put_field in
-    let slice-known2 = c.type_inv.t in
     let set-count = c.set_count in
     let store = c.store in
     let bytes : Bytes entry.device.now = λ i. (c.type_inv.device i).fits in
@@ -46,7 +45,7 @@ returns c =
     let rows = properties.ensures d e in
     let count = head_count entry.device.now d read_head.result bytes e (record_head entry.device.now d bytes e) read_head.ensures in (
       made (length entry.t.now) entry.t.now put-field.new.t set-count.new.t store.new.t (omega (arith, pre.1)) pre.2
-          (λ i. (slice-known i).fits) put-field.ensures (λ i. (slice-known2 i).fits) d read_head.result.properties
+          (λ i. search rules) put-field.ensures (λ i. search rules) d read_head.result.properties
           properties.result.now count rows set-count.ensures store.ensures
           ∙ ap (λ (i : ℕ). padded i (encode (fresh d))) (sym size),
       made-length d properties.result.now rows,

@@ -16,4 +16,4 @@ pub returns-else-b-eq32 : goal.returns-else-b-eq32
 returns-else-b-eq32 c =
     let entry = c.args in
     let if1 = c.if-not-spaces in
-    but_other entry.b entry.spaces c.clean_byte-else-b-eq32.result if1.false c.if-b-eq32.false c.clean_byte-else-b-eq32.ensures
+    but_other entry.b entry.spaces c.clean_byte-else-b-eq32.result if1.false-raw c.if-b-eq32.false c.clean_byte-else-b-eq32.ensures

@@ -15,27 +15,27 @@ has-requires c =
     let entry = c in
     let x = entry.args in
     let a = x in
-    let sec = c.section-of in
-    let st = c.start_of_lem in
-    let k = c.count_of in
+    let sec = c.section_of-section in
+    let st = c.start_of-at in
+    let k = c.count_of-n in
     let h = texts_read a.list sec.result sec.ensures entry.requires.0.0 a.t.now a.layout entry.requires.0.1 entry.requires.0.2 st.result k.result st.ensures k.ensures.0 in (h.within, h.row)
 
 pub returns-then-has : goal.returns-then-has
 returns-then-has c =
     let given = c.args in
     let a = given in
-    let sec = c.section-of in
-    let st = c.start_of_lem in
-    let k = c.count_of in λ n s w. let y = text-among a.list sec.result sec.ensures n a.t.now a.layout s w a.x.now st.result k.result st.ensures k.ensures.0 c.has.result c.has.ensures in
+    let sec = c.section_of-section in
+    let st = c.start_of-at in
+    let k = c.count_of-n in λ n s w. let y = text-among a.list sec.result sec.ensures n a.t.now a.layout s w a.x.now st.result k.result st.ensures k.ensures.0 c.has.result c.has.ensures in
     let m = text-count a.list sec.result sec.ensures n a.t.now a.layout s w a.x.now st.result k.result st.ensures
     k.ensures.0 in (texts_in a.list s, add-held (most_of a.list) a.x.now (texts_in a.list s) (sym y ∙ c.if-has.true), subst (Held n a.t.now a.layout) (sym (texts-same a.list s)) w)
 
 pub returns-then-n-ge16 : goal.returns-then-n-ge16
 returns-then-n-ge16 c =
     let a = c.args in
-    let sec = c.section-of in
-    let st = c.start_of_lem in
-    let k = c.count_of in λ n s w. let y = text-among a.list sec.result sec.ensures n a.t.now a.layout s w a.x.now st.result k.result st.ensures k.ensures.0 c.has.result c.has.ensures in
+    let sec = c.section_of-section in
+    let st = c.start_of-at in
+    let k = c.count_of-n in λ n s w. let y = text-among a.list sec.result sec.ensures n a.t.now a.layout s w a.x.now st.result k.result st.ensures k.ensures.0 c.has.result c.has.ensures in
     let m = text-count a.list sec.result sec.ensures n a.t.now a.layout s w a.x.now st.result k.result st.ensures k.ensures.0 in add_full (most_of a.list) a.x.now (texts_in a.list s) (sym y ∙ c.if-has.false) (omega (arith, most_is a.list))
 
 pub append_text-requires : goal.append_text-requires
@@ -43,9 +43,9 @@ append_text-requires c =
     let entry = c in
     let given = entry.args in
     let a = given in
-    let sec = c.section-of in
-    let st = c.start_of_lem in
-    let k = c.count_of in
+    let sec = c.section_of-section in
+    let st = c.start_of-at in
+    let k = c.count_of-n in
     let w = entry.requires.0.2 in
     let y = text-among a.list sec.result sec.ensures entry.requires.0.0 a.t.now a.layout entry.requires.0.1 w a.x.now st.result k.result st.ensures k.ensures.0 c.has.result c.has.ensures in
     let m = text-count a.list sec.result sec.ensures entry.requires.0.0 a.t.now a.layout entry.requires.0.1 w a.x.now st.result k.result st.ensures k.ensures.0 in
@@ -56,9 +56,9 @@ returns c =
     let entry = c in
     let given = entry.args in
     let a = given in
-    let sec = c.section-of in
-    let st = c.start_of_lem in
-    let k = c.count_of in λ n s w. let y = text-among a.list sec.result
+    let sec = c.section_of-section in
+    let st = c.start_of-at in
+    let k = c.count_of-n in λ n s w. let y = text-among a.list sec.result
     sec.ensures n a.t.now a.layout s w a.x.now st.result k.result st.ensures k.ensures.0
     c.has.result c.has.ensures in
     let m = text-count a.list sec.result sec.ensures n a.t.now a.layout s w a.x.now st.result k.result st.ensures k.ensures.0 in

@@ -17,9 +17,9 @@ find-requires c =
     let entry = c in
     let x = entry.args in
     let a = x in
-    let sec = c.section-of in
-    let st = c.start_of_lem in
-    let k = c.count_of in
+    let sec = c.section_of-section in
+    let st = c.start_of-at in
+    let k = c.count_of-n in
     let h = texts_read a.list sec.result sec.ensures entry.requires.0 a.t.now a.layout entry.requires.1 entry.requires.2 st.result k.result st.ensures k.ensures.0 in (h.within, h.row)
 
 pub overflow_add-v : goal.overflow_add-v
@@ -32,9 +32,9 @@ pub overflow_sub-v : goal.overflow_sub-v
 overflow_sub-v c =
     let entry = c in
     let a = c.args in
-    let sec = c.section-of in
-    let st = c.start_of_lem in
-    let k = c.count_of in
+    let sec = c.section_of-section in
+    let st = c.start_of-at in
+    let k = c.count_of-n in
     let p = c.in-At.p in
     let v = c.in-At.v in
     let z = c.in-At.k in
@@ -47,9 +47,9 @@ pub overflow_sub-n : goal.overflow_sub-n
 overflow_sub-n c =
     let entry = c in
     let a = c.args in
-    let sec = c.section-of in
-    let st = c.start_of_lem in
-    let k = c.count_of in
+    let sec = c.section_of-section in
+    let st = c.start_of-at in
+    let k = c.count_of-n in
     let p = c.in-At.p in
     let v = c.in-At.v in
     let z = c.in-At.k in
@@ -62,9 +62,9 @@ pub cut-requires : goal.cut-requires
 cut-requires c =
     let entry = c in
     let a = c.args in
-    let sec = c.section-of in
-    let st = c.start_of_lem in
-    let k = c.count_of in
+    let sec = c.section_of-section in
+    let st = c.start_of-at in
+    let k = c.count_of-n in
     let p = c.in-At.p in
     let v = c.in-At.v in
     let z = c.in-At.k in
@@ -76,9 +76,9 @@ cut-requires c =
 pub returns-in-At : goal.returns-in-At
 returns-in-At c =
     let a = c.args in
-    let sec = c.section-of in
-    let st = c.start_of_lem in
-    let k = c.count_of in
+    let sec = c.section_of-section in
+    let st = c.start_of-at in
+    let k = c.count_of-n in
     let p = c.in-At.p in
     let v = c.in-At.v in
     let z = c.in-At.k in λ n s w. found-held (texts_at a.list sec.result sec.ensures)
@@ -91,9 +91,9 @@ returns-in-At c =
 pub returns-in-Missing : goal.returns-in-Missing
 returns-in-Missing c =
     let a = c.args in
-    let sec = c.section-of in
-    let st = c.start_of_lem in
-    let k = c.count_of in λ n s w. subst (Held n a.t.now a.layout)
+    let sec = c.section_of-section in
+    let st = c.start_of-at in
+    let k = c.count_of-n in λ n s w. subst (Held n a.t.now a.layout)
     (sym (texts-same a.list s) ∙ ap (with_texts a.list s)
     (missing_kept (texts_at a.list sec.result sec.ensures) (text-written (ok_of a.list)) n a.t.now
     a.layout s w (texts-sound a.list n s w.good).each (text-apart a.list sec.result sec.ensures n a.t.now a.layout s w a.x.now)

@@ -16,7 +16,7 @@ use Rattle.outcome_properties.proofs.remove_property.Goals as goal
 pub find-requires : goal.find-requires
 find-requires c =
     let a = c.args in
-    let k = c.count_of in
+    let k = c.count_of-n in
     let h = properties_read (c.requires.0) a.t.now a.layout (c.requires.1) (c.requires.2) a.layout.properties k.result refl k.ensures.0 in (h.within, h.row)
 
 pub overflow_add-v : goal.overflow_add-v
@@ -30,7 +30,7 @@ overflow_sub-v c =
     let pre = c.requires in
     let entry = c.args in
     let held = pre.2 in
-    let count_of = c.count_of in
+    let count_of = c.count_of-n in
     let p = c.in-At in
     let found = sym c.find.ensures.0 ∙ p.is in
     let h = found-cuts properties-row property-written pre.0 entry.t.now entry.layout pre.1 held held.good.properties.each held.good.properties.apart
@@ -42,7 +42,7 @@ overflow_sub-n c =
     let pre = c.requires in
     let entry = c.args in
     let held = pre.2 in
-    let count_of = c.count_of in
+    let count_of = c.count_of-n in
     let p = c.in-At in
     let found = sym c.find.ensures.0 ∙ p.is in
     let h = found-more properties-row property-written pre.0 entry.t.now entry.layout pre.1 held held.good.properties.each held.good.properties.apart
@@ -54,7 +54,7 @@ cut-requires c =
     let pre = c.requires in
     let entry = c.args in
     let held = pre.2 in
-    let count_of = c.count_of in
+    let count_of = c.count_of-n in
     let p = c.in-At in
     let found = sym c.find.ensures.0 ∙ p.is in
     let h = found-cuts properties-row property-written pre.0 entry.t.now entry.layout pre.1 held held.good.properties.each held.good.properties.apart
@@ -64,7 +64,7 @@ cut-requires c =
 pub returns-in-At : goal.returns-in-At
 returns-in-At c =
     let entry = c.args in
-    let count_of = c.count_of in
+    let count_of = c.count_of-n in
     let p = c.in-At in
     let found = sym c.find.ensures.0 ∙ p.is in
     let cut = c.cut in
@@ -77,10 +77,10 @@ returns-in-At c =
 pub returns-in-Missing : goal.returns-in-Missing
 returns-in-Missing c =
     let entry = c.args in
-    let count_of = c.count_of in
+    let count_of = c.count_of-n in
     let told = c.in-Missing in
     let missing = sym c.find.ensures.0 ∙ told.is in
     λ n s w.
     let kept = missing_kept properties-row property-written n entry.t.now entry.layout s w w.good.properties.each w.good.properties.apart
-    entry.key.now entry.layout.properties count_of.result refl count_of.ensures.0 told.0.0 missing in
+    entry.key.now entry.layout.properties count_of.result refl count_of.ensures.0 told.field-0 missing in
     subst (Held n entry.t.now entry.layout) (ap (with_properties s) kept) w

@@ -16,7 +16,7 @@ find-requires c =
     let entry = c in
     let x = entry.args in
     let a = x in
-    let k = c.count_of in
+    let k = c.count_of-n in
     let h = properties_read (entry.requires.0.0) a.t.now a.layout (entry.requires.0.1) (entry.requires.0.2) a.layout.properties k.result refl k.ensures.0 in (h.within, h.row)
 
 pub replace_value-requires : goal.replace_value-requires
@@ -24,7 +24,7 @@ replace_value-requires c =
     let entry = c in
     let x = entry.args in
     let a = x in
-    let k = c.count_of in
+    let k = c.count_of-n in
     let p = c.in-At.p in
     let v = c.in-At.field-1 in
     let z = c.in-At.old in
@@ -36,7 +36,7 @@ append_property-requires c =
     let entry = c in
     let x = entry.args in
     let a = x in
-    let k = c.count_of in
+    let k = c.count_of-n in
     let m = property-among entry.requires.0.0 a.t.now a.layout entry.requires.0.1 entry.requires.0.2 a.key.now a.layout.properties
     k.result refl k.ensures.0 c.in-Missing.field-0 (sym c.find.ensures.0 ∙ c.in-Missing.is) in
     let h = property_room entry.requires.0.0 a.t.now a.layout entry.requires.0.1 entry.requires.0.2 a.key.now a.layout.properties
@@ -53,7 +53,7 @@ returns-in-At c =
     let entry = c in
     let x = entry.args in
     let a = x in
-    let k = c.count_of in
+    let k = c.count_of-n in
     let p = c.in-At.p in
     let v = c.in-At.field-1 in
     let z = c.in-At.old in λ n s w. there_set n a.t.now a.layout s w a.key.now a.layout.properties
@@ -66,7 +66,7 @@ returns-then-n-lt32 c =
     let entry = c in
     let x = entry.args in
     let a = x in
-    let k = c.count_of in λ n s w. let m = property-among n a.t.now
+    let k = c.count_of-n in λ n s w. let m = property-among n a.t.now
     a.layout s w a.key.now a.layout.properties k.result refl k.ensures.0 c.in-Missing.field-0
     (sym c.find.ensures.0 ∙ c.in-Missing.is) in
     let i : length s.properties < 32 = omega (
@@ -87,6 +87,6 @@ pub returns-else-n-lt32 : goal.returns-else-n-lt32
 returns-else-n-lt32 c =
     let x = c.args in
     let a = x in
-    let k = c.count_of in λ n s w. set_full a.key.now a.value.now s.properties
+    let k = c.count_of-n in λ n s w. set_full a.key.now a.value.now s.properties
     (property-among n a.t.now a.layout s w a.key.now a.layout.properties k.result refl k.ensures.0 c.in-Missing.field-0
     (sym c.find.ensures.0 ∙ c.in-Missing.is)) (omega (arith, k.ensures.0, row_count properties-row n a.t.now a.layout s w))

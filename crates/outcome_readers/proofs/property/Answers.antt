@@ -10,4 +10,4 @@ value_of-requires c =
 pub returns : goal.returns
 returns c =
     let a = c.args in
-    let r = c.row_of-row.result in λ n s w. let h = c.row_of-row.ensures n s w in c.value_of_lem.ensures ∙ value_part a.t.now a.key.now r.count r.at s.properties h.read.0 h.read.1
+    let r = c.row_of-row.result in λ n s w. let h = c.row_of-row.ensures n s w in c.value_of.ensures ∙ value_part a.t.now a.key.now r.count r.at s.properties h.read.0 h.read.1

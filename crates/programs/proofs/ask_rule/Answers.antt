@@ -8,25 +8,25 @@ pub output_of-requires : goal.output_of-requires
 output_of-requires c =
     let entry = c in
     let x = entry.args in
-    let asked = c.ask-all in
-    output_within (pairs_from x.values.now x.rows.now x.from (x.to - x.from)) x.place x.sheet.now x.dev.now x.chain x.t.now x.layout _ asked.result asked.ensures entry.requires.3 entry.requires.1 _ c.left.given.1
+    let asked = c.ask_all in
+    output_within (pairs_from x.values.now x.rows.now x.from (x.to - x.from)) x.place x.sheet.now x.dev.now x.chain x.t.now x.layout _ asked.result asked.ensures entry.requires.3 entry.requires.1 _ c.in-Held.is
 
 pub returns-then-results_hold : goal.returns-then-results_hold
 returns-then-results_hold c =
     let a = c.args in
     let x = a in
-    let asked = c.ask-all in
+    let asked = c.ask_all in
     judged-held (pairs_from x.values.now x.rows.now x.from (x.to - x.from)) x.place x.sheet.now x.dev.now x.chain x.t.now
-    x.layout _ asked.result asked.ensures _ c.left.given.1 _ c.output_of.ensures
+    x.layout _ asked.result asked.ensures _ c.in-Held.is _ c.output_of.ensures
     c.results_hold.result c.results_hold.ensures c.if-results_hold.true
 
 pub returns-else-results_hold : goal.returns-else-results_hold
 returns-else-results_hold c =
     let a = c.args in
     let x = a in
-    let asked = c.ask-all in
+    let asked = c.ask_all in
     judged_missed (pairs_from x.values.now x.rows.now x.from (x.to - x.from)) x.place x.sheet.now x.dev.now x.chain x.t.now
-    x.layout _ asked.result asked.ensures _ c.left.given.1 _ c.output_of.ensures
+    x.layout _ asked.result asked.ensures _ c.in-Held.is _ c.output_of.ensures
     c.results_hold.result c.results_hold.ensures c.if-results_hold.false
 
 pub returns-in-Failed : goal.returns-in-Failed

@@ -167,7 +167,7 @@ loop-left-preserved c =
     let places_of = places-of-call in
     let put-command = put-command-call in
     let the-k = c.in-Done in
-    let few : the-k.given.0.0 ≤ loop.at + 514 = rw the-k.is at put-command.ensures.0 in (
+    let few : the-k.k ≤ loop.at + 514 = rw the-k.is at put-command.ensures.0 in (
       omega (arith, loop.invariant.0),
       omega arith,
       λ d ps y rs b r.
@@ -175,7 +175,7 @@ loop-left-preserved c =
           let h =
           runs_here args.rec.now loop.p loop.left d x.others run_at.result (λ i. (shared-slice-known2 i).fits)
           x.stand loop-test.true run_at.ensures in
-          let m : Made run_at.result.builtin (filled false (source_of d ps y h.run h.others) (template_at args.rec.now loop.left d ps y x.others run_at.result h)) loop.t loop.at (Done the-k.given.0.0) put-command.new.t =
+          let m : Made run_at.result.builtin (filled false (source_of d ps y h.run h.others) (template_at args.rec.now loop.left d ps y x.others run_at.result h)) loop.t loop.at (Done the-k.k) put-command.new.t =
           rw the-k.is at
           (put-command.ensures.1 (source_of d ps y h.run h.others)
           (here_source args.dev.now args.rec.now args.chain args.properties args.count loop.left d ps y
@@ -183,7 +183,7 @@ loop-left-preserved c =
           places_of.ensures))
           in
           record
-          { others = h.others; stand = h.next; leads = λ q l z. x.leads q l (here_leads args.rec.now loop.left d ps y x.others run_at.result h loop.t put-command.new.t loop.at the-k.given.0.0 m q l z) },
+          { others = h.others; stand = h.next; leads = λ q l z. x.leads q l (here_leads args.rec.now loop.left d ps y x.others run_at.result h loop.t put-command.new.t loop.at the-k.k m q l z) },
     )
 
 pub returns : goal.returns

@@ -1,4 +1,5 @@
 -- `run_list::write_head` meets its contract.
+use Rattle.std.proofs.Common.{rules}
 use Prim.Native.Nat.{ℕ, ◌+◌}
 use mathlib.Core.List.{◌∷◌}
 use mathlib.Core.Path.{ap, ◌∙◌}
@@ -10,7 +11,6 @@ pub returns : goal.returns
 returns c =
     let entry = c.args in
     let pre = c.requires in
-    let slice-known = c.type_inv.head in
     let bit-of-call = c.bit_of in
     let put-call = c.put-len_at in
     let put2-call = c.put-unused_at in
@@ -21,6 +21,6 @@ returns c =
     let put2 = put2-call in
     let put3 = put3-call in
     command_head args.head.now put.new.s put2.new.s put3.new.s put.result.at put2.result.at
-    bit-of.result args.len pre (λ i. (slice-known i).fits) put.ensures.bytes put.ensures.next put2.ensures.bytes
+    bit-of.result args.len pre (λ i. search rules) put.ensures.bytes put.ensures.next put2.ensures.bytes
     (put2.ensures.next ∙ ap (λ (i : ℕ). i + 10) put.ensures.next) put3.ensures.bytes ∙ ap
     (λ (i : ℕ). packed ((1, i) ∷ (10, args.len) ∷ (5, 0) ∷ [])) bit-of.ensures

@@ -17,8 +17,8 @@ overflow_cast-field c =
 pub returns : goal.returns
 returns c =
     let entry = c.args in
-    let take = c.take in
-    let decimal-call = c.decimal in
+    let take = c.take-field in
+    let decimal-call = c.decimal-d in
     let put-text-call = c.put_text in
     let args = entry in
     let decimal = decimal-call in

@@ -5,7 +5,7 @@ use Rattle.substitution.proofs.put_property.Goals as goal
 pub returns : goal.returns
 returns c =
     let entry = c.args in
-    let value_of_lem = c.value_of_lem in
+    let value_of_lem = c.value_of in
     let put-text-call = c.put_text in
     let args = entry in
     let put-text = put-text-call in
