@@ -22,7 +22,7 @@ fn printed(directory: &Path, files: &[&str]) -> Vec<u8> {
         .args(files)
         .current_dir(directory)
         .output()
-        .expect("the program listing is built (rt check listing)");
+        .expect("the program listing is built (examples/listing/run)");
     assert!(
         output.stderr.is_empty(),
         "{}",
