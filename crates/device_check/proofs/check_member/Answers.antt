@@ -19,30 +19,30 @@ returns-then-lens-ne0 c =
 pub returns-then-room-texts : goal.returns-then-room-texts
 returns-then-room-texts c =
     let if2 = c.if-lens-ne0 in
-    let r = before in
-    let a = r.before.before.before.args in
+    let r = c in
+    let a = c.args in
     sym
-    (at_short a.rec.now a.at (lens_in r.read-lens.result) r.read-lens.ensures.is (omega arith) if2.false
+    (at_short a.rec.now a.at (lens_in c.read_lens-lens.result) c.read_lens-lens.ensures.is (omega arith) if2.false
     c.if-room-texts.true)
 
 pub returns-then-not-ok_texts : goal.returns-then-not-ok_texts
 returns-then-not-ok_texts c =
     let if2 = c.if-lens-ne0 in
-    let r = before in
-    let a = r.before.before.before.args in
+    let r = c in
+    let a = c.args in
     sym
-    (at_faulty a.rec.now a.at (lens_in r.read-lens.result) r.read-lens.ensures.is (omega arith) if2.false (omega arith)
-    (omega (arith, r.read-lens.ensures.subsystem)) (omega (arith, r.read-lens.ensures.driver))
-    (omega (arith, r.read-lens.ensures.attributes)) (sym c.ok_texts.ensures ∙ not-true _ c.if-not-ok_texts.true-raw))
+    (at_faulty a.rec.now a.at (lens_in c.read_lens-lens.result) c.read_lens-lens.ensures.is (omega arith) if2.false (omega arith)
+    (omega (arith, c.read_lens-lens.ensures.subsystem)) (omega (arith, c.read_lens-lens.ensures.driver))
+    (omega (arith, c.read_lens-lens.ensures.attributes)) (sym c.ok_texts.ensures ∙ c.if-not-ok_texts.true))
 
 pub returns : goal.returns
 returns c =
     let if2 = c.if-lens-ne0 in
     let ok-texts = c.ok_texts in
-    let r = before in
-    let a = r.before.before.before.args in
+    let r = c in
+    let a = c.args in
     c.check_row.ensures
     ∙ sym
-    (at_sound a.rec.now a.at (lens_in r.read-lens.result) r.read-lens.ensures.is (omega arith) if2.false (omega arith)
-    (omega (arith, r.read-lens.ensures.subsystem)) (omega (arith, r.read-lens.ensures.driver))
-    (omega (arith, r.read-lens.ensures.attributes)) (sym ok-texts.ensures ∙ not-false _ c.if-not-ok_texts.false-raw))
+    (at_sound a.rec.now a.at (lens_in c.read_lens-lens.result) c.read_lens-lens.ensures.is (omega arith) if2.false (omega arith)
+    (omega (arith, c.read_lens-lens.ensures.subsystem)) (omega (arith, c.read_lens-lens.ensures.driver))
+    (omega (arith, c.read_lens-lens.ensures.attributes)) (sym ok-texts.ensures ∙ c.if-not-ok_texts.false))

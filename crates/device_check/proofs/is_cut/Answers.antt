@@ -23,11 +23,11 @@ returns-then-child-n-ne47 c =
 
 pub slice_bounds-same-end : goal.slice_bounds-same-end
 slice_bounds-same-end c =
-    let entry = c.before.before.before.before.before.before.before.args in
+    let entry = c.args in
     sym (length-take-le (length entry.parent.now) entry.child.now (omega arith))
 
 pub returns : goal.returns
 returns c =
-    let entry = c.before.before.before.before.before.before.before.before.args in
-    let if3 = c.before.before.if3 in
+    let entry = c.args in
+    let if3 = c.if-child-n-ne47 in
     c.same.ensures ∙ sym (cut_same entry.parent.now entry.child.now (omega arith) (omega arith) if3.false)

@@ -10,7 +10,7 @@ pub returns-then-not-ok_node : goal.returns-then-not-ok_node
 returns-then-not-ok_node c =
     let entry = c.args in
     let if1 = c.if-h-ne1 in
-    let h = entry.h in rw (eq-eqb h.edition 1 if1.false, sym c.ok_node.ensures ∙ not-true _ c.if-not-ok_node.true-raw)
+    let h = entry.h in rw (eq-eqb h.edition 1 if1.false, sym c.ok_node.ensures ∙ c.if-not-ok_node.true)
 
 pub returns-then-h-gt32 : goal.returns-then-h-gt32
 returns-then-h-gt32 c =
@@ -19,7 +19,7 @@ returns-then-h-gt32 c =
     let ok-node = c.ok_node in
     let if2 = c.if-not-ok_node in
     let h = entry.h in
-    rw (eq-eqb h.edition 1 if1.false, sym ok-node.ensures ∙ not-false _ if2.false, lt-leb h.properties 32 c.if-h-gt32.true)
+    rw (eq-eqb h.edition 1 if1.false, sym ok-node.ensures ∙ if2.false, lt-leb h.properties 32 c.if-h-gt32.true)
 
 pub returns : goal.returns
 returns c =
@@ -30,6 +30,6 @@ returns c =
     let h = entry.h in
     rw (
       eq-eqb h.edition 1 if1.false,
-      sym ok-node.ensures ∙ not-false _ if2.false,
+      sym ok-node.ensures ∙ if2.false,
       le-leb h.properties 32 c.if-h-gt32.false,
     )

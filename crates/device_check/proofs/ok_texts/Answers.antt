@@ -21,20 +21,20 @@ returns-then-not-clean c =
     rw (
       le-leb 1 entry.path if1.false,
       le-leb entry.path 256 if2.false,
-      sym c.clean.ensures ∙ not-true _ c.if-not-clean.true-raw,
+      sym c.clean.ensures ∙ c.if-not-clean.true,
     )
 
 pub slice_bounds-ok_path-end : goal.slice_bounds-ok_path-end
 slice_bounds-ok_path-end c =
-    let entry = c.before.before.before.before.before.before.args in
+    let entry = c.args in
     sym (length-take-le entry.path entry.s.now (omega arith))
 
 pub returns : goal.returns
 returns c =
-    let entry = c.before.before.before.before.before.before.before.args in
-    let if1 = c.before.before.before.before.before.if1 in
-    let if2 = c.before.before.before.before.if2 in
-    let clean = c.before.before.before.clean in
-    let if3 = c.before.before.if3 in
-    rw (le-leb 1 entry.path if1.false, le-leb entry.path 256 if2.false, sym clean.ensures ∙ not-false _ if3.false)
+    let entry = c.args in
+    let if1 = c.if-path-lt1 in
+    let if2 = c.if-path-gt256 in
+    let clean = c.clean in
+    let if3 = c.if-not-clean in
+    rw (le-leb 1 entry.path if1.false, le-leb entry.path 256 if2.false, sym clean.ensures ∙ if3.false)
     c.ok_path.ensures
