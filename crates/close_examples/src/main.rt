@@ -6,7 +6,8 @@
 ghost use Rattle.std.specs.Prelude.{◌≤◌, length};
 
 use bits::BitCursor;
-use libc::{STDIN_FILENO, STDOUT_FILENO};
+use std::io;
+use std::io::{Read, Stdout};
 
 // Node 188:5, property D=device; the device /usb/tty/ttyUSB12 of subsystem tty with attributes model and empty, and its parent /usb of driver
 // `ftdi sio` with attributes model, serial and empty.
@@ -17,22 +18,22 @@ const DEVICE: [u8; 116] =
 const FRONT: [u8; 94] =
     *b" \x00\x00\x00\x00\x00\x00\x00\x00\x0c\x01\x01@out 1\x02\x03Ax y\x02@Bbbbbbbbbbbbbbbbbbbbbbbbbbbbbbbbbbbbbbbbbbbbbbbbbbbbbbbbbbbbbbbbb\x02\x00E";
 
-fn say(word: &[u8]) {
-    io::write_all(STDOUT_FILENO, word);
+fn say(stdout: Stdout, word: &[u8]) {
+    let _ = stdout.write_all(word);
 }
 
-fn say_number(n: u32) {
+fn say_number(stdout: Stdout, n: u32) {
     let d = pieces::decimal(n);
     let digits = d.digits;
     let start = d.start;
-    say(&digits[start..]);
+    say(stdout, &digits[start..]);
 }
 
 // The text of the only command in a run list of `used` bytes.
-fn say_text(list: &[u8], used: usize) {
+fn say_text(stdout: Stdout, list: &[u8], used: usize) {
     if 3 <= used {
         if used <= list.len() {
-            say(&list[3..used]);
+            say(stdout, &list[3..used]);
         }
     }
 }
@@ -46,7 +47,7 @@ fn digit_of(b: u8) -> usize
     }
 }
 
-fn show_close(place: usize, template: &[u8])
+fn show_close(stdout: Stdout, place: usize, template: &[u8])
     requires { length template.now ≤ 256 }
 {
     let mut rec = [0u8; 352];
@@ -58,35 +59,40 @@ fn show_close(place: usize, template: &[u8])
     let end = 96 + template.len();
     let given = close::close(&DEVICE, &rec[0..end], &mut target);
     if given.number == 0 {
-        say_text(&target, given.used as usize);
+        say_text(stdout, &target, given.used as usize);
     } else {
-        say(b"refused ");
-        say_number(given.number);
+        say(stdout, b"refused ");
+        say_number(stdout, given.number);
     }
 }
 
-fn show_line(line: &[u8]) {
-    say(line);
-    say(b"\t");
+fn show_line(stdout: Stdout, line: &[u8]) {
+    say(stdout, line);
+    say(stdout, b"\t");
     if 2 <= line.len() {
         if line.len() <= 258 {
-            show_close(digit_of(line[0]), &line[2..]);
+            show_close(stdout, digit_of(line[0]), &line[2..]);
         }
     }
-    say(b"\n");
+    say(stdout, b"\n");
 }
 
-fn show_all(table: &[u8]) {
+fn show_all(stdout: Stdout, table: &[u8]) {
     let mut at: usize = 0;
     while at < table.len() {
         let end = scan::byte_end(table, at, b'\n');
-        show_line(&table[at..end]);
+        show_line(stdout, &table[at..end]);
         at = end + 1;
     }
 }
 
-fn main() {
-    let mut space = io::large_buffer();
-    let n = io::read_full(STDIN_FILENO, &mut space);
-    show_all(&space[..n]);
+// How much of the input is read.
+const ROOM: u64 = 65536;
+
+fn main(rt: HostRuntime) -> io::Result<()> {
+    let stdout = rt.stdout();
+    let mut space = Vec::new(rt.alloc());
+    rt.stdin().take(ROOM).read_to_end(&mut space)?;
+    show_all(stdout, &space);
+    Ok(())
 }

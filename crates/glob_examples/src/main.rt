@@ -2,41 +2,47 @@
 
 #![tactic(auto)]
 
-use libc::{STDIN_FILENO, STDOUT_FILENO};
+use std::io;
+use std::io::{Read, Stdout};
 
-fn judge(pattern: &[u8], value: &[u8]) {
+fn judge(stdout: Stdout, pattern: &[u8], value: &[u8]) {
     if !glob::well_formed(pattern) {
-        io::write_all(STDOUT_FILENO, b"\tfaulty\n");
+        let _ = stdout.write_all(b"\tfaulty\n");
         return;
     }
     if glob::matches(pattern, value) {
-        io::write_all(STDOUT_FILENO, b"\tyes\n");
+        let _ = stdout.write_all(b"\tyes\n");
     } else {
-        io::write_all(STDOUT_FILENO, b"\tno\n");
+        let _ = stdout.write_all(b"\tno\n");
     }
 }
 
-fn show(line: &[u8]) {
-    io::write_all(STDOUT_FILENO, line);
+fn show(stdout: Stdout, line: &[u8]) {
+    let _ = stdout.write_all(line);
     let tab = scan::byte_end(line, 0, b'\t');
     if tab < line.len() {
-        judge(&line[0..tab], &line[tab + 1..]);
+        judge(stdout, &line[0..tab], &line[tab + 1..]);
     } else {
-        judge(line, b"");
+        judge(stdout, line, b"");
     }
 }
 
-fn show_all(table: &[u8]) {
+fn show_all(stdout: Stdout, table: &[u8]) {
     let mut at: usize = 0;
     while at < table.len() {
         let end = scan::byte_end(table, at, b'\n');
-        show(&table[at..end]);
+        show(stdout, &table[at..end]);
         at = end + 1;
     }
 }
 
-fn main() {
-    let mut space = io::large_buffer();
-    let n = io::read_full(STDIN_FILENO, &mut space);
-    show_all(&space[..n]);
+// How much of the input is read.
+const ROOM: u64 = 65536;
+
+fn main(rt: HostRuntime) -> io::Result<()> {
+    let stdout = rt.stdout();
+    let mut space = Vec::new(rt.alloc());
+    rt.stdin().take(ROOM).read_to_end(&mut space)?;
+    show_all(stdout, &space);
+    Ok(())
 }

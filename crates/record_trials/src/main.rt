@@ -17,11 +17,12 @@ ghost use Rattle.device_lookup.specs.Lookup.{Sound, Standing, OfDevice, Within, 
 
 use answers::Given;
 use device_lookup::{Chain, Value};
-use libc::{STDIN_FILENO, STDOUT_FILENO};
 use outcome_check::Checked;
+use std::io;
+use std::io::{Read, Stdout};
 
-fn say(word: &[u8]) {
-    io::write_all(STDOUT_FILENO, word);
+fn say(stdout: Stdout, word: &[u8]) {
+    let _ = stdout.write_all(word);
 }
 
 // ---- the columns of a row
@@ -205,23 +206,23 @@ fn agree_number(want: &[u8], n: usize, v: u32) -> usize {
 }
 
 // What must come out, up to where what came out agrees with it. The name has a blank at its front.
-fn say_apart(name: &[u8], want: &[u8], n: usize) {
-    say(b"apart:");
-    say(name);
-    say(b", behind");
+fn say_apart(stdout: Stdout, name: &[u8], want: &[u8], n: usize) {
+    say(stdout, b"apart:");
+    say(stdout, name);
+    say(stdout, b", behind");
     if n <= want.len() {
-        say(&want[0..n]);
+        say(stdout, &want[0..n]);
     }
 }
 
-fn say_verdict(name: &[u8], want: &[u8], n: usize) {
+fn say_verdict(stdout: Stdout, name: &[u8], want: &[u8], n: usize) {
     if n == want.len() {
-        say(b"ok");
-        say(name);
+        say(stdout, b"ok");
+        say(stdout, name);
     } else {
-        say_apart(name, want, n % APART);
+        say_apart(stdout, name, want, n % APART);
     }
-    say(b"\n");
+    say(stdout, b"\n");
 }
 
 // ---- checks
@@ -321,10 +322,10 @@ fn agree_check(row: &[u8], want: &[u8], kind: Kind, rec: &mut [u8], chain: usize
     }
 }
 
-fn show_check(row: &[u8], kind: Kind, rec: &mut [u8], chain: usize) {
+fn show_check(stdout: Stdout, row: &[u8], kind: Kind, rec: &mut [u8], chain: usize) {
     let want = column(row, 2);
     let n = agree_check(row, want, kind, rec, chain);
-    say_verdict(column(row, 3), want, scan::blank_end(want, n));
+    say_verdict(stdout, column(row, 3), want, scan::blank_end(want, n));
 }
 
 // ---- what is made of records
@@ -361,35 +362,56 @@ fn agree_target(n: usize, target: &[u8], want: &[u8]) -> usize {
     std::num::wrapping_add_usize(n, APART)
 }
 
-fn show_given(row: &[u8], given: Given, target: &[u8]) {
+fn show_given(stdout: Stdout, row: &[u8], given: Given, target: &[u8]) {
     let mut rec = [0u8; 18200];
     bytes_of(column(row, 4), &mut rec);
     let room = target.len();
     if room <= rec.len() {
         let want = column(row, 3);
         let n = agree_target(agree_given(want, given), target, &rec[0..room]);
-        say_verdict(column(row, 5), want, n);
+        say_verdict(stdout, column(row, 5), want, n);
     }
 }
 
-fn show_made(row: &[u8], operation: Operation, device: &[u8], outcome: &[u8], target: &mut [u8]) {
+fn show_made(
+    stdout: Stdout,
+    row: &[u8],
+    operation: Operation,
+    device: &[u8],
+    outcome: &[u8],
+    target: &mut [u8],
+) {
     let given = give(operation, device, outcome, target);
-    show_given(row, given, target);
+    show_given(stdout, row, given, target);
 }
 
 // In a target whose bytes were all 0xaa.
-fn show_in(row: &[u8], operation: Operation, device: &[u8], outcome: &[u8], room: usize) {
+fn show_in(
+    stdout: Stdout,
+    row: &[u8],
+    operation: Operation,
+    device: &[u8],
+    outcome: &[u8],
+    room: usize,
+) {
     let mut target = [0xaau8; 18200];
     if room <= target.len() {
-        show_made(row, operation, device, outcome, &mut target[0..room]);
+        show_made(
+            stdout,
+            row,
+            operation,
+            device,
+            outcome,
+            &mut target[0..room],
+        );
     }
 }
 
-fn show_operation(row: &[u8], operation: Operation, device: &[u8], room: usize) {
-    let mut outcome = io::buffer();
+fn show_operation(stdout: Stdout, row: &[u8], operation: Operation, device: &[u8], room: usize) {
+    let mut outcome = [0u8; 4096];
     let n = bytes_of(column(row, 2), &mut outcome);
     if n <= outcome.len() {
-        show_in(row, operation, device, &outcome[0..n], room);
+        show_in(stdout, row, operation, device, &outcome[0..n], room);
     }
 }
 
@@ -477,60 +499,65 @@ fn agree_views(want: &[u8], rec: &[u8], place: usize) -> usize {
     agree_place(want, n, rec, chain, place)
 }
 
-fn show_view(row: &[u8], rec: &[u8], place: usize) {
+fn show_view(stdout: Stdout, row: &[u8], rec: &[u8], place: usize) {
     let want = column(row, 2);
-    say_verdict(column(row, 3), want, agree_views(want, rec, place));
+    say_verdict(stdout, column(row, 3), want, agree_views(want, rec, place));
 }
 
 // ---- the table
 
-fn show_outcome(row: &[u8], rec: &mut [u8], number: usize) {
+fn show_outcome(stdout: Stdout, row: &[u8], rec: &mut [u8], number: usize) {
     if scan::byte_at(row, 1) == b'l' {
-        show_operation(row, Operation::Older, rec, number);
+        show_operation(stdout, row, Operation::Older, rec, number);
     } else {
-        show_check(row, Kind::Outcome, rec, number);
+        show_check(stdout, row, Kind::Outcome, rec, number);
     }
 }
 
 // By the first letter of what is done, of `older` and `outcome` by the second.
-fn show_record(row: &[u8], rec: &mut [u8], number: usize) {
+fn show_record(stdout: Stdout, row: &[u8], rec: &mut [u8], number: usize) {
     match scan::byte_at(row, 0) {
-        b'd' => show_check(row, Kind::Device, rec, number),
-        b'o' => show_outcome(row, rec, number),
-        b'f' => show_operation(row, Operation::Fresh, rec, number),
-        b'n' => show_operation(row, Operation::Newer, rec, number),
-        b'v' => show_view(row, rec, number),
+        b'd' => show_check(stdout, row, Kind::Device, rec, number),
+        b'o' => show_outcome(stdout, row, rec, number),
+        b'f' => show_operation(stdout, row, Operation::Fresh, rec, number),
+        b'n' => show_operation(stdout, row, Operation::Newer, rec, number),
+        b'v' => show_view(stdout, row, rec, number),
         _ => {}
     }
 }
 
-fn show(row: &[u8]) {
-    let mut rec = io::buffer();
+fn show(stdout: Stdout, row: &[u8]) {
+    let mut rec = [0u8; 4096];
     let n = bytes_of(column(row, 1), &mut rec);
     if n <= rec.len() {
-        show_record(row, &mut rec[0..n], number_of(column(row, 0)));
+        show_record(stdout, row, &mut rec[0..n], number_of(column(row, 0)));
     }
 }
 
-fn show_line(table: &[u8], at: usize, end: usize) {
+fn show_line(stdout: Stdout, table: &[u8], at: usize, end: usize) {
     if at <= end {
         if end <= table.len() {
-            show(&table[at..end]);
+            show(stdout, &table[at..end]);
         }
     }
 }
 
-fn show_all(table: &[u8]) {
+fn show_all(stdout: Stdout, table: &[u8]) {
     let mut at: usize = 0;
     while at < table.len() {
         let end = scan::byte_end(table, at, b'\n');
-        show_line(table, at, end);
+        show_line(stdout, table, at, end);
         at = end + 1;
     }
 }
 
-fn main() {
-    let mut space = io::large_buffer();
-    let n = io::read_full(STDIN_FILENO, &mut space);
-    show_all(&space[..n]);
+// How much of the input is read.
+const ROOM: u64 = 65536;
+
+fn main(rt: HostRuntime) -> io::Result<()> {
+    let stdout = rt.stdout();
+    let mut space = Vec::new(rt.alloc());
+    rt.stdin().take(ROOM).read_to_end(&mut space)?;
+    show_all(stdout, &space);
+    Ok(())
 }

@@ -7,7 +7,8 @@
 #![tactic(auto)]
 
 use answers::Given;
-use libc::{STDIN_FILENO, STDOUT_FILENO};
+use std::io;
+use std::io::{Read, Stdout};
 
 // Node 188:0; the device /devices/usb1/1-1/ttyUSB0 of subsystem tty; its parent, of subsystem usb and driver ftdi, with attribute
 // serial=RC-0417; the parent of that, of subsystem usb and driver usb, with attribute serial=hub.
@@ -31,8 +32,8 @@ const SHEET: [u8; 70] =
 // No answer sheet: a byte stands behind its end.
 const LONGER: [u8; 2] = *b"\x00\x00";
 
-fn say(word: &[u8]) {
-    io::write_all(STDOUT_FILENO, word);
+fn say(stdout: Stdout, word: &[u8]) {
+    let _ = stdout.write_all(word);
 }
 
 // ---- what came out, held to what must come out: each function takes the place up to which they agree, and gives the next
@@ -288,25 +289,26 @@ fn agree_outcome(want: &[u8], given: Given, device: &[u8], target: &[u8]) -> usi
 }
 
 // The part of what must come out with which what came out agrees.
-fn say_common(want: &[u8], n: usize) {
+fn say_common(stdout: Stdout, want: &[u8], n: usize) {
     if n <= want.len() {
-        say(&want[0..n]);
+        say(stdout, &want[0..n]);
     }
 }
 
-fn say_verdict(name: &[u8], want: &[u8], n: usize) {
+fn say_verdict(stdout: Stdout, name: &[u8], want: &[u8], n: usize) {
     if n == want.len() {
-        say(b"ok ");
-        say(name);
+        say(stdout, b"ok ");
+        say(stdout, name);
     } else {
-        say(name);
-        say(b" goes apart behind ");
-        say_common(want, n % APART);
+        say(stdout, name);
+        say(stdout, b" goes apart behind ");
+        say_common(stdout, want, n % APART);
     }
-    say(b"\n");
+    say(stdout, b"\n");
 }
 
 fn show_run(
+    stdout: Stdout,
     name: &[u8],
     text: &[u8],
     device: &[u8],
@@ -317,11 +319,11 @@ fn show_run(
 ) {
     let given = run::run(text, device, outcome, sheet, target);
     let n = agree_outcome(want, given, device, target);
-    say_verdict(name, want, n);
+    say_verdict(stdout, name, want, n);
 }
 
 // In the room and with the sheet that the case names.
-fn show_from(case: &[u8], device: &[u8], outcome: &[u8], want: &[u8]) {
+fn show_from(stdout: Stdout, case: &[u8], device: &[u8], outcome: &[u8], want: &[u8]) {
     let mut target = [0xaau8; 18125];
     let first = scan::byte_end(case, 0, b'\n');
     if first < 4 {
@@ -334,6 +336,7 @@ fn show_from(case: &[u8], device: &[u8], outcome: &[u8], want: &[u8]) {
     let text = &case[first + 1..];
     match scan::byte_at(case, 2) {
         b'<' => show_run(
+            stdout,
             name,
             text,
             device,
@@ -342,37 +345,55 @@ fn show_from(case: &[u8], device: &[u8], outcome: &[u8], want: &[u8]) {
             &mut target[..18124],
             want,
         ),
-        b'!' => show_run(name, text, device, outcome, &LONGER, &mut target, want),
-        _ => show_run(name, text, device, outcome, &SHEET, &mut target, want),
+        b'!' => show_run(
+            stdout,
+            name,
+            text,
+            device,
+            outcome,
+            &LONGER,
+            &mut target,
+            want,
+        ),
+        _ => show_run(
+            stdout,
+            name,
+            text,
+            device,
+            outcome,
+            &SHEET,
+            &mut target,
+            want,
+        ),
     }
 }
 
-fn show_fresh(case: &[u8], device: &[u8], start: &[u8], used: usize, want: &[u8]) {
+fn show_fresh(stdout: Stdout, case: &[u8], device: &[u8], start: &[u8], used: usize, want: &[u8]) {
     if used <= start.len() {
-        show_from(case, device, &start[0..used], want);
+        show_from(stdout, case, device, &start[0..used], want);
     }
 }
 
-fn show_on(case: &[u8], device: &[u8], want: &[u8]) {
+fn show_on(stdout: Stdout, case: &[u8], device: &[u8], want: &[u8]) {
     if scan::byte_at(case, 1) != b'f' {
-        show_from(case, device, &OLD, want);
+        show_from(stdout, case, device, &OLD, want);
         return;
     }
     let mut start = [0u8; 18125];
     let given = fresh::fresh(device, &mut start);
-    show_fresh(case, device, &start, given.used as usize, want);
+    show_fresh(stdout, case, device, &start, given.used as usize, want);
 }
 
-fn show_case(case: &[u8], want: &[u8]) {
+fn show_case(stdout: Stdout, case: &[u8], want: &[u8]) {
     match scan::byte_at(case, 0) {
-        b't' => show_on(case, &TTY, want),
-        b'b' => show_on(case, &BLOCK, want),
-        _ => show_on(case, &FAULTY, want),
+        b't' => show_on(stdout, case, &TTY, want),
+        b'b' => show_on(stdout, case, &BLOCK, want),
+        _ => show_on(stdout, case, &FAULTY, want),
     }
 }
 
 // Whether the line behind a case's rules says what must come out.
-fn ends_case(case: &[u8], line: &[u8]) -> bool {
+fn ends_case(stdout: Stdout, case: &[u8], line: &[u8]) -> bool {
     if line.len() < 3 {
         return false;
     }
@@ -382,16 +403,16 @@ fn ends_case(case: &[u8], line: &[u8]) -> bool {
     if line[1] != b'>' {
         return false;
     }
-    show_case(case, &line[3..]);
+    show_case(stdout, case, &line[3..]);
     true
 }
 
 // One line of the table, and where the case of the next line begins.
-fn show_line(table: &[u8], case: usize, at: usize, end: usize) -> usize {
+fn show_line(stdout: Stdout, table: &[u8], case: usize, at: usize, end: usize) -> usize {
     if case <= at {
         if at <= end {
             if end <= table.len() {
-                if ends_case(&table[case..at], &table[at..end]) {
+                if ends_case(stdout, &table[case..at], &table[at..end]) {
                     return std::num::wrapping_add_usize(end, 1);
                 }
             }
@@ -400,18 +421,23 @@ fn show_line(table: &[u8], case: usize, at: usize, end: usize) -> usize {
     case
 }
 
-fn show_all(table: &[u8]) {
+fn show_all(stdout: Stdout, table: &[u8]) {
     let mut case: usize = 0;
     let mut at: usize = 0;
     while at < table.len() {
         let end = scan::byte_end(table, at, b'\n');
-        case = show_line(table, case, at, end);
+        case = show_line(stdout, table, case, at, end);
         at = end + 1;
     }
 }
 
-fn main() {
-    let mut space = io::large_buffer();
-    let n = io::read_full(STDIN_FILENO, &mut space);
-    show_all(&space[..n]);
+// How much of the input is read.
+const ROOM: u64 = 65536;
+
+fn main(rt: HostRuntime) -> io::Result<()> {
+    let stdout = rt.stdout();
+    let mut space = Vec::new(rt.alloc());
+    rt.stdin().take(ROOM).read_to_end(&mut space)?;
+    show_all(stdout, &space);
+    Ok(())
 }

@@ -7,11 +7,12 @@ ghost use Rattle.std.specs.Prelude.{◌≡◌, true, ◌*◌, ◌≤◌, ◌<◌
 ghost use Rattle.lists.specs.Lists.{is_some};
 ghost use Rattle.sheet.specs.Sheet.{decode};
 
-use libc::{STDIN_FILENO, STDOUT_FILENO};
 use sheet_check::Replied;
+use std::io;
+use std::io::{Read, Stdout};
 
-fn say(word: &[u8]) {
-    io::write_all(STDOUT_FILENO, word);
+fn say(stdout: Stdout, word: &[u8]) {
+    let _ = stdout.write_all(word);
 }
 
 fn digit_of(b: u8) -> u8
@@ -44,52 +45,57 @@ fn read_sheet(digits: &[u8], sheet: &mut [u8]) -> usize
     n
 }
 
-fn say_reply(sheet: &[u8], command: &[u8])
+fn say_reply(stdout: Stdout, sheet: &[u8], command: &[u8])
     requires { is_some (decode sheet.now) ≡ true }
 {
     let Replied::At(success, start, len) = sheet_check::find(sheet, command) else {
-        say(b"missing");
+        say(stdout, b"missing");
         return;
     };
     if success {
-        say(b"success ");
+        say(stdout, b"success ");
     } else {
-        say(b"failure ");
+        say(stdout, b"failure ");
     }
-    say(&sheet[start..start + len]);
+    say(stdout, &sheet[start..start + len]);
 }
 
-fn ask(command: &[u8], sheet: &[u8]) {
+fn ask(stdout: Stdout, command: &[u8], sheet: &[u8]) {
     if sheet_check::check(sheet) {
-        say_reply(sheet, command);
+        say_reply(stdout, sheet, command);
     } else {
-        say(b"faulty");
+        say(stdout, b"faulty");
     }
 }
 
-fn show(line: &[u8]) {
-    say(line);
-    say(b"\t");
+fn show(stdout: Stdout, line: &[u8]) {
+    say(stdout, line);
+    say(stdout, b"\t");
     let tab = scan::byte_end(line, 0, b'\t');
     let mut sheet = [0u8; 1024];
     if tab < line.len() {
         let n = read_sheet(&line[tab + 1..], &mut sheet);
-        ask(&line[0..tab], &sheet[0..n]);
+        ask(stdout, &line[0..tab], &sheet[0..n]);
     }
-    say(b"\n");
+    say(stdout, b"\n");
 }
 
-fn show_all(table: &[u8]) {
+fn show_all(stdout: Stdout, table: &[u8]) {
     let mut at: usize = 0;
     while at < table.len() {
         let end = scan::byte_end(table, at, b'\n');
-        show(&table[at..end]);
+        show(stdout, &table[at..end]);
         at = end + 1;
     }
 }
 
-fn main() {
-    let mut space = io::large_buffer();
-    let n = io::read_full(STDIN_FILENO, &mut space);
-    show_all(&space[..n]);
+// How much of the input is read.
+const ROOM: u64 = 65536;
+
+fn main(rt: HostRuntime) -> io::Result<()> {
+    let stdout = rt.stdout();
+    let mut space = Vec::new(rt.alloc());
+    rt.stdin().take(ROOM).read_to_end(&mut space)?;
+    show_all(stdout, &space);
+    Ok(())
 }

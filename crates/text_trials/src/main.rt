@@ -6,18 +6,19 @@
 
 ghost use Rattle.std.specs.Prelude.{◌≡◌, ◌+◌, ◌≤◌, length};
 
-use libc::{STDIN_FILENO, STDOUT_FILENO};
+use std::io;
+use std::io::{Read, Stdout};
 
-fn say(word: &[u8]) {
-    io::write_all(STDOUT_FILENO, word);
+fn say(stdout: Stdout, word: &[u8]) {
+    let _ = stdout.write_all(word);
 }
 
-fn say_number(n: u32) {
+fn say_number(stdout: Stdout, n: u32) {
     let d = pieces::decimal(n);
     let digits = d.digits;
     let start = d.start;
     if start < 10 {
-        say(&digits[start..]);
+        say(stdout, &digits[start..]);
     }
 }
 
@@ -129,38 +130,43 @@ fn put_text(text: &mut [u8], row: &[u8]) -> usize
 
 // ---- what is found
 
-fn judge(text: &[u8]) {
+fn judge(stdout: Stdout, text: &[u8]) {
     let given = text_check::check(text);
     let number = given.number;
     if number == 0 {
-        say(b"\taccepted\n");
+        say(stdout, b"\taccepted\n");
     } else {
-        say(b"\trefused ");
-        say_number(number);
-        say(b" line ");
-        say_number(given.line);
-        say(b"\n");
+        say(stdout, b"\trefused ");
+        say_number(stdout, number);
+        say(stdout, b" line ");
+        say_number(stdout, given.line);
+        say(stdout, b"\n");
     }
 }
 
-fn show(row: &[u8], text: &mut [u8]) {
-    say(row);
+fn show(stdout: Stdout, row: &[u8], text: &mut [u8]) {
+    say(stdout, row);
     let n = put_text(text, row);
-    judge(&text[0..n]);
+    judge(stdout, &text[0..n]);
 }
 
-fn show_all(table: &[u8], text: &mut [u8]) {
+fn show_all(stdout: Stdout, table: &[u8], text: &mut [u8]) {
     let mut at: usize = 0;
     while at < table.len() {
         let end = scan::byte_end(table, at, b'\n');
-        show(&table[at..end], text);
+        show(stdout, &table[at..end], text);
         at = end + 1;
     }
 }
 
-fn main() {
-    let mut space = io::large_buffer();
-    let mut text = io::large_buffer();
-    let n = io::read_full(STDIN_FILENO, &mut space);
-    show_all(&space[..n], &mut text);
+// How much of the input is read.
+const ROOM: u64 = 65536;
+
+fn main(rt: HostRuntime) -> io::Result<()> {
+    let stdout = rt.stdout();
+    let mut space = Vec::new(rt.alloc());
+    let mut text = [0u8; 65536];
+    rt.stdin().take(ROOM).read_to_end(&mut space)?;
+    show_all(stdout, &space, &mut text);
+    Ok(())
 }

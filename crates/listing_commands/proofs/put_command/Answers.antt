@@ -9,7 +9,7 @@ shape_of-out-then-builtin c =
     let if1 = c.if-builtin in
     let put-line = c.put_line in (
       put-line.ensures.0,
-      behind-is _ _ entry.out.now put-line.new.0 entry.front put-line.result
+      behind-is _ _ entry.out.now put-line.new.out entry.front put-line.result
           (builtin_line entry.builtin entry.text.now if1.true) put-line.ensures.1,
     )
 
@@ -19,6 +19,6 @@ returns c =
     let if1 = c.if-builtin in
     let put-line2 = c.put_line-2 in (
       put-line2.ensures.0,
-      behind-is _ _ entry.out.now put-line2.new.0 entry.front put-line2.result
+      behind-is _ _ entry.out.now put-line2.new.out entry.front put-line2.result
           (program_line entry.builtin entry.text.now if1.false) put-line2.ensures.1,
     )

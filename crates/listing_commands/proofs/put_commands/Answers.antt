@@ -83,12 +83,12 @@ loop-left-preserved c =
           (subst (λ (x : List ℕ). First x head-of.result) (rest_part entry.list.now loop.at) head-of.ensures) loop.invariant.0,
       entries_next entry.list.now loop.at loop.left loop-test.true loop.invariant.1 head-of.result
           (subst (λ (x : List ℕ). First x head-of.result) (rest_part entry.list.now loop.at) head-of.ensures),
-      omega (arith, put-command.auto.0, loop.invariant.2),
+      omega (arith, put-command.auto.out, loop.invariant.2),
       put-command.ensures.0,
       lines_next entry.list.now loop.at loop.left loop-test.true loop.invariant.1 head-of.result
           (subst (λ (x : List ℕ). First x head-of.result) (rest_part entry.list.now loop.at) head-of.ensures)
           (entry_lines (number_at entry.list.now 0 5) (drop 1 entry.list.now)) entry.out.now entry.front loop.out
-          loop.put loop.invariant.4 put-command.result put-command.new.0 put-command.ensures.1,
+          loop.put loop.invariant.4 put-command.result put-command.new.out put-command.ensures.1,
     )
 
 pub shape_of-out : goal.shape_of-out

@@ -17,10 +17,10 @@ loop-i-preserved c =
     let loop = c.loop-i in
     let loop-test = c.loop-i-test in
     let put-shown = c.put_shown-put in (
-      omega (arith, put-shown.auto.0, loop.invariant.0),
+      omega (arith, put-shown.auto.out, loop.invariant.0),
       put-shown.ensures.0,
       leads_next (escaped entry.text.now) entry.out.now entry.front entry.text.now loop.i loop.out loop.put
-          loop.invariant.2 loop-test.true put-shown.result put-shown.new.0 put-shown.ensures.1,
+          loop.invariant.2 loop-test.true put-shown.result put-shown.new.out put-shown.ensures.1,
     )
 
 pub shape_of-out : goal.shape_of-out

@@ -10,7 +10,7 @@ returns c =
     let put-escaped = c.put_escaped-texted in
     let put_byte = c.put_byte in (
       put_byte.ensures.0,
-      line-behind entry.word.now (escaped entry.text.now) entry.out.now put_word.new.0 put-escaped.new.0
-          put_byte.new.0 entry.front put_word.result put-escaped.result put_byte.result put_word.ensures.1
+      line-behind entry.word.now (escaped entry.text.now) entry.out.now put_word.new.out put-escaped.new.out
+          put_byte.new.out entry.front put_word.result put-escaped.result put_byte.result put_word.ensures.1
           put-escaped.ensures.1 put_byte.ensures.1,
     )

@@ -10,7 +10,7 @@ returns c =
     let put-octal = c.put_octal-numbered in
     let put_byte = c.put_byte in (
       put_byte.ensures.0,
-      line-behind entry.word.now (four_octal entry.mode) entry.out.now put_word.new.0 put-octal.new.0
-          put_byte.new.0 entry.front put_word.result put-octal.result put_byte.result put_word.ensures.1
+      line-behind entry.word.now (four_octal entry.mode) entry.out.now put_word.new.out put-octal.new.out
+          put_byte.new.out entry.front put_word.result put-octal.result put_byte.result put_word.ensures.1
           put-octal.ensures.1 put_byte.ensures.1,
     )

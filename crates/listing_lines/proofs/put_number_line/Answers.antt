@@ -10,7 +10,7 @@ returns c =
     let put-decimal = c.put_decimal-numbered in
     let put_byte = c.put_byte in (
       put_byte.ensures.0,
-      line-behind entry.word.now (decimal entry.n) entry.out.now put_word.new.0 put-decimal.new.0 put_byte.new.0
+      line-behind entry.word.now (decimal entry.n) entry.out.now put_word.new.out put-decimal.new.out put_byte.new.out
           entry.front put_word.result put-decimal.result put_byte.result put_word.ensures.1 put-decimal.ensures.1
           put_byte.ensures.1,
     )

@@ -1,5 +1,5 @@
 -- `listing_lines::put_refusal_line` meets its contract.
-use mathlib.Core.List.{◌∷◌, ◌++◌}
+use mathlib.Core.List.{[], ◌∷◌, ◌++◌}
 use Rattle.lists.specs.Quoted.{bytes}
 use Rattle.template.specs.Decimal.{decimal}
 use Rattle.listing_lines.proofs.Laws.{behind_both}
@@ -16,13 +16,13 @@ returns c =
     let put_byte = c.put_byte in (
       put_byte.ensures.0,
       (behind_both (bytes "refused ") (decimal entry.number ++ (bytes " line " ++ (decimal entry.line ++ (10 ∷ []))))
-          entry.out.now put-text.new.0 put_byte.new.0 entry.front put-text.result put_byte.result
+          entry.out.now put-text.new.out put_byte.new.out entry.front put-text.result put_byte.result
           put-text.ensures.1
-          (behind_both (decimal entry.number) (bytes " line " ++ (decimal entry.line ++ (10 ∷ []))) put-text.new.0
-          put-decimal.new.0 put_byte.new.0 put-text.result put-decimal.result put_byte.result
+          (behind_both (decimal entry.number) (bytes " line " ++ (decimal entry.line ++ (10 ∷ []))) put-text.new.out
+          put-decimal.new.out put_byte.new.out put-text.result put-decimal.result put_byte.result
           put-decimal.ensures.1
-          (behind_both (bytes " line ") (decimal entry.line ++ (10 ∷ [])) put-decimal.new.0 put-text2.new.0
-          put_byte.new.0 put-decimal.result put-text2.result put_byte.result put-text2.ensures.1
-          (behind_both (decimal entry.line) (10 ∷ []) put-text2.new.0 put-decimal2.new.0 put_byte.new.0
+          (behind_both (bytes " line ") (decimal entry.line ++ (10 ∷ [])) put-decimal.new.out put-text2.new.out
+          put_byte.new.out put-decimal.result put-text2.result put_byte.result put-text2.ensures.1
+          (behind_both (decimal entry.line) (10 ∷ []) put-text2.new.out put-decimal2.new.out put_byte.new.out
           put-text2.result put-decimal2.result put_byte.result put-decimal2.ensures.1 put_byte.ensures.1)))),
     )

@@ -1,4 +1,5 @@
 -- `listing_lines::put_set_line` meets its contract.
+use mathlib.Core.List.{[]}
 use Rattle.listing_lines.proofs.Laws.{behind-is, behind-none, set_line_lem, unset-line}
 use Rattle.engine.specs.Listing.{escaped, line_of, set_line}
 use native.Mathlib.Omega.{arith}
@@ -20,6 +21,6 @@ returns c =
     let put-line = c.put_line in (
       put-line.ensures.0,
       behind-is (line_of entry.word.now (escaped entry.text.now)) (set_line entry.word.now entry.text.now) entry.out.now
-          put-line.new.0 entry.front put-line.result
+          put-line.new.out entry.front put-line.result
           (set_line_lem entry.word.now entry.text.now (omega (arith, if1.false))) put-line.ensures.1,
     )

@@ -14,9 +14,9 @@ returns c =
     let put-signed = c.put_signed-numbered in
     let put_byte = c.put_byte in (
       put_byte.ensures.0,
-      line-behind entry.word.now (signed entry.z) entry.out.now put_word.new.0 put-signed.new.0 put_byte.new.0
+      line-behind entry.word.now (signed entry.z) entry.out.now put_word.new.out put-signed.new.out put_byte.new.out
           entry.front put_word.result put-signed.result put_byte.result put_word.ensures.1
-          (behind-is (signed (to_z w32 (of_z w32 entry.z))) (signed entry.z) put_word.new.0 put-signed.new.0 put_word.result
+          (behind-is (signed (to_z w32 (of_z w32 entry.z))) (signed entry.z) put_word.new.out put-signed.new.out put_word.result
           put-signed.result (ap signed (to_z-of_z c.ranges.z)) put-signed.ensures.1)
           put_byte.ensures.1,
     )

@@ -9,15 +9,15 @@ put_text-requires c =
     let entry = c.args in
     let pre = c.requires in
     let front = c.in-Done in
-    within-done (length entry.out.now) front.given.0.0 entry.front front.given.1 pre
+    within-done (length entry.out.now) front.used entry.front front.is pre
 
 pub returns-in-Done : goal.returns-in-Done
 returns-in-Done c =
     let entry = c.args in
     let front = c.in-Done in
     let put-text = c.put_text in
-    text-behind entry.src.now entry.out.now put-text.new.0 front.given.0.0 entry.front put-text.result
-    front.given.1 (omega (arith, put-text.auto.0)) put-text.ensures
+    text-behind entry.src.now entry.out.now put-text.new.out front.used entry.front put-text.result
+    front.is (omega (arith, put-text.auto.out)) put-text.ensures
 
 pub returns-in-Full : goal.returns-in-Full
 returns-in-Full c =

@@ -1,6 +1,6 @@
 -- `listing_lines::put_word` meets its contract.
 use Rattle.listing_lines.proofs.Laws.{behind_both}
-use mathlib.Core.List.{◌∷◌}
+use mathlib.Core.List.{[], ◌∷◌}
 use Rattle.listing_lines.proofs.put_word.Goals as goal
 
 pub returns : goal.returns
@@ -9,6 +9,6 @@ returns c =
     let put-text = c.put_text-worded in
     let put_byte = c.put_byte in (
       put_byte.ensures.0,
-      behind_both entry.word.now (32 ∷ []) entry.out.now put-text.new.0 put_byte.new.0 entry.front put-text.result
+      behind_both entry.word.now (32 ∷ []) entry.out.now put-text.new.out put_byte.new.out entry.front put-text.result
           put_byte.result put-text.ensures.1 put_byte.ensures.1,
     )

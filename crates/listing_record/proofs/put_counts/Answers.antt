@@ -12,6 +12,6 @@ returns c =
     let visits = c.put_number_line-visits in
     let tries = c.put_number_line in (
       tries.ensures.0,
-      behind_both (line_of (bytes "visited") (decimal args.visited)) (line_of (bytes "tried") (decimal args.tried)) args.out.now visits.new.0 tries.new.0 args.front visits.result tries.result
+      behind_both (line_of (bytes "visited") (decimal args.visited)) (line_of (bytes "tried") (decimal args.tried)) args.out.now visits.new.out tries.new.out args.front visits.result tries.result
           visits.ensures.1 tries.ensures.1,
     )

@@ -9,7 +9,7 @@ use Rattle.listing_record.proofs.put_group.Goals as goal
 
 pub field-requires : goal.field-requires
 field-requires c =
-    let entry = c.before.before.before in
+    let entry = c in
     let a = entry.args in
     let group = c.field in
     let (n, s, h) = entry.requires.1 in
@@ -48,7 +48,7 @@ returns c =
     let put = c.put_set_line in (
       put.ensures.0,
       λ n s h.
-          behind-is _ (set_line (bytes "group") s.group) a.out.now put.new.0 a.front put.result
+          behind-is _ (set_line (bytes "group") s.group) a.out.now put.new.out a.front put.result
           (ap (set_line (bytes "group")) (group-text n a.t.now a.layout s h group.result group.ensures.0))
           put.ensures.1,
     )

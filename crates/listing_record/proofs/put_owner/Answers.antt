@@ -9,19 +9,19 @@ use Rattle.listing_record.proofs.put_owner.Goals as goal
 
 pub field-requires : goal.field-requires
 field-requires c =
-    let entry = c.before.before.before.before in
+    let entry = c in
     let a = entry.args in
-    let group = c.before.field in
+    let group = c.field in
     let (n, s, h) = entry.requires.1 in
     let w = names-within n a.t.now a.layout s h in
     omega (arith, w.0, w.1, group.ensures.0)
 
 pub field-requires-2 : goal.field-requires-2
 field-requires-2 c =
-    let entry = c.before.before.before.before.before in
+    let entry = c in
     let a = entry.args in
-    let group = c.before.before.field in
-    let owner = c.field2 in
+    let group = c.field in
+    let owner = c.field-2 in
     let (n, s, h) = entry.requires.1 in
     let w = names-within n a.t.now a.layout s h in
     omega (arith, w.0, w.1, group.ensures.0, owner.ensures.0)
@@ -62,7 +62,7 @@ returns c =
     let put = c.put_set_line in (
       put.ensures.0,
       λ n s h.
-          behind-is _ (set_line (bytes "owner") s.owner) a.out.now put.new.0 a.front put.result
+          behind-is _ (set_line (bytes "owner") s.owner) a.out.now put.new.out a.front put.result
           (ap (set_line (bytes "owner")) (owner-text n a.t.now a.layout s h group.result group.ensures.0 owner.result owner.ensures.0))
           put.ensures.1,
     )

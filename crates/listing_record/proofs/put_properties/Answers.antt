@@ -18,7 +18,7 @@ returns c =
       λ n s h. let w = c.row_of-row.ensures n s h in behind-is
           (entry_lines kind.Property x.word.now c.row_of-row.result.count
           (drop c.row_of-row.result.at x.t.now)) (property_lines x.word.now s.properties) x.out.now
-          c.put_entries.new.0 x.front c.put_entries.result
+          c.put_entries.new.out x.front c.put_entries.result
           (property-lines x.word.now c.row_of-row.result.count (drop c.row_of-row.result.at x.t.now)
           s.properties w.read.0 w.read.1) c.put_entries.ensures.1,
     )

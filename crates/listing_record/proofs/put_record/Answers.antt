@@ -12,6 +12,6 @@ returns c =
     let lists = c.put_lists in (
       lists.ensures.0,
       λ n s h.
-          behind_both (count_lines args.visited args.tried) (setting_lines s ++ list_lines s) args.out.now counts.new.0 lists.new.0 args.front counts.result lists.result counts.ensures.1
-          (behind_both (setting_lines s) (list_lines s) counts.new.0 settings.new.0 lists.new.0 counts.result settings.result lists.result (settings.ensures.1 n s h) (lists.ensures.1 n s h)),
+          behind_both (count_lines args.visited args.tried) (setting_lines s ++ list_lines s) args.out.now counts.new.out lists.new.out args.front counts.result lists.result counts.ensures.1
+          (behind_both (setting_lines s) (list_lines s) counts.new.out settings.new.out lists.new.out counts.result settings.result lists.result (settings.ensures.1 n s h) (lists.ensures.1 n s h)),
     )

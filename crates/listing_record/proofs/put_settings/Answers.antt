@@ -20,9 +20,9 @@ returns c =
           let watched = watch_line s.watch in
           let group_line = set_line (bytes "group") s.group in
           let owner_line = set_line (bytes "owner") s.owner in
-          behind_both (line_of (bytes "priority") (signed (to_signed s.priority))) (mode_line s.mode ++ (owner_line ++ (group_line ++ watched))) args.out.now priority.new.0 watch.new.0 args.front priority.result watch.result
+          behind_both (line_of (bytes "priority") (signed (to_signed s.priority))) (mode_line s.mode ++ (owner_line ++ (group_line ++ watched))) args.out.now priority.new.out watch.new.out args.front priority.result watch.result
           (priority.ensures.1 n s h)
-          (behind_both (mode_line s.mode) (owner_line ++ (group_line ++ watched)) priority.new.0 mode.new.0 watch.new.0 priority.result mode.result watch.result (mode.ensures.1 n s h)
-          (behind_both owner_line (group_line ++ watched) mode.new.0 owner.new.0 watch.new.0 mode.result owner.result watch.result (owner.ensures.1 n s h)
-          (behind_both group_line watched owner.new.0 group.new.0 watch.new.0 owner.result group.result watch.result (group.ensures.1 n s h) (watch.ensures.1 n s h)))),
+          (behind_both (mode_line s.mode) (owner_line ++ (group_line ++ watched)) priority.new.out mode.new.out watch.new.out priority.result mode.result watch.result (mode.ensures.1 n s h)
+          (behind_both owner_line (group_line ++ watched) mode.new.out owner.new.out watch.new.out mode.result owner.result watch.result (owner.ensures.1 n s h)
+          (behind_both group_line watched owner.new.out group.new.out watch.new.out owner.result group.result watch.result (group.ensures.1 n s h) (watch.ensures.1 n s h)))),
     )

@@ -23,7 +23,7 @@ returns c =
           c.section_of.ensures n x.t.now s c.row_of-row.result
           (c.row_of-row.ensures n s h) in behind-is (entry_lines kind.Text x.word.now
           c.row_of-row.result.count (drop c.row_of-row.result.at x.t.now))
-          (text_lines x.word.now (texts_in x.list s)) x.out.now c.put_entries.new.0 x.front c.put_entries.result
+          (text_lines x.word.now (texts_in x.list s)) x.out.now c.put_entries.new.out x.front c.put_entries.result
           (text-lines x.word.now c.row_of-row.result.count
           (drop c.row_of-row.result.at x.t.now) ∙ ap (text_lines x.word.now) w.named) c.put_entries.ensures.1,
     )

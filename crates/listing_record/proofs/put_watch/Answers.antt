@@ -15,7 +15,7 @@ shape_of-out-then-watch-eq1 c =
       put.ensures.0,
       λ n s h.
           let watch = field.ensures.0 ∙ watch_is n a.t.now a.layout s h in
-          behind-is _ (watch_line s.watch) a.out.now put.new.0 a.front put.result (watch_line_lem s.watch (sym watch ∙ c.if-watch-eq1.true)) put.ensures.1,
+          behind-is _ (watch_line s.watch) a.out.now put.new.out a.front put.result (watch_line_lem s.watch (sym watch ∙ c.if-watch-eq1.true)) put.ensures.1,
     )
 
 pub returns-then-watch-eq2 : goal.returns-then-watch-eq2
@@ -27,7 +27,7 @@ returns-then-watch-eq2 c =
       put.ensures.0,
       λ n s h.
           let watch = field.ensures.0 ∙ watch_is n a.t.now a.layout s h in
-          behind-is _ (watch_line s.watch) a.out.now put.new.0 a.front put.result (nowatch_line s.watch (sym watch ∙ c.if-watch-eq2.true)) put.ensures.1,
+          behind-is _ (watch_line s.watch) a.out.now put.new.out a.front put.result (nowatch_line s.watch (sym watch ∙ c.if-watch-eq2.true)) put.ensures.1,
     )
 
 pub returns : goal.returns

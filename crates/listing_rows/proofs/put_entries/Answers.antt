@@ -50,12 +50,12 @@ loop-left-preserved c =
       parts_at.ensures.within,
       row-turn entry.kind entry.rec.now loop.p loop.left parts_at.result parts_at.ensures loop-test.true
           loop.invariant.1,
-      omega (arith, put-entry.auto.0, loop.invariant.2),
+      omega (arith, put-entry.auto.out, loop.invariant.2),
       put-entry.ensures.0,
       entries_next entry.kind entry.word.now entry.rec.now loop.p loop.left
           (entry_lines entry.kind entry.word.now entry.n (drop entry.at entry.rec.now)) entry.out.now entry.front
           loop.out loop.put loop.invariant.4 parts_at.result parts_at.ensures loop-test.true put-entry.result
-          put-entry.new.0 put-entry.ensures.1,
+          put-entry.new.out put-entry.ensures.1,
     )
 
 pub shape_of-out : goal.shape_of-out

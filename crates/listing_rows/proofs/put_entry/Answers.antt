@@ -9,8 +9,8 @@ returns-in-Text c =
     let enum_told = c.in-Text in
     let put-line = c.put_line in (
       put-line.ensures.0,
-      line_of_lem entry.kind Text entry.word.now entry.name.now entry.rest.now enum_told.given.1 entry.out.now
-          put-line.new.0 entry.front put-line.result put-line.ensures.1,
+      line_of_lem entry.kind Text entry.word.now entry.name.now entry.rest.now enum_told.is entry.out.now
+          put-line.new.out entry.front put-line.result put-line.ensures.1,
     )
 
 pub returns-in-Property : goal.returns-in-Property
@@ -19,8 +19,8 @@ returns-in-Property c =
     let enum-told2 = c.in-Property in
     let put-property-line = c.put_property_line in (
       put-property-line.ensures.0,
-      line_of_lem entry.kind Property entry.word.now entry.name.now entry.rest.now enum-told2.given.1 entry.out.now
-          put-property-line.new.0 entry.front put-property-line.result put-property-line.ensures.1,
+      line_of_lem entry.kind Property entry.word.now entry.name.now entry.rest.now enum-told2.is entry.out.now
+          put-property-line.new.out entry.front put-property-line.result put-property-line.ensures.1,
     )
 
 pub returns-in-Run : goal.returns-in-Run
@@ -29,8 +29,8 @@ returns-in-Run c =
     let enum-told3 = c.in-Run in
     let put-line2 = c.put_line-in-Run in (
       put-line2.ensures.0,
-      line_of_lem entry.kind Run entry.word.now entry.name.now entry.rest.now enum-told3.given.1 entry.out.now
-          put-line2.new.0 entry.front put-line2.result put-line2.ensures.1,
+      line_of_lem entry.kind Run entry.word.now entry.name.now entry.rest.now enum-told3.is entry.out.now
+          put-line2.new.out entry.front put-line2.result put-line2.ensures.1,
     )
 
 pub returns-in-Reply : goal.returns-in-Reply
@@ -39,6 +39,6 @@ returns-in-Reply c =
     let enum-told4 = c.in-Reply in
     let put-line3 = c.put_line-in-Reply in (
       put-line3.ensures.0,
-      line_of_lem entry.kind Reply entry.word.now entry.name.now entry.rest.now enum-told4.given.1 entry.out.now
-          put-line3.new.0 entry.front put-line3.result put-line3.ensures.1,
+      line_of_lem entry.kind Reply entry.word.now entry.name.now entry.rest.now enum-told4.is entry.out.now
+          put-line3.new.out entry.front put-line3.result put-line3.ensures.1,
     )

@@ -12,14 +12,14 @@ pub slice_bounds-outcome-end : goal.slice_bounds-outcome-end
 slice_bounds-outcome-end c =
     let a = c.args in
     let fresh = c.fresh-made in
-    omega (arith, fresh-within a.device.now fresh.result fresh.new.1.0 fresh.ensures, fresh.auto.1.0)
+    omega (arith, fresh-within a.device.now fresh.result fresh.new.target fresh.ensures, fresh.auto.target)
 
 pub slice_bounds-list_from-end : goal.slice_bounds-list_from-end
 slice_bounds-list_from-end c =
     let a = c.args in
     let fresh = c.fresh-made in
-    sym (length-take-le fresh.result.used fresh.new.1.0
-    (omega (arith, fresh-within a.device.now fresh.result fresh.new.1.0 fresh.ensures, fresh.auto.1.0)))
+    sym (length-take-le fresh.result.used fresh.new.target
+    (omega (arith, fresh-within a.device.now fresh.result fresh.new.target fresh.ensures, fresh.auto.target)))
 
 pub returns : goal.returns
 unfolding listing
@@ -27,6 +27,6 @@ returns c =
     let a = c.args in
     let fresh = c.fresh-made in
     let list-from = c.list_from in
-    appended_is _ _ a.out.now list-from.new.1.1.1.1.0 list-from.result
-    (ap (λ (x : List ℕ). listing_from a.text.now a.device.now x a.sheet.now) (fresh_record a.device.now fresh.result fresh.new.1.0 fresh.ensures))
+    appended_is _ _ a.out.now list-from.new.out list-from.result
+    (ap (λ (x : List ℕ). listing_from a.text.now a.device.now x a.sheet.now) (fresh_record a.device.now fresh.result fresh.new.target fresh.ensures))
     list-from.ensures

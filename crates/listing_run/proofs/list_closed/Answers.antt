@@ -14,54 +14,54 @@ use Rattle.listing_run.proofs.list_closed.Goals as goal
 
 pub slice_bounds-close-end : goal.slice_bounds-close-end
 slice_bounds-close-end c =
-    let entry = c.before.before.before.before in
+    let entry = c in
     let x = entry.args in
     let (d, s, w) = entry.requires in sym (length-take-le x.used x.t.now (left-within x.device.now x.t.now x.used d s w))
 
 pub returns-then-closed-ne0 : goal.returns-then-closed-ne0
 returns-then-closed-ne0 c =
-    let x = c.before.before.before.before.before.before.before.before.before.before.before.before.before.args in
+    let x = c.args in
     λ d s w. appended_is (refusal_line c.close-closed.result.number
     c.close-closed.result.line) (printed (closed_listing x.visited x.tried d s)) x.out.now
-    c.put_refusal_line.new.0 c.put_refusal_line.result
+    c.put_refusal_line.new.out c.put_refusal_line.result
     (close-refused x.device.now x.t.now x.used d s w c.close-closed.result
-    c.close-closed.new.1.1.0 c.close-closed.ensures
+    c.close-closed.new.target c.close-closed.ensures
     x.visited x.tried c.if-closed-ne0.true)
     (from_start (refusal_line c.close-closed.result.number
-    c.close-closed.result.line) x.out.now c.put_refusal_line.new.0
+    c.close-closed.result.line) x.out.now c.put_refusal_line.new.out
     c.put_refusal_line.result c.put_refusal_line.ensures.1)
 
 pub chain_of-chain-requires : goal.chain_of-chain-requires
-chain_of-chain-requires c = let (d, s, w) = c.before.before.before.before.before.before.before.before.before.requires in (d, w.device)
+chain_of-chain-requires c = let (d, s, w) = c.requires in (d, w.device)
 
 pub slice_bounds-check-end : goal.slice_bounds-check-end
 slice_bounds-check-end c =
-    let entry = c.before.before.before.before.before.before.before.before.before.before.before in
+    let entry = c in
     let x = entry.args in
     let (d, s, w) = entry.requires in sym (length-take-le x.used x.t.now (left-within x.device.now x.t.now x.used d s w))
 
 pub returns-in_default : goal.returns-in_default
 returns-in_default c =
-    let x = c.before.before.before.before.before.before.before.before.before.before.before.before.before.before.args in
-    λ d s w. absurd (checked_sound (length (chain d)) c.before.before.before.before.chain-of.result.len
-    (take x.used x.t.now) s (c.before.before.before.before.chain-of.ensures d w.device).len (left_read x.device.now x.t.now x.used d s w)
+    let x = c.args in
+    λ d s w. absurd (checked_sound (length (chain d)) c.chain_of-chain.result.len
+    (take x.used x.t.now) s (c.chain_of-chain.ensures d w.device).len (left_read x.device.now x.t.now x.used d s w)
     (sym c.in_default.is ∙ c.check.ensures))
 
 pub put_both-requires : goal.put_both-requires
 put_both-requires c =
-    let entry = c.before.before.before.before.before.before.before.before.before.before.before.before.before.before.before.before.before in
+    let entry = c in
     let a = entry.args in
     let (d, s, w) = entry.requires in let (cs, q, m) = close-made a.device.now a.t.now
-    a.used d s w c.before.before.before.before.before.before.before.before.before.before.before.close.result
-    c.before.before.before.before.before.before.before.before.before.before.before.close.new.1.1.0
-    c.before.before.before.before.before.before.before.before.before.before.before.close.ensures
-    c.before.before.before.before.before.before.before.before.if1.false in (
+    a.used d s w c.close-closed.result
+    c.close-closed.new.target
+    c.close-closed.ensures
+    c.if-closed-ne0.false in (
       (
         length (chain d),
         s,
         (subst (λ (x : Layout). Held (length (chain d))
-            a.t.now x s) (sym (checked_layout (length (chain d)) c.before.before.before.before.before.before.before.chain-of.result.len
-            (take a.used a.t.now) s (c.before.before.before.before.before.before.before.chain-of.ensures d w.device).len
+            a.t.now x s) (sym (checked_layout (length (chain d)) c.chain_of-chain.result.len
+            (take a.used a.t.now) s (c.chain_of-chain.ensures d w.device).len
             (left_read a.device.now a.t.now a.used d s w) c.in-Sound.layout
             (sym c.in-Sound.is ∙ c.check.ensures))) w.held),
       ),
@@ -70,16 +70,16 @@ put_both-requires c =
 
 pub returns : goal.returns
 returns c =
-    let a = c.before.before.before.before.before.before.before.before.before.before.before.before.before.before.before.before.before.before.before.before.args in
+    let a = c.args in
     λ d s w. let (cs, q, m) = close-made a.device.now a.t.now
-    a.used d s w c.before.before.before.before.before.before.before.before.before.before.before.before.before.before.close.result
-    c.before.before.before.before.before.before.before.before.before.before.before.before.before.before.close.new.1.1.0
-    c.before.before.before.before.before.before.before.before.before.before.before.before.before.before.close.ensures
-    c.before.before.before.before.before.before.before.before.before.before.before.if1.false in appended_is (listing_of a.visited a.tried s cs)
-    (printed (closed_listing a.visited a.tried d s)) a.out.now c.put_both.new.0 c.put_both.result
+    a.used d s w c.close-closed.result
+    c.close-closed.new.target
+    c.close-closed.ensures
+    c.if-closed-ne0.false in appended_is (listing_of a.visited a.tried s cs)
+    (printed (closed_listing a.visited a.tried d s)) a.out.now c.put_both.new.out c.put_both.result
     (made-listing a.device.now a.t.now a.used d s w a.visited a.tried cs q)
     (c.put_both.ensures (length (chain d)) s (subst (λ (x : Layout). Held (length (chain d)) a.t.now x s)
-    (sym (checked_layout (length (chain d)) c.before.before.before.before.before.before.before.before.before.before.chain-of.result.len
-    (take a.used a.t.now) s (c.before.before.before.before.before.before.before.before.before.before.chain-of.ensures d w.device).len
+    (sym (checked_layout (length (chain d)) c.chain_of-chain.result.len
+    (take a.used a.t.now) s (c.chain_of-chain.ensures d w.device).len
     (left_read a.device.now a.t.now a.used d s w) c.in-Sound.layout
     (sym c.in-Sound.is ∙ c.check.ensures))) w.held) cs m)

@@ -12,19 +12,19 @@ returns-then-ran-ne0 c =
     let run = c.run-ran in
     let put = c.put_refusal_line in
     let said = refusal_line run.result.number run.result.line in
-    appended_is said (listing_from a.text.now a.device.now a.outcome.now a.sheet.now) a.out.now put.new.0 put.result
-    (run-refused a.text.now a.device.now a.outcome.now a.sheet.now run.result run.new.1.1.1.1.0 run.ensures
+    appended_is said (listing_from a.text.now a.device.now a.outcome.now a.sheet.now) a.out.now put.new.out put.result
+    (run-refused a.text.now a.device.now a.outcome.now a.sheet.now run.result run.new.target run.ensures
     c.if-ran-ne0.true)
-    (from_start said a.out.now put.new.0 put.result put.ensures.1)
+    (from_start said a.out.now put.new.out put.result put.ensures.1)
 
 pub list_closed-requires : goal.list_closed-requires
 list_closed-requires c =
     let a = c.args in
     let run = c.run-ran in
     let (d, s, w, e) =
-    run-left a.text.now a.device.now a.outcome.now a.sheet.now run.result run.new.1.1.1.1.0 run.ensures
-    (λ i. (c.type_inv.outcome.given i).fits) (λ i. (c.type_inv.sheet.given i).fits)
-    run.auto.1.1.1.1.0 c.if-ran-ne0.false
+    run-left a.text.now a.device.now a.outcome.now a.sheet.now run.result run.new.target run.ensures
+    (λ i. (c.type_inv.outcome i).fits) (λ i. (c.type_inv.sheet i).fits)
+    run.auto.target c.if-ran-ne0.false
     in
     (d, s, w)
 
@@ -34,11 +34,11 @@ returns c =
     let run = c.run-ran in
     let list-closed = c.list_closed in
     let (d, s, w, e) =
-    run-left a.text.now a.device.now a.outcome.now a.sheet.now run.result run.new.1.1.1.1.0 run.ensures
-    (λ i. (c.type_inv.outcome.given i).fits)
-    (λ i. (c.type_inv.sheet.given i).fits)
-    run.auto.1.1.1.1.0 c.if-ran-ne0.false
+    run-left a.text.now a.device.now a.outcome.now a.sheet.now run.result run.new.target run.ensures
+    (λ i. (c.type_inv.outcome i).fits)
+    (λ i. (c.type_inv.sheet i).fits)
+    run.auto.target c.if-ran-ne0.false
     in
     appended_is (printed (closed_listing run.result.visited run.result.tried d s))
-    (listing_from a.text.now a.device.now a.outcome.now a.sheet.now) a.out.now list-closed.new.0 list-closed.result (sym e)
+    (listing_from a.text.now a.device.now a.outcome.now a.sheet.now) a.out.now list-closed.new.out list-closed.result (sym e)
     (list-closed.ensures d s w)

@@ -18,12 +18,12 @@ returns c =
     let x = c.args in
     λ n s h cs m. let e = list_lines_lem cs m.few m.short m.rest in let lines : entry_lines (number_at x.list.now 0 5)
     (drop 1 x.list.now) ≡ cat command_line cs = rw m.bytes e in appended_is (record_lines x.visited x.tried s ++ cat command_line cs)
-    (listing_of x.visited x.tried s cs) x.out.now c.put_commands.new.0 c.put_commands.result
+    (listing_of x.visited x.tried s cs) x.out.now c.put_commands.new.out c.put_commands.result
     (listing-parts x.visited x.tried s cs) (from_start (record_lines x.visited x.tried s ++ cat command_line cs) x.out.now
-    c.put_commands.new.0 c.put_commands.result
-    (behind_both (record_lines x.visited x.tried s) (cat command_line cs) x.out.now c.put_record-put.new.0
-    c.put_commands.new.0 (Done 0) c.put_record-put.result
+    c.put_commands.new.out c.put_commands.result
+    (behind_both (record_lines x.visited x.tried s) (cat command_line cs) x.out.now c.put_record-put.new.out
+    c.put_commands.new.out (Done 0) c.put_record-put.result
     c.put_commands.result (c.put_record-put.ensures.1 n s h)
     (behind-is (entry_lines (number_at x.list.now 0 5) (drop 1 x.list.now)) (cat command_line cs)
-    c.put_record-put.new.0 c.put_commands.new.0
+    c.put_record-put.new.out c.put_commands.new.out
     c.put_record-put.result c.put_commands.result lines c.put_commands.ensures.1)))
