@@ -12,7 +12,7 @@ pub returns-then-sheet-gt32768 : goal.returns-then-sheet-gt32768
 returns-then-sheet-gt32768 c = sym (ap is_some (sheet_long c.args.sheet.now c.if-sheet-gt32768.true))
 
 pub overflow_cast-n : goal.overflow_cast-n
-overflow_cast-n c = omega (arith, c.type_inv.sheet.given 0)
+overflow_cast-n c = omega (arith, (c.type_inv.sheet 0).fits)
 
 pub returns-then-n-gt64 : goal.returns-then-n-gt64
 returns-then-n-gt64 c = sym (ap is_some (sheet_many c.args.sheet.now c.if-sheet-lt1.false c.if-sheet-gt32768.false c.if-n-gt64.true))
@@ -20,22 +20,22 @@ returns-then-n-gt64 c = sym (ap is_some (sheet_many c.args.sheet.now c.if-sheet-
 pub returns-in_default : goal.returns-in_default
 returns-in_default c =
     let sheet = c.args.sheet.now in
-    sym (ap is_some (sheet_bad sheet c.if-sheet-lt1.false c.if-sheet-gt32768.false (sym c.check_replies.ensures ∙ c.in_default.is)))
+    sym (ap is_some (sheet_bad sheet c.if-sheet-lt1.false c.if-sheet-gt32768.false (sym c.in_default.ensures)))
 
 pub returns-then-end-sheet : goal.returns-then-end-sheet
 returns-then-end-sheet c =
     let sheet = c.args.sheet.now in
-    let ends = sym c.check_replies.ensures ∙ c.in-At.is in
+    let ends = sym c.in-At.ensures in
     sym (ap is_some (sheet_more sheet c.if-sheet-lt1.false c.if-sheet-gt32768.false c.in-At.end ends c.if-end-sheet.true))
 
 pub distinct-requires : goal.distinct-requires
 distinct-requires c =
-    let ends = sym c.check_replies.ensures ∙ c.in-At.is in
+    let ends = sym c.in-At.ensures in
     (c.if-sheet-lt1.false, sheet_row c.args.sheet.now c.in-At.end ends)
 
 pub returns : goal.returns
 returns c =
     let sheet = c.args.sheet.now in
-    let ends = sym c.check_replies.ensures ∙ c.in-At.is in
+    let ends = sym c.in-At.ensures in
     let short = c.if-sheet-gt32768.false in
     c.distinct.ensures ∙ sym (sheet_judged sheet c.if-sheet-lt1.false short c.in-At.end c.if-n-gt64.false ends c.if-end-sheet.false)
