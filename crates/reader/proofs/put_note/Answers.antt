@@ -2,7 +2,7 @@
 use Rattle.reader.proofs.Numbers.{two_put, two_behind}
 use Rattle.table.specs.Puts.{Added}
 use lib.ListN.{set, length-set}
-use mathlib.Core.List.{◌∷◌}
+use mathlib.Core.List.{[], ◌∷◌}
 use mathlib.Core.Path.{refl, subst₂}
 use Prim.Native.Nat.{ℕ, ◌+◌}
 use native.Mathlib.Omega.{arith}
