@@ -2,20 +2,18 @@
 -- Assumes nothing.
 use Prim.Native.Nat.{ℕ, zero, suc, ◌+◌, ◌<◌}
 use mathlib.Core.Path.{◌≡◌, refl, sym, ap, ap₂, ◌∙◌, subst}
-use mathlib.Core.Logic.{◌↔◌}
 use mathlib.Core.Bool.{Bool, true, false, not, ◌&&◌, ◌||◌, or_assoc}
 use mathlib.Core.List.{List, [], ◌∷◌, ◌++◌, map}
-use mathlib.Core.Option.{Option, none, some, none-ne-some, some-injective}
+use mathlib.Core.Option.{none-ne-some, some-injective}
 use native.Mathlib.Omega.{arith}
 use lib.Dec.{eqb}
-use lib.Signed.{◌≤ℤ◌, ◌<ℤ◌}
-use Rattle.lists.specs.Lists.{pick, any, reject, cat, nth, All}
+use Rattle.lists.specs.Lists.{pick, any, reject, All}
 use Rattle.lists.specs.Bytes.{same_bytes, among, distinct}
-use Rattle.lists.proofs.Lists.{pick_both, All-map}
-use Rattle.lists.proofs.Tests.{or-true, neither}
-use Rattle.lists.proofs.Bytes.{same-eq, same_refl, same-sym, reject-distinct}
+use Rattle.lists.proofs.Lists.{All-map}
+use Rattle.lists.proofs.Tests.{or-true}
+use Rattle.lists.proofs.Bytes.{same-eq, same_refl, reject-distinct}
 use Rattle.outcome.specs.State.{State}
-use Rattle.contest.specs.Contest.{firsts, links_of, claims, rank, Claimant, claimant, claimants, positions, higher, highest, holder_of, Listed, listed_by, contest, names}
+use Rattle.contest.specs.Contest.{firsts, links_of, claims, rank, Claimant, claimant, claimants, positions, highest, listed_by, contest, names}
 use Rattle.contest.specs.Promise.{Claims, Held, Contested}
 use Rattle.contest.proofs.Order.{highest-is, Below, Rising, highest_top}
 

@@ -1,20 +1,18 @@
 -- Document 02, Item 7: the list fits its target.
 -- Assumes nothing.
-use Prim.Native.Nat.{ℕ, zero, suc, ◌+◌, ◌*◌, ◌≤◌, ◌<◌}
+use Prim.Native.Nat.{ℕ, suc, ◌+◌, ◌*◌, ◌≤◌}
 use mathlib.Core.Path.{◌≡◌, refl, sym, ap, ap₂, ◌∙◌, subst}
-use mathlib.Core.Bool.{Bool, true, false, not, ◌&&◌, ◌||◌}
-use mathlib.Core.List.{List, [], ◌∷◌, ◌++◌, map}
-use mathlib.Core.Option.{Option, none, some}
+use mathlib.Core.Bool.{Bool, true, false, not, ◌||◌}
+use mathlib.Core.List.{List, [], ◌∷◌, map}
+use mathlib.Core.Option.{some}
 use native.Mathlib.Omega.{arith}
-use native.Mathlib.Nat.{mul-add}
 use lib.Dec.{eqb, leb}
 use lib.ListN.{length, length-append, length-map}
-use borrow.Author.Tests.{eq-eqb, le-leb, leb-true, not-true}
+use borrow.Author.Tests.{eq-eqb, leb-true, not-true}
 use Rattle.lists.specs.Lists.{pick, all, any, reject, cat, All}
 use Rattle.lists.specs.Bytes.{Bytes, same_bytes, holds, among, distinct, clean}
 use Rattle.lists.specs.Runs.{split_at}
-use Rattle.lists.specs.Sizes.{most_link, most_links}
-use Rattle.lists.specs.Checked.{Checked, refused, ok, ◌>>=◌, ◌>>◌, require, found, Holds}
+use Rattle.lists.specs.Checked.{require, found, Holds}
 use Rattle.lists.specs.Refusal.{target_short, set_bad, device_bad, outcome_bad}
 use Rattle.lists.proofs.Checked.{holds-map, holds-bind, holds-seq, holds-require, holds-found}
 use Rattle.lists.proofs.Records.{bytes-first}
@@ -23,7 +21,7 @@ use Rattle.lists.proofs.Lists.{reject-size, pick_both, All-map, All-append, all_
 use Rattle.lists.proofs.Bytes.{same-eq, same-sym, bytes_rest}
 use Rattle.outcome.specs.Content.{ok_link, ok_name, ok_part}
 use Rattle.outcome.specs.State.{State, Good}
-use Rattle.contest.specs.Contest.{firsts, links_of, claims, Claimant, claimant, claimants, positions, highest, holder_of, Listed, listed_by, contest}
+use Rattle.contest.specs.Contest.{firsts, links_of, claims, Claimant, claimant, claimants, positions, highest, Listed, listed_by, contest}
 use Rattle.bits.specs.Fields.{packed}
 use Rattle.device.specs.Device as D
 use Rattle.device.specs.Device.{Device, chain}

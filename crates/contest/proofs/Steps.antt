@@ -1,13 +1,12 @@
 -- Document 02, Item 7: the list as a loop over the claims makes it: one more claim adds its name or not.
 -- Assumes nothing.
 use Prim.Native.Nat.{ℕ}
-use mathlib.Core.Path.{◌≡◌, refl, sym, ap, ap₂, ◌∙◌}
+use mathlib.Core.Path.{◌≡◌, refl, ap, ◌∙◌}
 use mathlib.Core.Bool.{Bool, true, false, ◌||◌}
 use mathlib.Core.List.{List, [], ◌∷◌, ◌++◌}
 use Rattle.lists.specs.Lists.{pick, reject}
 use Rattle.lists.specs.Bytes.{same_bytes, among}
-use Rattle.lists.proofs.Tests.{neither}
-use Rattle.lists.proofs.Bytes.{same-sym, same-eq}
+use Rattle.lists.proofs.Bytes.{same-sym}
 use Rattle.contest.specs.Contest.{firsts}
 
 pub reject-append : {A : Type 0} (out : A → Bool) (xs ys : List A) → reject out (xs ++ ys) ≡ reject out xs ++ reject out ys

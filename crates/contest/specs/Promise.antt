@@ -5,7 +5,7 @@ use Rattle.std.proofs.Math.Option.{some}
 use Rattle.lists.specs.Lists.{reject, nth, All}
 use Rattle.lists.specs.Bytes.{among, distinct}
 use Rattle.outcome.specs.State.{State}
-use Rattle.contest.specs.Contest.{firsts, links_of, claims, rank, claimants, positions, Listed, contest, names}
+use Rattle.contest.specs.Contest.{firsts, links_of, claims, rank, claimants, positions, Listed, names}
 
 -- the record at a place (from 0) claims a name
 pub record Claims (x : List ℕ) (ss : List State) (k : ℕ) : Type 0 where

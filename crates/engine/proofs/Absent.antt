@@ -2,7 +2,7 @@
 -- device of the chain; where one is present, the value is judged as before.
 -- Assumes nothing.
 use Prim.Native.Nat.{ℕ}
-use mathlib.Core.Path.{◌≡◌, refl, ap, ◌∙◌}
+use mathlib.Core.Path.{◌≡◌, refl, ap}
 use mathlib.Core.Bool.{Bool, true, false}
 use mathlib.Core.List.{List, [], ◌∷◌}
 use mathlib.Core.Option.{Option, none, some}
@@ -10,7 +10,7 @@ use Rattle.rules.specs.Key.{DRIVER, DRIVERS, ATTR, ATTRS, Op, equal, unequal}
 use Rattle.rules.specs.Pair.{Pair}
 use Rattle.device.specs.Device.{Member, Device, attr_of}
 use Rattle.outcome.specs.State.{State}
-use Rattle.engine.specs.Match.{judged, value_holds, seen_by, absent_holds, attr_judged, attr_holds, driver_holds, key_holds, parent_holds}
+use Rattle.engine.specs.Match.{judged, value_holds, seen_by, attr_judged, attr_holds, driver_holds, key_holds, parent_holds}
 
 -- what the four keys say of a device: nothing is there, or a value
 pub data Seen : Type 0 where

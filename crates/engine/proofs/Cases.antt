@@ -1,11 +1,11 @@
 -- Kinds of worked examples, what makes one right, and the devices and records that they speak of.
 -- Assumes nothing.
-use Prim.Native.Nat.{ℕ, zero, suc, ◌+◌}
+use Prim.Native.Nat.{ℕ}
 use Prim.Native.String.{String}
 use mathlib.Core.Bool.{Bool, true, false, not, ◌&&◌}
-use mathlib.Core.List.{List, [], ◌∷◌, ◌++◌, map}
+use mathlib.Core.List.{List, [], ◌∷◌}
 use lib.Dec.{eqb}
-use lib.ListN.{length, take, drop, replicate, set}
+use lib.ListN.{length, take, drop, set}
 use Rattle.lists.specs.Lists.{all}
 use Rattle.lists.specs.Bytes.{same_bytes}
 use Rattle.lists.specs.Runs.{Part}

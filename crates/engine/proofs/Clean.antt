@@ -1,25 +1,25 @@
 -- What is substituted has no NUL, if neither the template nor what it inserts has one.
 -- Assumes nothing.
-use Prim.Native.Nat.{ℕ, zero, suc, ◌+◌, ◌/◌, ◌%◌, ◌≤◌, ◌<◌}
-use mathlib.Core.Path.{◌≡◌, refl, sym, ap, ◌∙◌, subst}
-use mathlib.Core.Bool.{Bool, true, false, not, ◌&&◌, ◌||◌}
-use mathlib.Core.List.{List, [], ◌∷◌, ◌++◌, map}
+use Prim.Native.Nat.{ℕ, zero, suc, ◌+◌, ◌/◌, ◌%◌}
+use mathlib.Core.Path.{◌≡◌, refl, ap}
+use mathlib.Core.Bool.{Bool, true, false, not}
+use mathlib.Core.List.{List, [], ◌∷◌}
 use mathlib.Core.Option.{Option, none, some}
 use native.Mathlib.Omega.{arith}
 use lib.ListN.{length, drop}
 use lib.Dec.{leb, ltb, eqb}
 use borrow.Author.Tests.{ne_eqb}
 use Rattle.lists.specs.Lists.{pick, all, nth, All}
-use Rattle.lists.specs.Bytes.{is_space, is_digit, starts, clean, distinct, no_space}
-use Rattle.lists.specs.Runs.{Part, split_at}
-use Rattle.lists.specs.Items.{Item, before, item_then, items, in_braces}
+use Rattle.lists.specs.Bytes.{is_space, starts, clean, no_space}
+use Rattle.lists.specs.Runs.{split_at}
+use Rattle.lists.specs.Items.{Item, before, item_then, items}
 use Rattle.lists.proofs.Tests.{and_both, both_and}
 use Rattle.lists.proofs.Lists.{all_append, all_map, pick_both}
 use Rattle.lists.proofs.Bytes.{split-clean, last_clean, trim-clean, digits-clean}
-use Rattle.entries.specs.Entry.{Property, ok_prop, keys, lookup, or_empty}
+use Rattle.entries.specs.Entry.{ok_prop, lookup, or_empty}
 use Rattle.entries.proofs.Entries.{Clean, lookup-clean}
 use Rattle.template.specs.Template as T
-use Rattle.template.specs.Decimal.{decimal_on, decimal}
+use Rattle.template.specs.Decimal.{decimal_on}
 use Rattle.template.specs.Template.{Piece, Form, plain, whole, braced, Named, names, letters, name_in, text_in, with_text, starts_brace, formed, named_piece, Sign, dollar_sign, percent_sign, no_sign, sign_of, piece_by, piece_at, pieces}
 use Rattle.device.specs.Device.{Member, Device, chain, name_of, attr_of, member_at, ok_path, ok_member}
 use Rattle.lists.specs.Sizes.{most_path, most_subsystem, most_attributes}

@@ -1,9 +1,9 @@
 -- Document 02, Item 5: one converter undoes the other, byte for byte, in either order; and every answer of a converter has as many bytes as its target.
 -- Assumes nothing.
-use Prim.Native.Nat.{ℕ, suc, ◌-◌, ◌≤◌}
-use mathlib.Core.Path.{◌≡◌, refl, sym, ap, ◌∙◌, subst}
-use mathlib.Core.Bool.{Bool, true, false}
-use mathlib.Core.List.{List, [], ◌∷◌, ◌++◌}
+use Prim.Native.Nat.{ℕ, ◌-◌, ◌≤◌}
+use mathlib.Core.Path.{◌≡◌, sym, subst}
+use mathlib.Core.Bool.{true}
+use mathlib.Core.List.{List}
 use mathlib.Core.Option.{some}
 use native.Mathlib.Omega.{arith}
 use lib.Dec.{leb}
@@ -12,9 +12,9 @@ use lib.Seq.{take-append_seam}
 use borrow.Author.Tests.{leb-true, le-leb}
 use Rattle.lists.specs.Bytes.{Bytes}
 use Rattle.lists.specs.Checked.{Checked, refused, ok, require, found, Holds, Placed, line}
-use Rattle.lists.specs.Refusal.{Refusal, number, target_short, device_bad, outcome_bad, too_new}
+use Rattle.lists.specs.Refusal.{Refusal, target_short, device_bad, outcome_bad, too_new}
 use Rattle.lists.specs.Sizes.{fullest_outcome, fullest_old}
-use Rattle.lists.proofs.Checked.{holds-bind, holds-seq, holds-require, holds-found, holds-map}
+use Rattle.lists.proofs.Checked.{holds-bind, holds-seq, holds-require, holds-found}
 use Rattle.device.specs.Device as D
 use Rattle.device.specs.Device.{Device, chain}
 use Rattle.outcome.specs.State as O

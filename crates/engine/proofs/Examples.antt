@@ -1,17 +1,13 @@
 -- Worked examples of running, as one computed claim: those of document 01 that are not marked, its mistakes that look right, and each
 -- refusal that reading does not give.
 -- Assumes nothing.
-use Prim.Native.Nat.{ℕ}
-use Prim.Native.String.{String}
 use mathlib.Core.Path.{◌≡◌, refl}
-use mathlib.Core.Bool.{true, false}
 use mathlib.Core.List.{List, [], ◌∷◌, ◌++◌}
 use lib.ListN.{take, drop, replicate}
 use Rattle.lists.specs.Quoted.{bytes}
 use Rattle.device.specs.Device as device
 use Rattle.engine.specs.Operations as operations
-use Rattle.engine.specs.Convert as convert
-use Rattle.engine.proofs.Cases.{Case, lists, sheets, answers, tries, leaves, wrong, properties, member, device_of, alone, tty, usb, chain16, changed, blank, answer, bare, empty, empty1, refused3, refused4, sound4, record_of}
+use Rattle.engine.proofs.Cases.{Case, lists, answers, leaves, wrong, properties, member, device_of, alone, tty, usb, chain16, changed, blank, answer, bare, empty, empty1, refused3, refused4, sound4, record_of}
 
 pub examples : List Case
 unfolding properties member device_of alone tty usb chain16 changed blank answer bare empty empty1 refused3 refused4 sound4 record_of

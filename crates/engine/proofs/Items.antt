@@ -1,11 +1,7 @@
 -- Worked examples of running for document 02's Items 4, 8, 9, 1, 10, 5 and 6, as one computed claim for each.
 -- Assumes nothing.
-use Prim.Native.Nat.{ℕ}
-use Prim.Native.String.{String}
 use mathlib.Core.Path.{◌≡◌, refl}
-use mathlib.Core.Bool.{true, false}
 use mathlib.Core.List.{List, [], ◌∷◌, ◌++◌}
-use lib.ListN.{take, drop, replicate}
 use Rattle.lists.specs.Quoted.{bytes}
 use Rattle.device.specs.Device as device
 use Rattle.engine.specs.Operations as operations

@@ -1,23 +1,23 @@
 -- A rule that was read leaves a state that may stand in a record.
 -- Assumes nothing.
-use Prim.Native.Nat.{ℕ, zero, suc, ◌+◌, ◌-◌, ◌*◌, ◌≤◌, ◌<◌}
-use mathlib.Core.Path.{◌≡◌, refl, sym, ap, ap₂, ◌∙◌, subst}
-use mathlib.Core.Bool.{Bool, true, false, not, ◌&&◌, ◌||◌}
-use mathlib.Core.List.{List, [], ◌∷◌, ◌++◌, map}
+use Prim.Native.Nat.{ℕ, suc, ◌+◌, ◌-◌, ◌≤◌, ◌<◌}
+use mathlib.Core.Path.{◌≡◌, refl, sym, ap, subst}
+use mathlib.Core.Bool.{Bool, true, false, not, ◌&&◌}
+use mathlib.Core.List.{List, [], ◌∷◌, map}
 use mathlib.Core.Option.{Option, none, some}
 use native.Mathlib.Omega.{arith}
-use lib.ListN.{length, length-append, length-map}
-use lib.Dec.{leb, ltb, eqb}
+use lib.ListN.{length, length-map}
+use lib.Dec.{leb, eqb}
 use lib.IntN.{ℤ, pos, negsuc}
 use borrow.Author.Tests.{le-leb, leb-true}
 use Rattle.lists.specs.Lists.{pick, is_empty, all, reject}
 use Rattle.lists.specs.Bytes.{between, same_bytes, clean, ok_text}
 use Rattle.lists.specs.Runs.{split_at}
-use Rattle.lists.specs.Checked.{Checked, refused, ok, ◌>>=◌, ◌>>◌, require, found, Holds}
+use Rattle.lists.specs.Checked.{Checked, refused, ok, require, found, Holds}
 use Rattle.lists.specs.Refusal.{Refusal, mode_bad, command_missing, mode_shared}
-use Rattle.lists.proofs.Checked.{holds-bind, holds-seq, holds-require, holds-found, holds-map}
+use Rattle.lists.proofs.Checked.{holds-bind, holds-seq, holds-require, holds-found}
 use Rattle.lists.proofs.Tests.{and_both, both_and}
-use Rattle.lists.proofs.Lists.{all_snoc, all_map, reject-all}
+use Rattle.lists.proofs.Lists.{all_map, reject-all}
 use Rattle.lists.proofs.Bytes.{split-clean}
 use Rattle.bits.specs.Signed.{from_signed}
 use Rattle.entries.specs.Entry.{Property, ok_prop}
@@ -25,10 +25,10 @@ use Rattle.rules.specs.Key.{Key, ACTION, DEVPATH, KERNEL, KERNELS, SUBSYSTEM, SU
 use Rattle.rules.specs.Pair.{Pair, Rule}
 use Rattle.rules.specs.Setting.{Setting, escape_none, escape_replace, watched, unwatched, priority, setting_of}
 use Rattle.device.specs.Device.{Member, Device, chain}
-use Rattle.outcome.specs.Content.{ok_link, ok_name, ok_owner, ok_output, octal, octal_from, ok_mode, mode_number, others_write}
+use Rattle.outcome.specs.Content.{ok_link, ok_name, ok_owner, ok_output, octal, ok_mode, mode_number, others_write}
 use Rattle.outcome.specs.Head.{Closed}
 use Rattle.outcome.specs.State.{Run, State, ModeBits, ok_run, ok_tag, Entries, Properties, Runs, Good}
-use Rattle.outcome.specs.Change.{with_closed, with_owner, with_group, with_mode, with_priority, with_output, with_watch, with_links, with_properties, with_tags, with_runs, shut_links, shut_tags, shut_runs, shut_owner, shut_group, shut_mode}
+use Rattle.outcome.specs.Change.{with_owner, with_group, with_mode, with_links, with_tags, with_runs, shut_links, shut_tags, shut_runs, shut_owner, shut_group, shut_mode}
 use Rattle.text.specs.Engine.{Stepped, went}
 use Rattle.lists.specs.Sizes.{most_chain, most_key, most_tag, most_tags, most_value, most_links, most_output, most_substituted}
 use Rattle.template.specs.Template.{well_formed}
@@ -38,11 +38,11 @@ use Rattle.outcome.specs.Edits.{property}
 use Rattle.outcome.proofs.Change.{closed_good, owner_good, group_good, mode_good, priority_good, output_good, watch_good, links_good, properties_good, tags_good, runs_good}
 use Rattle.outcome.proofs.Edits.{empty_entries, add-entry, remove_entry_lem, remove-property, set-property, empty_runs, add-run}
 use Rattle.engine.specs.Match.{parents_hold, nearest, has_parents, place_of, all_hold, matched}
-use Rattle.engine.specs.Substitute.{Source, substituted, within, filled}
-use Rattle.engine.specs.Assign.{Escape, unset, as_is, replaced, Work, left, link_byte, clean_byte, cleaned, is_as_is, clean_name, clean_value, kept, closing, is_remove}
+use Rattle.engine.specs.Substitute.{substituted, within, filled}
+use Rattle.engine.specs.Assign.{Escape, unset, as_is, replaced, Work, link_byte, clean_byte, cleaned, is_as_is, clean_name, clean_value, kept, closing, is_remove}
 use Rattle.engine.specs.Assign.{names_in, change_links, source_of, linked, change_entry, change_tags, tagged, run_for, change_runs, queued}
 use Rattle.engine.specs.Assign.{owner_in, owned, grouped, mode_in, moded, change_properties, valued, set_by, leaves, assigned, assign_pair, assign_all}
-use Rattle.engine.specs.Programs.{program_holds, stored, asked, ask_pair, asked_then, ask_all, results_hold}
+use Rattle.engine.specs.Programs.{stored, asked, ask_pair, asked_then, ask_all, results_hold}
 use Rattle.engine.specs.Step.{ended, begun, finished, step_at, step}
 use Rattle.sheet.specs.Sheet.{Reply, Sheet, ok_reply, reply_to}
 use Rattle.sheet.proofs.RoundTrip.{reply_sizes, reply_output}

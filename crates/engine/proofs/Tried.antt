@@ -5,14 +5,14 @@ use Prim.Native.Nat.{ℕ, suc, ◌+◌, ◌*◌, ◌≤◌, zero-le}
 use mathlib.Core.Path.{◌≡◌, refl, sym, ap, ◌∙◌, subst}
 use mathlib.Core.Bool.{Bool, true, false, ◌&&◌}
 use mathlib.Core.List.{List, [], ◌∷◌}
-use mathlib.Core.Option.{Option, none, some}
+use mathlib.Core.Option.{none, some}
 use native.Mathlib.Omega.{arith}
 use lib.Dec.{leb}
 use lib.ListN.{length}
 use Rattle.lists.specs.Checked.{Checked, refused, ok, require, found, Holds, Placed, line}
 use Rattle.lists.specs.Refusal.{Refusal, target_short, device_bad, outcome_bad, sheet_bad}
 use Rattle.lists.specs.Sizes.{fullest_outcome}
-use Rattle.lists.proofs.Checked.{holds-bind, holds-seq, holds-found, holds-map}
+use Rattle.lists.proofs.Checked.{holds-bind, holds-seq, holds-found}
 use Rattle.rules.specs.Pair.{Rule}
 use Rattle.rules.specs.Reading.{reader}
 use Rattle.device.specs.Device as D

@@ -1,15 +1,15 @@
 -- Document 01, Running: what an assignment does to the outcome, or why it is refused (30 to 36).
 -- Assumes nothing.
-use Rattle.std.specs.Prelude.{ℕ, zero, suc, ◌+◌, Bool, true, false, not, ◌&&◌, ◌||◌, List, [], ◌∷◌, ◌++◌, map, eqb, leb, ltb, length}
+use Rattle.std.specs.Prelude.{ℕ, Bool, true, false, not, ◌&&◌, ◌||◌, List, [], ◌∷◌, map, leb, length}
 use Rattle.std.proofs.Math.Option.{Option, none, some}
 use Rattle.lists.specs.Lists.{pick, is_empty, reject}
-use Rattle.lists.specs.Bytes.{is_digit, same_bytes, holds, among, is_letter}
+use Rattle.lists.specs.Bytes.{is_digit, holds, is_letter}
 use Rattle.lists.specs.Runs.{split_at}
 use Rattle.lists.specs.Checked.{Checked, refused, ok, ◌>>=◌, ◌>>◌, require}
 use Rattle.lists.specs.Sizes.{most_links, most_tags, most_runs}
 use Rattle.lists.specs.Refusal.{Refusal, link_bad, owner_bad, mode_bad, mode_shared}
 use Rattle.bits.specs.Signed.{from_signed}
-use Rattle.entries.specs.Entry.{Property, keys}
+use Rattle.entries.specs.Entry.{Property}
 use Rattle.rules.specs.Key.{Key, ACTION, DEVPATH, KERNEL, KERNELS, SUBSYSTEM, SUBSYSTEMS, DRIVER, DRIVERS, ATTR, ATTRS, ENV, SYMLINK, TAG, OWNER, GROUP, MODE, RUN, LABEL, GOTO, OPTIONS, PROGRAM, RESULT, Op, equal, unequal, assign, add, remove, final, is_match}
 use Rattle.rules.specs.Pair.{Pair, Rule, is_builtin}
 use Rattle.rules.specs.Setting.{Setting, escape_none, escape_replace, watched, unwatched, priority, setting_of}

@@ -1,10 +1,10 @@
 -- Document 01, Examples: the listing of a run and its close, as bytes.
 -- Assumes nothing.
-use Rattle.std.specs.Prelude.{ℕ, zero, suc, ◌+◌, ◌*◌, ◌/◌, ◌%◌, Bool, true, false, not, ◌&&◌, ◌||◌, List, [], ◌∷◌, ◌++◌, eqb, leb, ltb, length, ℤ, pos, negsuc}
+use Rattle.std.specs.Prelude.{ℕ, suc, ◌+◌, ◌/◌, ◌%◌, not, ◌&&◌, List, [], ◌∷◌, ◌++◌, eqb, ltb, ℤ, pos, negsuc}
 use Rattle.std.proofs.Math.Option.{Option, none, some}
 use Rattle.lists.specs.Lists.{pick, is_empty, cat}
 use Rattle.lists.specs.Bytes.{between}
-use Rattle.lists.specs.Checked.{Checked, refused, ok, ◌>>=◌, ◌>>◌, found, Placed, line, on_line}
+use Rattle.lists.specs.Checked.{Checked, refused, ok, ◌>>=◌, found, Placed, line, on_line}
 use Rattle.lists.specs.Refusal.{Refusal, number, device_bad}
 use Rattle.lists.specs.Sizes.{fullest_outcome}
 use Rattle.lists.specs.Quoted.{bytes}

@@ -1,6 +1,6 @@
 -- Document 01, Running: when the match keys of a rule hold, and at which device of the chain its parent keys do.
 -- Assumes nothing.
-use Rattle.std.specs.Prelude.{ℕ, zero, suc, Bool, true, false, not, ◌&&◌, ◌||◌, List, [], ◌∷◌, length}
+use Rattle.std.specs.Prelude.{ℕ, suc, Bool, true, false, not, ◌&&◌, List, [], ◌∷◌, length}
 use Rattle.std.proofs.Math.Option.{Option, none, some}
 use Rattle.lists.specs.Lists.{pick, all, any}
 use Rattle.lists.specs.Runs.{trim, ends_in_space}

@@ -1,10 +1,9 @@
 -- Document 02, Item 6: the PROGRAM and RESULT keys of a rule, by an answer sheet.
 -- Assumes nothing.
-use Rattle.std.specs.Prelude.{ℕ, Bool, true, false, not, List, [], ◌∷◌}
-use Rattle.std.proofs.Math.Option.{Option, none, some}
+use Rattle.std.specs.Prelude.{ℕ, Bool, true, false, not, [], ◌∷◌}
 use Rattle.lists.specs.Lists.{all}
 use Rattle.lists.specs.Runs.{chomp}
-use Rattle.lists.specs.Checked.{Checked, refused, ok, ◌>>=◌, ◌>>◌, found}
+use Rattle.lists.specs.Checked.{Checked, ok, ◌>>=◌, found}
 use Rattle.lists.specs.Refusal.{Refusal, command_missing}
 use Rattle.rules.specs.Key.{PROGRAM, RESULT, same_key, Op, equal, unequal, assign, add, remove, final}
 use Rattle.rules.specs.Pair.{Pair, Rule}

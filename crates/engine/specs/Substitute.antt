@@ -1,6 +1,6 @@
 -- Document 01, Patterns and templates: what each piece of a template inserts, and the substituted text.
 -- Assumes nothing.
-use Rattle.std.specs.Prelude.{ℕ, zero, suc, ◌+◌, ◌/◌, ◌%◌, Bool, true, false, not, List, [], ◌∷◌, ◌++◌, map, leb, ltb, length}
+use Rattle.std.specs.Prelude.{ℕ, Bool, true, false, List, [], ◌∷◌, ◌++◌, map, leb, length}
 use Rattle.std.proofs.Math.Option.{Option, none, some}
 use Rattle.lists.specs.Bytes.{no_space}
 use Rattle.lists.specs.Runs.{trim, end_digits}

@@ -3,8 +3,8 @@
 use Prim.Native.Nat.{ℕ}
 use Prim.Native.String.{String}
 use mathlib.Core.Path.{◌≡◌, refl}
-use mathlib.Core.Bool.{Bool, true, false, not, ◌&&◌}
-use mathlib.Core.List.{List, [], ◌∷◌, ◌++◌, map}
+use mathlib.Core.Bool.{Bool, true, false, ◌&&◌}
+use mathlib.Core.List.{List, [], ◌∷◌, ◌++◌}
 use lib.Dec.{eqb}
 use lib.ListN.{take, replicate}
 use Rattle.lists.specs.Bytes as bytes_of
@@ -39,7 +39,6 @@ use Rattle.engine.specs.Step as step
 use Rattle.engine.specs.Operations as operations
 use Rattle.engine.specs.Programs as programs
 use Rattle.sets.specs.Sets as sets
-use Rattle.sets.specs.Answer.{Answer}
 use Rattle.files.specs.Files as files
 use Rattle.files.specs.Files.{File, encode_files}
 use Rattle.files.specs.Operation as operation

@@ -1,19 +1,17 @@
 -- Document 02, Item 11: the files of a set run as their texts do one after another, and in any order that they are lent in.
 -- Assumes nothing.
-use Prim.Native.Nat.{ℕ, zero, suc, ◌+◌, ◌-◌, ◌≤◌}
-use mathlib.Core.Path.{◌≡◌, refl, sym, ap, ap₂, ◌∙◌, subst}
-use mathlib.Core.Bool.{Bool, true, false, not}
-use mathlib.Core.List.{List, [], ◌∷◌, ◌++◌, map}
-use mathlib.Core.Option.{Option, none, some}
-use native.Mathlib.Omega.{arith}
-use lib.Dec.{leb}
-use lib.ListN.{length, take, replicate}
+use Prim.Native.Nat.{ℕ, ◌+◌, ◌-◌, ◌≤◌}
+use mathlib.Core.Path.{◌≡◌, refl, sym, ap, ◌∙◌}
+use mathlib.Core.Bool.{Bool, true, false}
+use mathlib.Core.List.{List, [], ◌∷◌, map}
+use mathlib.Core.Option.{none, some}
+use lib.ListN.{length, replicate}
 use lib.Seq.{take-append_seam}
 use borrow.Author.Tests.{le-leb}
 use Rattle.lists.specs.Lists.{All}
 use Rattle.lists.specs.Bytes.{Bytes}
-use Rattle.lists.specs.Checked.{Checked, refused, ok, ◌>>=◌, ◌>>◌, require, found, Holds, Placed, line}
-use Rattle.lists.specs.Refusal.{Refusal, number, file_twice, device_bad, outcome_bad, sheet_bad}
+use Rattle.lists.specs.Checked.{Checked, refused, ok, ◌>>=◌, found, Holds, line}
+use Rattle.lists.specs.Refusal.{Refusal, number, device_bad, outcome_bad, sheet_bad}
 use Rattle.lists.specs.Sizes.{fullest_outcome}
 use Rattle.device.specs.Device as D
 use Rattle.device.specs.Device.{Device, chain}
@@ -22,7 +20,6 @@ use Rattle.outcome.specs.State.{State}
 use Rattle.outcome.proofs.RoundTrip.{back}
 use Rattle.text.specs.Lines.{lines}
 use Rattle.text.specs.Laws.{Laws}
-use Rattle.text.specs.Reading.{read_text}
 use Rattle.text.specs.Rules.{rules_of}
 use Rattle.text.specs.Running.{next, Halt, Ran, run_from}
 use Rattle.text.specs.Run as generic

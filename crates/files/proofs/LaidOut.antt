@@ -1,10 +1,10 @@
 -- Document 02, Item 11: every set of files within its size can be laid out and is read back; where a file stands.
 -- Assumes nothing.
 use Prim.Native.Nat.{ℕ, suc, ◌+◌, ◌≤◌}
-use mathlib.Core.Path.{◌≡◌, refl, sym, ap, ap₂, ◌∙◌, subst}
-use mathlib.Core.Bool.{Bool, true, false, not, ◌&&◌, ◌||◌}
+use mathlib.Core.Path.{◌≡◌, refl, sym, ap, ◌∙◌, subst}
+use mathlib.Core.Bool.{Bool, true, false, ◌&&◌, ◌||◌}
 use mathlib.Core.List.{List, [], ◌∷◌, ◌++◌, append_assoc}
-use mathlib.Core.Option.{Option, none, some}
+use mathlib.Core.Option.{some}
 use native.Mathlib.Omega.{arith}
 use lib.Dec.{leb}
 use lib.ListN.{length}
@@ -12,7 +12,7 @@ use Rattle.lists.specs.Lists.{pick, all, any, nth}
 use Rattle.lists.specs.Bytes.{Bytes}
 use Rattle.lists.proofs.Tests.{and_both, both_and}
 use Rattle.lists.proofs.Bytes.{bytes_rest}
-use Rattle.entries.specs.Parse.{Parse, got, bad, bind, keep}
+use Rattle.entries.specs.Parse.{got}
 use Rattle.entries.specs.Entry.{enc_text, one_text}
 use Rattle.entries.proofs.Rows.{Laws, through}
 use Rattle.entries.proofs.Entries.{text-laws, kept}

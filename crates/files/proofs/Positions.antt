@@ -1,13 +1,13 @@
 -- Document 02, Item 11: a text or running refusal is about a file of the set, so its position in the lent order leads to that name.
 -- Assumes nothing.
-use Prim.Native.Nat.{ℕ, suc, ◌+◌}
-use mathlib.Core.Path.{◌≡◌, refl, sym, ap, ap₂, ◌∙◌, subst}
-use mathlib.Core.Bool.{Bool, true, false, not, ◌&&◌, ◌||◌}
+use Prim.Native.Nat.{ℕ, ◌+◌}
+use mathlib.Core.Path.{◌≡◌, refl, ap, ◌∙◌, subst}
+use mathlib.Core.Bool.{Bool, true, false, not, ◌||◌}
 use mathlib.Core.List.{List, [], ◌∷◌}
 use mathlib.Core.Option.{Option, none, some}
 use lib.Dec.{eqb}
 use borrow.Author.Tests.{eq-eqb}
-use Rattle.lists.specs.Lists.{pick, any, reject, All}
+use Rattle.lists.specs.Lists.{any, reject, All}
 use Rattle.lists.specs.Checked.{Checked, refused, ok, ◌>>=◌, ◌>>◌, require, found, Placed, line}
 use Rattle.lists.specs.Refusal.{Refusal, file_twice, device_bad, outcome_bad, sheet_bad}
 use Rattle.lists.proofs.Lists.{pick_both, All-map}

@@ -1,26 +1,24 @@
 -- Document 02, Item 11: what is wanted of a set of files holds of the answers that are given back.
 -- Assumes nothing.
-use Prim.Native.Nat.{ℕ, suc, ◌+◌, ◌-◌, ◌≤◌, ◌<◌}
+use Prim.Native.Nat.{ℕ, suc, ◌-◌}
 use mathlib.Core.Path.{◌≡◌, refl, sym, ap, ◌∙◌}
 use mathlib.Core.Bool.{Bool, true, false}
 use mathlib.Core.List.{List, []}
 use mathlib.Core.Option.{Option, none, some}
 use native.Mathlib.Omega.{arith}
-use borrow.Author.Tests.{le-leb, leb-true}
+use borrow.Author.Tests.{le-leb}
 use lib.Dec.{leb}
 use lib.ListN.{length, replicate}
 use lib.Seq.{take-append_seam}
-use Rattle.lists.specs.Lists.{nth, any}
-use Rattle.lists.specs.Bytes.{same_bytes}
 use Rattle.lists.specs.Checked.{Checked, refused, ok}
 use Rattle.lists.specs.Refusal.{number, target_short}
 use Rattle.lists.specs.Sizes.{fullest_outcome}
 use Rattle.lists.proofs.Tests.{and_both}
 use Rattle.lists.proofs.Bytes.{same-eq}
 use Rattle.outcome.specs.State as O
-use Rattle.sets.specs.Answer.{Answer, of_set, refusal}
-use Rattle.files.specs.Files.{File, decode_files, same_file, same_name, position_from}
-use Rattle.files.specs.Operation.{FileFault, Left, run_files, position_of, files_answer, decoded, files}
+use Rattle.sets.specs.Answer.{of_set, refusal}
+use Rattle.files.specs.Files.{File, decode_files, same_name, position_from}
+use Rattle.files.specs.Operation.{FileFault, Left, run_files, position_of, files_answer, files}
 use Rattle.files.specs.Promise.{Reordered, name_of, name_at, told, FilesInTurn}
 use Rattle.files.proofs.LaidOut.{position_there}
 use Rattle.files.proofs.Positions.{Of, About, fault_of_lem}

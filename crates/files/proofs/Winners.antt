@@ -1,15 +1,14 @@
 -- Document 02, Item 11: another order of the files changes neither which of them count nor their order.
 -- Assumes nothing.
-use Prim.Native.Nat.{ℕ, ◌<◌}
-use mathlib.Core.Path.{◌≡◌, refl, sym, ap, ap₂, ◌∙◌, subst}
+use Prim.Native.Nat.{ℕ}
+use mathlib.Core.Path.{◌≡◌, refl, sym, ap, ap₂, ◌∙◌}
 use mathlib.Core.Bool.{Bool, true, false, not, ◌&&◌, ◌||◌}
 use mathlib.Core.List.{List, [], ◌∷◌}
 use native.Mathlib.Omega.{arith}
 use lib.Dec.{eqb, ltb}
 use borrow.Author.Tests.{ltb-false, eqb-false, lt-ltb}
 use Rattle.lists.specs.Lists.{pick, any, reject, All}
-use Rattle.lists.specs.Bytes.{same_bytes}
-use Rattle.lists.proofs.Tests.{and_both, both_and, neither, or-true, eqb-sym}
+use Rattle.lists.proofs.Tests.{both_and, neither, or-true, eqb-sym}
 use Rattle.lists.proofs.Lists.{All-map}
 use Rattle.lists.proofs.Bytes.{same-sym}
 use Rattle.files.specs.Files.{File, same_name, same_file, doubled, is_rules, above, loses, in_order, winners}

@@ -1,6 +1,6 @@
 -- Document 02, Item 11: what a set of files gives: 1, 7, 21, then the texts of the files that count, 3, 4, 6, and the runs of those files.
 -- Assumes nothing.
-use Rattle.std.specs.Prelude.{ℕ, ◌+◌, Bool, true, false, not, List, [], ◌∷◌, leb}
+use Rattle.std.specs.Prelude.{ℕ, ◌+◌, true, false, not, List, [], ◌∷◌, leb}
 use Rattle.std.proofs.Math.Option.{Option, none, some}
 use Rattle.lists.specs.Checked.{Checked, refused, ok, ◌>>=◌, ◌>>◌, require, found, Placed, line}
 use Rattle.lists.specs.Refusal.{Refusal, target_short, set_bad, file_twice, device_bad, outcome_bad, sheet_bad}

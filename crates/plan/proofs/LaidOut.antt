@@ -2,7 +2,7 @@
 -- Assumes nothing.
 use Prim.Native.Nat.{ℕ, ◌≤◌}
 use mathlib.Core.Path.{◌≡◌, refl, sym, ap, ◌∙◌, subst}
-use mathlib.Core.Bool.{Bool, true, false, ◌&&◌}
+use mathlib.Core.Bool.{Bool, true, false}
 use mathlib.Core.List.{List, [], ◌∷◌, ◌++◌, append_assoc}
 use mathlib.Core.Option.{Option, none, some, none-ne-some}
 use native.Mathlib.Omega.{arith}
@@ -13,7 +13,7 @@ use Rattle.lists.specs.Lists.{all}
 use Rattle.lists.specs.Bytes.{Bytes, between}
 use Rattle.lists.proofs.Tests.{and_both, both_and}
 use Rattle.lists.proofs.Bytes.{bytes_rest}
-use Rattle.entries.specs.Parse.{got, bind, many}
+use Rattle.entries.specs.Parse.{got, many}
 use Rattle.entries.specs.Entry.{enc_text, one_text}
 use Rattle.entries.proofs.Rows.{Laws, through, many-kept}
 use Rattle.entries.proofs.Entries.{text-laws}

@@ -1,24 +1,24 @@
 -- Document 02, Item 14: what is wanted of checker and planner holds.
 -- Assumes nothing.
-use Prim.Native.Nat.{ℕ, zero, suc, ◌+◌, ◌-◌, ◌*◌, ◌≤◌}
+use Prim.Native.Nat.{ℕ, suc, ◌*◌, ◌≤◌}
 use mathlib.Core.Path.{◌≡◌, refl, sym, ap, ap₂, ◌∙◌, subst}
-use mathlib.Core.Logic.{◌↔◌, ◌⊎◌, inl, inr}
-use mathlib.Core.Bool.{Bool, true, false, not, ◌&&◌, ◌||◌}
+use mathlib.Core.Logic.{◌↔◌, inl, inr}
+use mathlib.Core.Bool.{Bool, true, false, ◌&&◌}
 use mathlib.Core.List.{List, [], ◌∷◌, ◌++◌, map, append_assoc}
-use mathlib.Core.Option.{Option, none, some, some-injective}
+use mathlib.Core.Option.{some, some-injective}
 use native.Mathlib.Omega.{arith}
-use lib.Dec.{eqb, leb}
-use lib.ListN.{length, length-append, take, replicate}
+use lib.Dec.{leb}
+use lib.ListN.{length, length-append, take}
 use lib.Seq.{take-append_seam}
-use borrow.Author.Tests.{le-leb, leb-true}
-use Rattle.lists.specs.Lists.{pick, all, cat, All}
-use Rattle.lists.specs.Bytes.{Bytes, same_bytes, holds, distinct}
+use borrow.Author.Tests.{le-leb}
+use Rattle.lists.specs.Lists.{all, All}
+use Rattle.lists.specs.Bytes.{distinct}
 use Rattle.lists.specs.Runs.{span}
-use Rattle.lists.specs.Checked.{Checked, refused, ok, ◌>>=◌, ◌>>◌, require, found, Holds, Placed, line, in_place}
-use Rattle.lists.specs.Refusal.{Refusal, number, target_short, set_bad, device_bad}
-use Rattle.lists.specs.Sizes.{most_text, most_rules, fullest_outcome}
-use Rattle.lists.proofs.Tests.{and_both, neither, both_and}
-use Rattle.lists.proofs.Bytes.{same-eq, same_refl, eq-same}
+use Rattle.lists.specs.Checked.{Checked, refused, ok, found, Holds, Placed, line, in_place}
+use Rattle.lists.specs.Refusal.{Refusal, number, set_bad, device_bad}
+use Rattle.lists.specs.Sizes.{most_text, fullest_outcome}
+use Rattle.lists.proofs.Tests.{and_both}
+use Rattle.lists.proofs.Bytes.{same-eq, same_refl}
 use Rattle.lists.proofs.Lists.{All-map, all_each}
 use Rattle.lists.proofs.Checked.{holds-map, holds-bind, holds-found, holds_at}
 use Rattle.rules.specs.Pair.{Rule, value_of}
@@ -33,10 +33,10 @@ use Rattle.outcome.proofs.Fits.{fits}
 use Rattle.outcome.proofs.Fresh.{fresh_good, fresh_read}
 use Rattle.device.proofs.Sound.{device_sound}
 use Rattle.text.specs.Lines.{blank, stage_of, lines_in, numbered, lines, unjoined}
-use Rattle.text.specs.Engine.{LineRead, skip, fault, rule, went}
+use Rattle.text.specs.Engine.{LineRead, skip, rule, went}
 use Rattle.text.specs.Reading.{rule_count, read_lent, reads, read_text}
 use Rattle.text.specs.Rules.{rules_in, rules_of}
-use Rattle.text.specs.Running.{Mode, next, Halt, Ran, run_from}
+use Rattle.text.specs.Running.{next, Halt, Ran, run_from}
 use Rattle.text.specs.Run.{Answer}
 use Rattle.text.specs.Engine.{Engine}
 use Rattle.text.specs.Laws.{Laws}
@@ -44,7 +44,7 @@ use Rattle.text.proofs.Lines.{lines_seam, flat_line, flat_newlines}
 use Rattle.text.proofs.Unjoined.{unjoined-same}
 use Rattle.text.proofs.Collect.{Faultless}
 use Rattle.text.proofs.Settle.{Settled}
-use Rattle.text.proofs.Texts.{Parts, Read, read, read_ok}
+use Rattle.text.proofs.Texts.{Parts, read, read_ok}
 use Rattle.text.proofs.Sound.{Sound, run_sound, lines_read}
 use Rattle.text.proofs.Runs.{refusal-number}
 use Rattle.sheet.specs.Sheet as sheet

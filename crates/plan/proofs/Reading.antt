@@ -1,20 +1,19 @@
 -- A planned rule reads as the two pairs that it was made of.
 -- Assumes nothing.
-use Prim.Native.Nat.{ℕ, zero, suc, ◌+◌, ◌≤◌, ◌<◌}
+use Prim.Native.Nat.{ℕ, ◌≤◌}
 use mathlib.Core.Path.{◌≡◌, refl, sym, ap, ap₂, ◌∙◌, subst}
 use mathlib.Core.Bool.{Bool, true, false, not, ◌&&◌, ◌||◌}
 use mathlib.Core.List.{List, [], ◌∷◌, ◌++◌, map, append_assoc}
-use mathlib.Core.Option.{Option, none, some}
+use mathlib.Core.Option.{some}
 use native.Mathlib.Omega.{arith}
 use lib.Dec.{eqb, leb}
 use lib.ListN.{length, length-append}
-use borrow.Author.Tests.{eqb-true, le-leb, not-true}
-use Rattle.lists.specs.Lists.{pick, all, any, is_some, reject, cat}
+use borrow.Author.Tests.{eqb-true, le-leb}
+use Rattle.lists.specs.Lists.{all, is_some}
 use Rattle.lists.specs.Bytes.{same_bytes, holds}
-use Rattle.lists.specs.Runs.{Part, span, split_at}
-use Rattle.lists.specs.Items.{items, before}
-use Rattle.lists.specs.Checked.{Checked, refused, ok}
-use Rattle.lists.specs.Refusal.{Refusal}
+use Rattle.lists.specs.Runs.{span}
+use Rattle.lists.specs.Items.{before}
+use Rattle.lists.specs.Checked.{ok}
 use Rattle.lists.specs.Sizes.{most_line}
 use Rattle.lists.specs.Quoted.{bytes}
 use Rattle.lists.proofs.Tests.{and_both, neither}

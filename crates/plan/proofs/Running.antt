@@ -1,16 +1,16 @@
 -- A planned rule does nothing on a device of another path, and names the device of its own.
 -- Assumes nothing.
-use Prim.Native.Nat.{ℕ, zero, suc, ◌+◌, ◌≤◌, ◌<◌}
-use mathlib.Core.Path.{◌≡◌, refl, sym, ap, ap₂, ◌∙◌, subst}
+use Prim.Native.Nat.{ℕ, suc, ◌≤◌}
+use mathlib.Core.Path.{◌≡◌, refl, sym, ap, ap₂, ◌∙◌}
 use mathlib.Core.Logic.{◌⊎◌, inl, inr}
 use mathlib.Core.Bool.{Bool, true, false, not, ◌&&◌, ◌||◌}
-use mathlib.Core.List.{List, [], ◌∷◌, ◌++◌, map}
+use mathlib.Core.List.{List, [], ◌∷◌, map}
 use mathlib.Core.Option.{Option, none, some}
 use native.Mathlib.Omega.{arith}
 use lib.Dec.{eqb, leb}
 use lib.ListN.{length}
 use borrow.Author.Tests.{le-leb, leb-true, not-true}
-use Rattle.lists.specs.Lists.{pick, all, any, reject, is_empty, All}
+use Rattle.lists.specs.Lists.{pick, all, is_empty, All}
 use Rattle.lists.specs.Bytes.{same_bytes, among, distinct}
 use Rattle.lists.specs.Runs.{split_at}
 use Rattle.lists.specs.Checked.{Checked, refused, ok, ◌>>=◌, Placed, line}
@@ -19,7 +19,7 @@ use Rattle.lists.proofs.Tests.{and_both, neither, or-true}
 use Rattle.lists.proofs.Bytes.{same_refl, same-eq}
 use Rattle.lists.proofs.Scan.{part-all}
 use Rattle.pattern.proofs.Plain.{plain-matches}
-use Rattle.template.specs.Template.{Piece, written, pieces}
+use Rattle.template.specs.Template.{Piece, written}
 use Rattle.rules.specs.Key.{SYMLINK}
 use Rattle.rules.specs.Pair.{Rule, value_of}
 use Rattle.device.specs.Device.{Device}
@@ -27,11 +27,11 @@ use Rattle.outcome.specs.Content.{ok_name, ok_part}
 use Rattle.outcome.specs.State.{State}
 use Rattle.outcome.specs.Change.{with_links}
 use Rattle.outcome.specs.Edits.{add_entry}
-use Rattle.text.specs.Engine.{Stepped, went}
-use Rattle.text.specs.Running.{Mode, next, Halt, Ran, more, run_from}
+use Rattle.text.specs.Engine.{went}
+use Rattle.text.specs.Running.{next, Ran, more, run_from}
 use Rattle.engine.specs.Match.{matched, tried, all_hold, pair_holds, key_holds, value_holds, place_of, has_parents}
 use Rattle.engine.specs.Substitute.{Source, inserted, piece_text, text_of, pieces_of, substituted, within, filled}
-use Rattle.engine.specs.Assign.{Work, unset, link_byte, clean_byte, cleaned, names_in, source_of, change_entry, change_links, linked, leaves, assigned, assign_pair, assign_all}
+use Rattle.engine.specs.Assign.{Work, unset, link_byte, cleaned, names_in, source_of, change_entry, change_links, linked, leaves, assigned, assign_pair, assign_all}
 use Rattle.sheet.specs.Sheet.{Sheet}
 use Rattle.engine.specs.Programs.{ask_pair, ask_all, result_holds, results_hold}
 use Rattle.engine.specs.Step.{ended, begun, finished, step_at, step}

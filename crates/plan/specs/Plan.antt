@@ -1,6 +1,6 @@
 -- Document 02, Item 14: when a rules text names devices as wanted, when a plan is due, and the text that is planned.
 -- Assumes nothing.
-use Rattle.std.specs.Prelude.{ℕ, Bool, true, false, ◌&&◌, ◌||◌, List, [], ◌∷◌, ◌++◌, map, leb, length}
+use Rattle.std.specs.Prelude.{ℕ, Bool, false, ◌&&◌, ◌||◌, List, [], ◌∷◌, ◌++◌, map, leb, length}
 use Rattle.lists.specs.Lists.{all, cat}
 use Rattle.lists.specs.Bytes.{is_letter, is_digit, same_bytes, holds, distinct}
 use Rattle.lists.specs.Quoted.{bytes}
