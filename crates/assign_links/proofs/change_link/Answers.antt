@@ -25,7 +25,7 @@ returns-in-Done c =
     let if1 = c.if-not-ok_name in
     let change-entry = c.change_entry in
     λ n s h.
-    link_left entry.name.now ok-name.result ok-name.ensures (operator_of entry.operator) s if1.false n _
+    link_left entry.name.now ok-name.result ok-name.ensures (operator_of entry.operator) s if1.false-raw n _
     change-entry.result (change-entry.ensures n s h) c.in-Done.left c.in-Done.is
 
 pub returns-in-Full : goal.returns-in-Full
@@ -35,5 +35,5 @@ returns-in-Full c =
     let if1 = c.if-not-ok_name in
     let change-entry = c.change_entry in
     λ n s h.
-    link_full entry.name.now ok-name.result ok-name.ensures (operator_of entry.operator) s if1.false n _
+    link_full entry.name.now ok-name.result ok-name.ensures (operator_of entry.operator) s if1.false-raw n _
     change-entry.result (change-entry.ensures n s h) c.in-Full.is
