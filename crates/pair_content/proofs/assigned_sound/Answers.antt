@@ -37,23 +37,8 @@ returns-in-Attrs c = rw c.in-Attrs.is
 pub returns-in-Env : goal.returns-in-Env
 returns-in-Env c = rw c.in-Env.is
 
-pub returns-in-Symlink : goal.returns-in-Symlink
-returns-in-Symlink c = rw c.in-Symlink.is c.well-formed.ensures
-
 pub returns-in-Tag : goal.returns-in-Tag
 returns-in-Tag c = rw c.in-Tag.is
-
-pub returns-in-Owner : goal.returns-in-Owner
-returns-in-Owner c = rw c.in-Owner.is c.well-formed2.ensures
-
-pub returns-in-Group : goal.returns-in-Group
-returns-in-Group c = rw c.in-Group.is c.well-formed3.ensures
-
-pub returns-in-Mode : goal.returns-in-Mode
-returns-in-Mode c = rw c.in-Mode.is c.well-formed4.ensures
-
-pub returns-in-Run : goal.returns-in-Run
-returns-in-Run c = rw c.in-Run.is c.well-formed5.ensures
 
 pub returns-in-Label : goal.returns-in-Label
 returns-in-Label c = rw c.in-Label.is (ap not (length-empty c.args.value.now))
@@ -63,9 +48,6 @@ returns-in-Goto c = rw c.in-Goto.is (ap not (length-empty c.args.value.now))
 
 pub returns-in-Options : goal.returns-in-Options
 returns-in-Options c = rw c.in-Options.is c.is_setting.ensures
-
-pub returns-in-Program : goal.returns-in-Program
-returns-in-Program c = rw c.in-Program.is c.well-formed6.ensures
 
 pub returns-in-Result : goal.returns-in-Result
 returns-in-Result c = rw c.in-Result.is

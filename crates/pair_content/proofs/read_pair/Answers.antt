@@ -19,31 +19,28 @@ pub returns-in-Plain : goal.returns-in-Plain
 returns-in-Plain c =
     let args = c.args in
     let read = c.read_pair in
-    let given = c.in-Read.given in
-    let p = given.0.0 in
+    let p = c.in-Read.p in
     let w : ContentIs Plain (key_of p.key) (operator_of p.operator) (unescaped p.coded (part args.line.now p.start p.end))
     = rw c.in-Plain.is at c.written_form.ensures in
-    (pair_sound args.line.now args.at read.result read.ensures.0 p given.1 w.0, rw given.1 at read.ensures.1, λ e. w.1)
+    (pair_sound args.line.now args.at read.result read.ensures.0 p c.in-Read.is w.0, rw c.in-Read.is at read.ensures.1, λ e. w.1)
 
 pub returns-in-Sound : goal.returns-in-Sound
 returns-in-Sound c =
     let args = c.args in
     let read = c.read_pair in
-    let given = c.in-Read.given in
-    let p = given.0.0 in
+    let p = c.in-Read.p in
     let w : ContentIs Sound (key_of p.key) (operator_of p.operator) (unescaped p.coded (part args.line.now p.start p.end))
     = rw c.in-Sound.is at c.written_form.ensures in
-    (pair_sound args.line.now args.at read.result read.ensures.0 p given.1 w, rw given.1 at read.ensures.1, unmarked (unescaped p.coded (part args.line.now p.start p.end)))
+    (pair_sound args.line.now args.at read.result read.ensures.0 p c.in-Read.is w, rw c.in-Read.is at read.ensures.1, unmarked (unescaped p.coded (part args.line.now p.start p.end)))
 
 pub returns-in-Faulty : goal.returns-in-Faulty
 returns-in-Faulty c =
     let args = c.args in
     let read = c.read_pair in
-    let given = c.in-Read.given in
-    let p = given.0.0 in
+    let p = c.in-Read.p in
     let w : ContentIs Faulty (key_of p.key) (operator_of p.operator) (unescaped p.coded (part args.line.now p.start p.end))
     = rw c.in-Faulty.is at c.written_form.ensures in
-    (pair_unsound args.line.now args.at read.result read.ensures.0 p given.1 w, tt, tt)
+    (pair_unsound args.line.now args.at read.result read.ensures.0 p c.in-Read.is w, tt, tt)
 
 pub returns-in-Refused : goal.returns-in-Refused
 returns-in-Refused c =
