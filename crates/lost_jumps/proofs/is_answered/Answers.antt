@@ -10,46 +10,33 @@ loop-i-init c = (omega arith, λ t m used x k p q. absurd (omega arith))
 
 pub is_label-requires : goal.is_label-requires
 is_label-requires c =
-    let loop-test = c.loop-i-test in
     let pre = c.requires in
-    let (t, (m, (used, x))) = pre.2 in (omega (arith, pre.1, loop-test.true), (t, (m, (used, (c.args.count, loop-test.true, x)))))
+    let (t, (m, (used, x))) = pre.2 in (omega (arith, pre.1, c.loop-i-test.true), (t, (m, (used, (c.args.count, c.loop-i-test.true, x)))))
 
 pub returns-then-is_label : goal.returns-then-is_label
 returns-then-is_label c =
-    let loop = c.loop-i in
-    let loop-test = c.loop-i-test in
-    let is-label = c.is_label in
-    let if1 = c.if-is_label in
     λ t m used x.
     let a = c.args in
-    answered-here a.values.now a.rows.now t a.name.now a.from a.count loop.i loop.invariant.0 (loop.invariant.1 t m used x) loop-test.true
-    (sym (is-label.ensures t m used a.count loop-test.true x) ∙ if1.true)
+    answered-here a.values.now a.rows.now t a.name.now a.from a.count c.loop-i.i c.loop-i.invariant.0 (c.loop-i.invariant.1 t m used x) c.loop-i-test.true
+    (sym (c.is_label.ensures t m used a.count c.loop-i-test.true x) ∙ c.if-is_label.true)
 
 pub overflow_add-i : goal.overflow_add-i
 overflow_add-i c =
-    let loop-test = c.loop-i-test in
-    omega (arith, loop-test.true)
+    omega (arith, c.loop-i-test.true)
 
 pub loop-i-smaller : goal.loop-i-smaller
 loop-i-smaller c =
-    let loop-test = c.loop-i-test in
-    omega (arith, loop-test.true)
+    omega (arith, c.loop-i-test.true)
 
 pub loop-i-preserved : goal.loop-i-preserved
 loop-i-preserved c =
-    let loop = c.loop-i in
-    let is-label = c.is_label in
-    let loop-test = c.loop-i-test in
-    let if1 = c.if-is_label in
     let a = c.args in (
-      omega (arith, loop.invariant.0),
-      λ t m used x. none_more a.values.now a.rows.now t a.name.now a.from loop.i (loop.invariant.1 t m used x) (sym (is-label.ensures t m used a.count loop-test.true x) ∙ if1.false),
+      omega (arith, c.loop-i.invariant.0),
+      λ t m used x. none_more a.values.now a.rows.now t a.name.now a.from c.loop-i.i (c.loop-i.invariant.1 t m used x) (sym (c.is_label.ensures t m used a.count c.loop-i-test.true x) ∙ c.if-is_label.false),
     )
 
 pub returns : goal.returns
 returns c =
-    let loop = c.loop-i in
-    let loop-test = c.loop-i-test in
     λ t m used x.
     let a = c.args in
-    answered_nowhere a.values.now a.rows.now t a.name.now a.from a.count loop.i loop.invariant.0 (loop.invariant.1 t m used x) loop-test.false c.requires.0
+    answered_nowhere a.values.now a.rows.now t a.name.now a.from a.count c.loop-i.i c.loop-i.invariant.0 (c.loop-i.invariant.1 t m used x) c.loop-i-test.false c.requires.0

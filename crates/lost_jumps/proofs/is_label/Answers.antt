@@ -11,85 +11,62 @@ use Rattle.lost_jumps.proofs.is_label.Goals as goal
 
 pub returns-then-row-eq0 : goal.returns-then-row-eq0
 returns-then-row-eq0 c =
-    let number_at = c.number_at-row in
-    let if1 = c.if-row-eq0 in
     λ t m used n h x.
     let a = c.args in
-    label-none a.values.now a.rows.now t a.labels.now m used n a.i x h a.name.now (sym number_at.ensures.0 ∙ if1.true)
+    label-none a.values.now a.rows.now t a.labels.now m used n a.i x h a.name.now (sym c.number_at-row.ensures.0 ∙ c.if-row-eq0.true)
 
 pub number_at-start-requires : goal.number_at-start-requires
 number_at-start-requires c =
-    let number_at = c.number_at-row in
-    let if1 = c.if-row-eq0 in
     let a = c.args in
     let (t, (m, (used, (n, h, x)))) = c.requires.1 in
-    let there : 0 < get_or a.labels.now a.i 0 = omega (arith, number_at.ensures.0, if1.false) in
+    let there : 0 < get_or a.labels.now a.i 0 = omega (arith, c.number_at-row.ensures.0, c.if-row-eq0.false) in
     let p = name-places a.values.now a.rows.now t a.labels.now m used n a.i x h a.name.now there in
-    omega (arith, p.2, number_at.ensures.0)
+    omega (arith, p.2, c.number_at-row.ensures.0)
 
 pub number_at-end-requires : goal.number_at-end-requires
 number_at-end-requires c =
-    let number_at = c.number_at-row in
-    let if1 = c.if-row-eq0 in
     let a = c.args in
     let (t, (m, (used, (n, h, x)))) = c.requires.1 in
-    let there : 0 < get_or a.labels.now a.i 0 = omega (arith, number_at.ensures.0, if1.false) in
+    let there : 0 < get_or a.labels.now a.i 0 = omega (arith, c.number_at-row.ensures.0, c.if-row-eq0.false) in
     let p = name-places a.values.now a.rows.now t a.labels.now m used n a.i x h a.name.now there in
-    omega (arith, p.2, number_at.ensures.0)
+    omega (arith, p.2, c.number_at-row.ensures.0)
 
 pub slice_bounds-same-count : goal.slice_bounds-same-count
 slice_bounds-same-count c =
-    let number_at = c.number_at-row in
-    let if1 = c.if-row-eq0 in
-    let number-at2 = c.number_at-start in
-    let number-at3 = c.number_at-end in
     let a = c.args in
     let (t, (m, (used, (n, h, x)))) = c.requires.1 in
-    let there : 0 < get_or a.labels.now a.i 0 = omega (arith, number_at.ensures.0, if1.false) in
+    let there : 0 < get_or a.labels.now a.i 0 = omega (arith, c.number_at-row.ensures.0, c.if-row-eq0.false) in
     let p = name-places a.values.now a.rows.now t a.labels.now m used n a.i x h a.name.now there in
-    let start = rw number_at.ensures.0 at number-at2.ensures.0 in
-    let end = rw number_at.ensures.0 at number-at3.ensures.0 in
+    let start = rw c.number_at-row.ensures.0 at c.number_at-start.ensures.0 in
+    let end = rw c.number_at-row.ensures.0 at c.number_at-end.ensures.0 in
     omega (arith, p.0, p.1, start, end)
 
 pub slice_bounds-same-start : goal.slice_bounds-same-start
 slice_bounds-same-start c =
-    let number_at = c.number_at-row in
-    let if1 = c.if-row-eq0 in
-    let number-at2 = c.number_at-start in
-    let number-at3 = c.number_at-end in
     let a = c.args in
     let (t, (m, (used, (n, h, x)))) = c.requires.1 in
-    let there : 0 < get_or a.labels.now a.i 0 = omega (arith, number_at.ensures.0, if1.false) in
+    let there : 0 < get_or a.labels.now a.i 0 = omega (arith, c.number_at-row.ensures.0, c.if-row-eq0.false) in
     let p = name-places a.values.now a.rows.now t a.labels.now m used n a.i x h a.name.now there in
-    let start = rw number_at.ensures.0 at number-at2.ensures.0 in
-    let end = rw number_at.ensures.0 at number-at3.ensures.0 in
+    let start = rw c.number_at-row.ensures.0 at c.number_at-start.ensures.0 in
+    let end = rw c.number_at-row.ensures.0 at c.number_at-end.ensures.0 in
     omega (arith, p.0, p.1, start, end)
 
 pub slice_bounds-same-end : goal.slice_bounds-same-end
 slice_bounds-same-end c =
-    let number_at = c.number_at-row in
-    let if1 = c.if-row-eq0 in
-    let number-at2 = c.number_at-start in
-    let number-at3 = c.number_at-end in
     let a = c.args in
     let (t, (m, (used, (n, h, x)))) = c.requires.1 in
-    let there : 0 < get_or a.labels.now a.i 0 = omega (arith, number_at.ensures.0, if1.false) in
+    let there : 0 < get_or a.labels.now a.i 0 = omega (arith, c.number_at-row.ensures.0, c.if-row-eq0.false) in
     let p = name-places a.values.now a.rows.now t a.labels.now m used n a.i x h a.name.now there in
-    let start = rw number_at.ensures.0 at number-at2.ensures.0 in
-    let end = rw number_at.ensures.0 at number-at3.ensures.0 in
+    let start = rw c.number_at-row.ensures.0 at c.number_at-start.ensures.0 in
+    let end = rw c.number_at-row.ensures.0 at c.number_at-end.ensures.0 in
     omega (arith, p.0, p.1, start, end)
 
 pub returns : goal.returns
 returns c =
-    let number_at = c.number_at-row in
-    let if1 = c.if-row-eq0 in
-    let number-at2 = c.number_at-start in
-    let number-at3 = c.number_at-end in
-    let same = c.same in
     λ t m used n h x.
     let a = c.args in
-    let there : 0 < get_or a.labels.now a.i 0 = omega (arith, number_at.ensures.0, if1.false) in
+    let there : 0 < get_or a.labels.now a.i 0 = omega (arith, c.number_at-row.ensures.0, c.if-row-eq0.false) in
     let named : ℕ → ℕ → Bool = λ s f. same_bytes a.name.now (part a.values.now s f) in
-    let start = rw number_at.ensures.0 at number-at2.ensures.0 in
-    let end = rw number_at.ensures.0 at number-at3.ensures.0 in
-    same.ensures ∙ ap₂ named start end ∙ label_same a.values.now a.rows.now t a.labels.now m used n a.i x h a.name.now there
+    let start = rw c.number_at-row.ensures.0 at c.number_at-start.ensures.0 in
+    let end = rw c.number_at-row.ensures.0 at c.number_at-end.ensures.0 in
+    c.same.ensures ∙ ap₂ named start end ∙ label_same a.values.now a.rows.now t a.labels.now m used n a.i x h a.name.now there
