@@ -1,5 +1,6 @@
 -- `lines::is_gone` meets its contract.
 use mathlib.Core.Path.{sym}
+use native.Mathlib.Omega.{arith}
 use Rattle.lines.proofs.Copy.{newline_goes, slash-goes, slash_stays, other_stays}
 use Rattle.lines.proofs.is_gone.Goals as goal
 
@@ -17,4 +18,4 @@ returns-else-next-end c =
 
 pub returns-in_default : goal.returns-in_default
 returns-in_default c =
-    sym (other_stays c.args.text.now c.args.at c.args.end c.requires.0 c.requires.1 c.in_default.rest.0.1 c.in_default.rest.1)
+    sym (other_stays c.args.text.now c.args.at c.args.end c.requires.0 c.requires.1 (λ e. omega arith) (λ e. omega arith))

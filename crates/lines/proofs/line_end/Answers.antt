@@ -18,12 +18,11 @@ ended-requires c =
     let turn = c.loop-i in
     (c.requires, scan_newline c.args.text.now c.args.at turn.i turn.invariant (omega arith) c.in-10.is)
 
-pub loop-i-preserved : goal.loop-i-preserved
-loop-i-preserved c =
-    let turn = c.loop-i in
-    scan_other c.args.text.now c.args.at turn.i turn.invariant (omega arith) c.in_default.rest.0.1 c.in_default.rest.1
-
 pub ended-requires-2 : goal.ended-requires-2
 ended-requires-2 c =
     let turn = c.loop-i in
     (c.requires, scan_out c.args.text.now c.args.at turn.i turn.invariant (omega arith))
+
+pub loop-i-preserved : goal.loop-i-preserved
+loop-i-preserved c =
+    scan_other c.args.text.now c.args.at c.loop-i.i c.loop-i.invariant (omega arith) (λ e. omega arith) (λ e. omega arith)
