@@ -1,12 +1,11 @@
 -- Document 02, Item 13: with a key closed, a rule does what it does without its assignments to that key.
 -- Assumes nothing.
 use Prim.Native.Nat.{ℕ, suc}
-use mathlib.Core.Path.{◌≡◌, refl, sym, ap, ap₂, ◌∙◌, subst}
+use mathlib.Core.Path.{◌≡◌, refl, sym, ap, ap₂, ◌∙◌}
 use mathlib.Core.Bool.{Bool, true, false, not, ◌&&◌, ◌||◌}
 use mathlib.Core.List.{List, [], ◌∷◌}
 use mathlib.Core.Option.{Option, none, some, some-injective}
 use native.Mathlib.Omega.{arith}
-use lib.Dec.{eqb}
 use lib.ListN.{length}
 use borrow.Author.Tests.{eqb-true, not-true}
 use Rattle.lists.specs.Lists.{pick, all, any, reject, nth}
@@ -17,11 +16,11 @@ use Rattle.rules.specs.Key.{Key, ACTION, DEVPATH, KERNEL, KERNELS, SUBSYSTEM, SU
 use Rattle.rules.specs.Pair.{Pair, Rule, value_of, label_of, goto_of}
 use Rattle.device.specs.Device.{Member, Device, chain}
 use Rattle.outcome.specs.State.{State}
-use Rattle.engine.specs.Match.{pair_holds, key_holds, all_hold, is_parent, has_parents, parent_holds, parents_hold, nearest, place_of, matched, place_or, tried}
+use Rattle.engine.specs.Match.{pair_holds, all_hold, is_parent, has_parents, parent_holds, parents_hold, nearest, place_of, matched, place_or, tried}
 use Rattle.engine.specs.Assign.{Work, leaves, linked, tagged, queued, owned, grouped, moded, assigned, assign_pair, assign_all}
 use Rattle.text.specs.Engine.{Stepped, went}
 use Rattle.sheet.specs.Sheet.{Sheet}
-use Rattle.engine.specs.Programs.{asked, ask_pair, asked_then, ask_all, result_holds, results_hold}
+use Rattle.engine.specs.Programs.{ask_pair, asked_then, ask_all, result_holds, results_hold}
 use Rattle.engine.specs.Step.{ended, begun, finished, step_at, step}
 use Rattle.closing.specs.Closing.{ClosingKey, links, tags, runs, owner, group, mode, key_of, is_closed, assigns_to, drop_rule}
 use Rattle.closing.proofs.Stays.{same-closed, Stays, pair_stays, StepStays, asks_stay}

@@ -4,7 +4,7 @@ use Prim.Native.Nat.{ℕ}
 use Prim.Native.String.{String}
 use mathlib.Core.Path.{◌≡◌, refl}
 use mathlib.Core.Bool.{Bool, true, false, ◌&&◌}
-use mathlib.Core.List.{List, [], ◌∷◌, ◌++◌}
+use mathlib.Core.List.{List, [], ◌∷◌}
 use lib.Dec.{eqb}
 use lib.ListN.{take}
 use Rattle.lists.specs.Bytes as bytes_of
@@ -41,7 +41,6 @@ use Rattle.engine.specs.Operations as operations
 use Rattle.engine.specs.Programs as programs
 use Rattle.writing.specs.Writing as writing
 use Rattle.striking.specs.Striking as striking
-use Rattle.closing.specs.Closing as closing
 use Rattle.closing.specs.Closing.{ClosingKey, links, tags, runs, owner, group, mode}
 use Rattle.closing.specs.Dropping as dropping
 

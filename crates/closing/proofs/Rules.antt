@@ -1,6 +1,6 @@
 -- Document 02, Item 13: from a record in which a key is closed, the rules without the assignments to it run as all rules do.
 -- Assumes nothing.
-use Prim.Native.Nat.{ℕ, suc, ◌+◌}
+use Prim.Native.Nat.{ℕ, ◌+◌}
 use mathlib.Core.Path.{◌≡◌, refl, sym, ap, ap₂, ◌∙◌, subst}
 use mathlib.Core.Bool.{Bool, true, false}
 use mathlib.Core.List.{List, [], ◌∷◌}
@@ -9,7 +9,7 @@ use Rattle.lists.specs.Lists.{pick}
 use Rattle.lists.specs.Checked.{Checked, refused, ok, Holds, Placed, line}
 use Rattle.lists.specs.Refusal.{Refusal}
 use Rattle.lists.proofs.Checked.{holds-map}
-use Rattle.rules.specs.Pair.{Pair, Rule, value_of, label_of, goto_of}
+use Rattle.rules.specs.Pair.{Rule, value_of, label_of, goto_of}
 use Rattle.device.specs.Device.{Device}
 use Rattle.outcome.specs.State.{State}
 use Rattle.text.specs.Engine.{Stepped, went}

@@ -1,8 +1,8 @@
 -- Document 02, Item 13: an assignment leaves what stands under a closed key.
 -- Assumes nothing.
 use Prim.Native.Nat.{ℕ}
-use mathlib.Core.Path.{◌≡◌, refl, sym, ap, ◌∙◌, subst}
-use mathlib.Core.Bool.{Bool, true, false, not, ◌&&◌}
+use mathlib.Core.Path.{◌≡◌, refl, sym, ◌∙◌}
+use mathlib.Core.Bool.{Bool, true, false, not}
 use mathlib.Core.List.{List, [], ◌∷◌}
 use mathlib.Core.Option.{Option, none, some}
 use native.Mathlib.Omega.{arith}
@@ -22,9 +22,9 @@ use Rattle.outcome.specs.Change.{with_closed, with_owner, with_group, with_mode,
 use Rattle.text.specs.Engine.{Stepped, went}
 use Rattle.engine.specs.Match.{matched}
 use Rattle.engine.specs.Substitute.{filled}
-use Rattle.engine.specs.Assign.{Work, left, is_as_is, kept, closing, names_in, change_links, source_of, linked, change_tags, tagged, change_runs, queued, owner_in, owned, grouped, mode_in, moded, change_properties, valued, set_by, leaves, assigned, assign_pair, assign_all}
+use Rattle.engine.specs.Assign.{Work, is_as_is, kept, closing, names_in, change_links, source_of, linked, change_tags, tagged, change_runs, queued, owner_in, owned, grouped, mode_in, moded, change_properties, valued, set_by, leaves, assigned, assign_pair, assign_all}
 use Rattle.sheet.specs.Sheet.{Reply, Sheet, reply_to}
-use Rattle.engine.specs.Programs.{program_holds, stored, asked, ask_pair, asked_then, ask_all, results_hold}
+use Rattle.engine.specs.Programs.{stored, asked, ask_pair, asked_then, ask_all, results_hold}
 use Rattle.engine.specs.Step.{ended, begun, finished, step_at, step}
 use Rattle.closing.specs.Closing.{ClosingKey, links, tags, runs, owner, group, mode, is_closed, Same}
 

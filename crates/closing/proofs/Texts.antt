@@ -1,20 +1,20 @@
 -- Document 02, Item 13: a text without the assignments to a key is accepted, holds the rules without them, and gives what the text gives.
 -- Assumes nothing.
 use Prim.Native.Nat.{ℕ, zero, suc, ◌+◌, ◌≤◌}
-use mathlib.Core.Path.{◌≡◌, refl, sym, ap, ap₂, ◌∙◌, subst}
+use mathlib.Core.Path.{◌≡◌, refl, sym, ap, ◌∙◌, subst}
 use mathlib.Core.Bool.{Bool, true, false}
 use mathlib.Core.List.{List, [], ◌∷◌, ◌++◌, map, map-append}
 use mathlib.Core.Option.{some}
 use native.Mathlib.Omega.{arith}
 use lib.Dec.{leb}
-use lib.ListN.{length, take, replicate}
+use lib.ListN.{take, replicate}
 use lib.Seq.{take-append_seam}
-use Rattle.lists.specs.Lists.{All, cat}
+use Rattle.lists.specs.Lists.{cat}
 use Rattle.lists.specs.Bytes.{Bytes}
 use Rattle.lists.specs.Checked.{Checked, refused, ok, ◌>>◌, require, Holds, Placed, line, in_place}
-use Rattle.lists.specs.Refusal.{Refusal, number, target_short}
-use Rattle.lists.specs.Sizes.{most_text, most_rules, fullest_outcome}
-use Rattle.rules.specs.Pair.{Pair, Rule}
+use Rattle.lists.specs.Refusal.{Refusal, target_short}
+use Rattle.lists.specs.Sizes.{fullest_outcome}
+use Rattle.rules.specs.Pair.{Rule}
 use Rattle.rules.specs.Reading.{reader}
 use Rattle.device.specs.Device as D
 use Rattle.device.specs.Device.{Device, chain}
@@ -22,9 +22,9 @@ use Rattle.outcome.specs.State as O
 use Rattle.outcome.specs.State.{State}
 use Rattle.text.specs.Lines.{blank, lines_in, numbered, lines, newlines}
 use Rattle.text.specs.Engine.{LineRead, skip, fault, rule}
-use Rattle.text.specs.Reading.{rule_count, read_lent, reads, read_text}
+use Rattle.text.specs.Reading.{rule_count, read_lent, reads}
 use Rattle.text.specs.Rules.{rules_in, rules_of}
-use Rattle.text.specs.Running.{Mode, next, Halt, Ran, run_from}
+use Rattle.text.specs.Running.{next, Halt, Ran, run_from}
 use Rattle.text.specs.Run.{Answer, refusal, acceptance}
 use Rattle.text.proofs.Lines.{physical, numbered-append, flat_newlines}
 use Rattle.text.proofs.Collect.{Faultless}
@@ -42,8 +42,8 @@ use Rattle.engine.proofs.Laws.{engine-laws}
 use Rattle.writing.specs.Writing.{line_text}
 use Rattle.closing.specs.Closing.{ClosingKey, is_closed, Same, drop_rule, unless_empty, drop_rules}
 use Rattle.closing.specs.Dropping.{drop_text}
-use Rattle.closing.specs.Promise.{Given, given, ClosedStays, ClosedMeansClosed}
-use Rattle.closing.proofs.Lines.{rule_or, empty-lent, Written, written, lines_left, becomes, lines_left_lem, drop-lines, drop_shorter}
+use Rattle.closing.specs.Promise.{Given, given, ClosedMeansClosed}
+use Rattle.closing.proofs.Lines.{rule_or, empty-lent, written, lines_left, becomes, lines_left_lem, drop-lines, drop_shorter}
 use Rattle.closing.proofs.Rules.{run_stays, Reached, unvisited, drop-run, drop_settled}
 
 -- ---- the rules of the text

@@ -1,21 +1,18 @@
 -- What is wanted of the runs of a set holds.
 -- Assumes nothing.
-use Prim.Native.Nat.{ℕ, zero, suc, ◌+◌, ◌*◌, ◌-◌}
+use Prim.Native.Nat.{ℕ, zero, suc, ◌+◌, ◌*◌}
 use mathlib.Core.Path.{◌≡◌, refl, sym, ap, ap₂, ◌∙◌, subst}
-use mathlib.Core.Bool.{Bool, true, false}
 use mathlib.Core.List.{List, [], ◌∷◌, ◌++◌, map, append_assoc}
 use mathlib.Core.Option.{Option, none, some}
 use native.Mathlib.Nat.{suc-mul, zero-mul}
 use native.Mathlib.Omega.{arith}
-use lib.Dec.{leb}
-use lib.ListN.{length, take, drop, replicate, length-map}
+use lib.ListN.{length, take, drop, length-map}
 use lib.Seq.{take_at, drop-append-add}
 use Rattle.lists.specs.Lists.{nth, cat, All}
 use Rattle.lists.specs.Bytes.{Bytes}
 use Rattle.lists.specs.Checked.{Checked, refused, ok, ◌>>=◌, ◌>>◌, found}
 use Rattle.lists.specs.Refusal.{set_bad}
 use Rattle.lists.specs.Sizes.{fullest_outcome}
-use Rattle.lists.proofs.Moves.{ap_at}
 use Rattle.lists.proofs.Records.{bytes-first}
 use Rattle.lists.proofs.Bytes.{bytes_rest}
 use Rattle.bits.specs.Fields.{packed}
@@ -23,13 +20,13 @@ use Rattle.text.specs.Run.{Answer}
 use Rattle.text.proofs.Runs.{refusal-number}
 use Rattle.engine.proofs.Runs.{run_length}
 use Rattle.sets.specs.Sets.{long_fields, enc_long}
-use Rattle.sets.specs.Lent.{Lent, enc_lent, encode_lent, decode_lent}
+use Rattle.sets.specs.Lent.{Lent, enc_lent, decode_lent}
 use Rattle.sets.specs.Sets as sets
 use Rattle.sets.specs.Answer.{Fault, of_set}
 use Rattle.sets.proofs.Lent.{lent_laid_out}
 use Rattle.numbers.specs.Numbers.{most_numbers, numbers}
-use Rattle.each.specs.Each.{run_of, each_runs, targets_of, answers_of, Each, each_of, room_for, each_checked, each_answer}
-use Rattle.each.specs.Wanted.{part_of, Alone, EachAlone, Wanted}
+use Rattle.each.specs.Each.{run_of, each_runs, each_of, room_for, each_checked, each_answer}
+use Rattle.each.specs.Wanted.{part_of, EachAlone, Wanted}
 
 -- ---- by places
 

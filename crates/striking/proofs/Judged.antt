@@ -1,9 +1,9 @@
 -- Which lines are struck, line by line: each for its ground, and what is left is a text without faults.
 -- Assumes nothing.
 use Prim.Native.Nat.{ℕ, zero, suc, ◌+◌, ◌*◌, ◌≤◌, zero-le, suc-le-suc}
-use mathlib.Core.Path.{◌≡◌, refl, sym, ap, ◌∙◌, subst}
+use mathlib.Core.Path.{◌≡◌, refl, ap, ◌∙◌, subst}
 use mathlib.Core.Logic.{◌⊎◌, inl, inr}
-use mathlib.Core.Bool.{Bool, true, false}
+use mathlib.Core.Bool.{true}
 use mathlib.Core.List.{List, [], ◌∷◌, ◌++◌, map, map-append}
 use mathlib.Core.Option.{Option, none, some}
 use native.Mathlib.Nat.{le_of_suc-le-suc, not-suc-le-zero}
@@ -11,13 +11,13 @@ use native.Mathlib.Omega.{arith}
 use lib.ListN.{length, replicate}
 use Rattle.lists.specs.Lists.{is_some}
 use Rattle.lists.specs.Checked.{Placed, line, in_place}
-use Rattle.lists.specs.Refusal.{Refusal, rule_extra, label_missing}
+use Rattle.lists.specs.Refusal.{label_missing}
 use Rattle.text.specs.Engine.{Reader, LineRead, skip, fault, rule}
 use Rattle.text.specs.Lines.{numbered, newlines, is_open, stage_of, unjoined}
-use Rattle.text.specs.Reading.{rule_count, goes_to, lent_by, read_lent}
+use Rattle.text.specs.Reading.{rule_count, goes_to, read_lent}
 use Rattle.text.specs.Rules.{rules_in}
 use Rattle.text.proofs.Lines.{physical, numbered-append, total}
-use Rattle.text.proofs.Collect.{Faultless, faultless_append, count-append, rules-append}
+use Rattle.text.proofs.Collect.{Faultless}
 use Rattle.text.proofs.Settle.{Aimed, Settled}
 use Rattle.text.proofs.Texts.{reading_of}
 use Rattle.striking.specs.Striking.{past_most, strikes_of, left_of, all_left, kept_by, answered_by, unanswered}

@@ -1,21 +1,21 @@
 -- The lines of a text that is put together again from lines, some of which lost their bytes.
 -- Assumes nothing.
-use Prim.Native.Nat.{ℕ, zero, suc, ◌+◌, ◌≤◌}
+use Prim.Native.Nat.{ℕ, zero, suc, ◌≤◌}
 use mathlib.Core.Path.{◌≡◌, refl, sym, ap, ◌∙◌, subst}
 use mathlib.Core.Bool.{Bool, true, false, not, ◌&&◌, ◌||◌}
-use mathlib.Core.List.{List, [], ◌∷◌, ◌++◌, append_assoc, append-nil}
+use mathlib.Core.List.{List, [], ◌∷◌, ◌++◌, append-nil}
 use native.Mathlib.Omega.{arith}
 use lib.Dec.{eqb}
 use lib.ListN.{length, replicate, length-append, length-replicate}
-use borrow.Author.Tests.{eqb-true, not-true}
+use borrow.Author.Tests.{eqb-true}
 use Rattle.lists.specs.Lists.{is_empty}
 use Rattle.lists.specs.Runs.{onto, split_step}
-use Rattle.lists.specs.Checked.{Placed, line, in_place}
+use Rattle.lists.specs.Checked.{Placed, line}
 use Rattle.lists.proofs.Runs.{Cons}
 use Rattle.lists.proofs.Tests.{and_both, neither}
-use Rattle.text.specs.Lines.{Stage, blank, is_slash, ends, next, stage_of, lines_in, numbered, newlines, one_more, is_open}
+use Rattle.text.specs.Lines.{Stage, blank, is_slash, ends, next, stage_of, lines_in, newlines, one_more, is_open}
 use Rattle.text.specs.Engine.{LineRead, skip, fault, rule}
-use Rattle.text.proofs.Lines.{lines_cons, lines_seam, lines_to, not_last, physical, numbered-append}
+use Rattle.text.proofs.Lines.{lines_cons, lines_seam, lines_to, not_last}
 use Rattle.text.proofs.Places.{begin_blank}
 use Rattle.striking.specs.Striking.{left_of, all_left, together}
 

@@ -1,7 +1,7 @@
 -- What is wanted of the striker holds of every reader that skips an empty line, and so of this language.
 -- Assumes nothing.
-use Prim.Native.Nat.{ℕ, suc, ◌*◌, ◌≤◌}
-use mathlib.Core.Path.{◌≡◌, refl, sym, ap, ◌∙◌, subst}
+use Prim.Native.Nat.{ℕ, ◌≤◌}
+use mathlib.Core.Path.{◌≡◌, refl, ap, ◌∙◌}
 use mathlib.Core.List.{List, [], map}
 use native.Mathlib.Omega.{arith}
 use lib.ListN.{length}
@@ -15,7 +15,7 @@ use Rattle.text.specs.Rules.{rules_in, rules_of}
 use Rattle.text.proofs.Lines.{lines-total}
 use Rattle.text.proofs.Texts.{reading_of, Parts, read_ok, read}
 use Rattle.rules.specs.Reading.{read_line, reader}
-use Rattle.striking.specs.Striking.{most_strikes, past_most, all_left, together, unanswered, judged, strikes, struck}
+use Rattle.striking.specs.Striking.{most_strikes, past_most, unanswered, judged, strikes, struck}
 use Rattle.striking.specs.Wanted.{Grounds, become_all, Wanted}
 use Rattle.striking.proofs.Lines.{together-lines, proper, lines_left_lem, all-le}
 use Rattle.striking.proofs.Judged.{grounds_all, kept_few, kept_settled, marked, become_lines, all_left_lem, strikes_few, past_none, answered-all, no-strikes, left-all}

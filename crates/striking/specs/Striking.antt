@@ -3,7 +3,7 @@
 use Rattle.std.specs.Prelude.{ℕ, zero, suc, ◌-◌, ◌*◌, Bool, true, false, ◌&&◌, List, [], ◌∷◌, ◌++◌, leb, length, replicate}
 use Rattle.std.proofs.Math.Option.{Option, none, some}
 use Rattle.lists.specs.Lists.{is_some}
-use Rattle.lists.specs.Checked.{Checked, refused, ok, ◌>>=◌, ◌>>◌, require, Placed, line}
+use Rattle.lists.specs.Checked.{Checked, refused, ok, ◌>>◌, require, Placed, line}
 use Rattle.lists.specs.Refusal.{Refusal, number, target_short, text_long, rule_extra, label_missing}
 use Rattle.lists.specs.Sizes.{most_text, most_rules}
 use Rattle.text.specs.Lines.{blank, lines_in, newlines}

@@ -1,7 +1,7 @@
 -- Document 02, Item 12: what is wanted of the striker.
 -- Assumes nothing.
 use Rattle.std.specs.Prelude.{ℕ, zero, suc, ◌≤◌, ◌≡◌, ◌⊎◌, List, [], ◌∷◌, ◌++◌, length, replicate}
-use Rattle.std.proofs.Math.Option.{Option, none, some}
+use Rattle.std.proofs.Math.Option.{none, some}
 use Rattle.lists.specs.Checked.{ok, Placed, line}
 use Rattle.lists.specs.Refusal.{rule_extra, label_missing}
 use Rattle.lists.specs.Sizes.{most_text, most_rules}

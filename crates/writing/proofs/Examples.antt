@@ -6,7 +6,6 @@ use mathlib.Core.Path.{◌≡◌, refl}
 use mathlib.Core.Bool.{Bool, true, false, ◌&&◌}
 use mathlib.Core.List.{List, [], ◌∷◌}
 use lib.Dec.{eqb}
-use lib.ListN.{length}
 use Rattle.lists.specs.Bytes as bytes_of
 use Rattle.lists.specs.Bytes.{same_bytes}
 use Rattle.lists.specs.Runs as runs

@@ -1,9 +1,9 @@
 -- What is left of a rule that a line held, whatever is taken out of it, is written as a line that reads back and is not longer.
 -- Assumes nothing.
 use Prim.Native.Nat.{ℕ, zero, suc, ◌+◌, ◌-◌, ◌≤◌}
-use mathlib.Core.Path.{◌≡◌, refl, sym, ap, ◌∙◌, subst}
+use mathlib.Core.Path.{◌≡◌, refl, ap, subst}
 use mathlib.Core.Bool.{Bool, true, false, not, ◌&&◌, ◌||◌}
-use mathlib.Core.List.{List, [], ◌∷◌, ◌++◌}
+use mathlib.Core.List.{List, [], ◌∷◌}
 use native.Mathlib.Omega.{arith}
 use lib.Dec.{leb}
 use lib.ListN.{length, length-append}
@@ -18,9 +18,9 @@ use Rattle.text.specs.Engine as text
 use Rattle.text.specs.Lines.{blank, is_slash, stage_of, unjoined, newlines}
 use Rattle.text.specs.Reading.{lent_by, read_lent}
 use Rattle.text.proofs.Unjoined.{unjoined_flat, unjoined-newlines}
-use Rattle.rules.specs.Key.{Key, LABEL, GOTO, same_key}
+use Rattle.rules.specs.Key.{LABEL, GOTO, same_key}
 use Rattle.rules.specs.Pair.{Pair, Rule}
-use Rattle.rules.specs.Reading.{unblank, again, read_line, reader}
+use Rattle.rules.specs.Reading.{unblank, read_line, reader}
 use Rattle.writing.specs.Writing.{pair_text, line_text}
 use Rattle.writing.proofs.Values.{Fair}
 use Rattle.writing.proofs.Pairs.{unblank-fair, unblank-size, Writable}

@@ -1,7 +1,7 @@
 -- A rule as it is written is a line of its own that reads back, and is not longer than its line was.
 -- Assumes nothing.
 use Prim.Native.Nat.{ℕ, zero, suc, ◌+◌, ◌≤◌}
-use mathlib.Core.Path.{◌≡◌, refl, sym, ap, ◌∙◌, subst}
+use mathlib.Core.Path.{◌≡◌, refl, sym, ap, ◌∙◌}
 use mathlib.Core.Bool.{Bool, true, false, not, ◌&&◌, ◌||◌}
 use mathlib.Core.List.{List, [], ◌∷◌, ◌++◌, append_assoc, append-nil}
 use native.Mathlib.Omega.{arith}
@@ -10,12 +10,12 @@ use lib.ListN.{length, length-append}
 use borrow.Author.Tests.{le-leb, leb-true, eqb-true, not-true}
 use Rattle.lists.specs.Lists.{pick, all, cat, All}
 use Rattle.lists.specs.Bytes.{is_upper, is_blank, holds, clean}
-use Rattle.lists.specs.Runs.{Part, span, split_step, onto}
-use Rattle.lists.specs.Checked.{Checked, refused, ok, ◌>>=◌, ◌>>◌, require, Holds}
+use Rattle.lists.specs.Runs.{Part, span}
+use Rattle.lists.specs.Checked.{Checked, refused, ok, Holds}
 use Rattle.lists.specs.Refusal.{Refusal, pair_extra}
 use Rattle.lists.specs.Sizes.{most_line, most_pairs}
 use Rattle.lists.proofs.Checked.{holds-bind, holds_at, holds-map}
-use Rattle.lists.proofs.Lists.{all_append, all_split}
+use Rattle.lists.proofs.Lists.{all_append}
 use Rattle.lists.proofs.Tests.{and_both, both_and, neither}
 use Rattle.lists.proofs.Bytes.{holds-clean}
 use Rattle.text.specs.Engine as text

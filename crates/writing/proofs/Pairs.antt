@@ -1,26 +1,26 @@
 -- A pair as it is written reads back, and is not longer than it was.
 -- Assumes nothing.
 use Prim.Native.Nat.{ℕ, zero, suc, ◌+◌, ◌≤◌, ◌<◌}
-use mathlib.Core.Path.{◌≡◌, refl, sym, ap, ◌∙◌, subst}
+use mathlib.Core.Path.{◌≡◌, refl, sym, ap, ◌∙◌}
 use mathlib.Core.Logic.{◌⊎◌, inl, inr}
-use mathlib.Core.Bool.{Bool, true, false, not, ◌&&◌, ◌||◌}
+use mathlib.Core.Bool.{Bool, true, false, not}
 use mathlib.Core.List.{List, [], ◌∷◌, ◌++◌, append_assoc}
-use mathlib.Core.Option.{Option, none, some, none-ne-some, some-injective}
+use mathlib.Core.Option.{Option, none, some}
 use native.Mathlib.Omega.{arith}
 use lib.Dec.{eqb, leb}
-use lib.ListN.{length, get_or, take, drop, length-append, length-drop}
-use borrow.Author.Tests.{le-leb, leb-true, eqb-true, not-true}
+use lib.ListN.{length, get_or, drop, length-append, length-drop}
+use borrow.Author.Tests.{leb-true, eqb-true}
 use Rattle.lists.specs.Lists.{pick, all, cat, All}
-use Rattle.lists.specs.Bytes.{is_upper, is_blank, between, same_bytes, holds, clean}
+use Rattle.lists.specs.Bytes.{is_upper, is_blank, between, same_bytes, clean}
 use Rattle.lists.specs.Runs.{Part, span, span_step}
 use Rattle.lists.specs.Items.{is_in_braces, close_brace, in_braces}
-use Rattle.lists.specs.Checked.{Checked, refused, ok, ◌>>=◌, ◌>>◌, require, found, Holds}
+use Rattle.lists.specs.Checked.{Checked, refused, ok, found, Holds}
 use Rattle.lists.specs.Refusal.{Refusal, key_bad, argument_bad, operator_bad, content_bad}
 use Rattle.lists.specs.Sizes.{most_key, most_value}
 use Rattle.lists.specs.Quoted.{bytes}
-use Rattle.lists.proofs.Checked.{holds-bind, holds-found, holds-map}
-use Rattle.lists.proofs.Lists.{all_append, all_split}
-use Rattle.lists.proofs.Tests.{and_both, both_and, neither}
+use Rattle.lists.proofs.Checked.{holds-bind}
+use Rattle.lists.proofs.Lists.{all_split}
+use Rattle.lists.proofs.Tests.{and_both, both_and}
 use Rattle.lists.proofs.Bytes.{same-eq}
 use Rattle.lists.proofs.Rest.{byte_in}
 use Rattle.lists.proofs.Runs.{span-whole, span-stop}
@@ -28,7 +28,7 @@ use Rattle.rules.specs.Key.{Key, Op, equal, unequal, assign, add, remove, final,
 use Rattle.rules.specs.Pair.{Pair}
 use Rattle.rules.specs.Reading.{unblank, read_key, absent, is_type, present, argument_by, read_argument, if_equals, op_of, read_op, read_value, sound, read_pair}
 use Rattle.rules.proofs.Sound.{SoundPair, Some, pick_some, found_some, require-then, PairOk, pair_ok}
-use Rattle.writing.specs.Writing.{name_in, name_of, argument_text, op_text, plain_byte, code_byte, value_as, value_text, needs_code, pair_text}
+use Rattle.writing.specs.Writing.{name_in, name_of, argument_text, op_text, plain_byte, code_byte, value_text, needs_code, pair_text}
 use Rattle.writing.proofs.Values.{fair, Fair, Fits, value_again, value_fits}
 
 -- ---- runs

@@ -1,25 +1,25 @@
 -- The rules of a text as they are written: accepted, the same rules, and not longer than the text and a newline.
 -- Assumes nothing.
-use Prim.Native.Nat.{ℕ, zero, suc, ◌+◌, ◌≤◌}
+use Prim.Native.Nat.{ℕ, suc, ◌+◌, ◌≤◌}
 use mathlib.Core.Path.{◌≡◌, refl, sym, ap, ◌∙◌, subst}
 use mathlib.Core.Bool.{Bool, true, false}
-use mathlib.Core.List.{List, [], ◌∷◌, ◌++◌, map, append_assoc, append-nil}
+use mathlib.Core.List.{List, [], ◌∷◌, ◌++◌, map, append_assoc}
 use mathlib.Core.Option.{Option, none, some, none-ne-some}
 use native.Mathlib.Omega.{arith}
 use lib.Dec.{leb}
 use lib.ListN.{length, length-append}
-use borrow.Author.Tests.{le-leb, leb-true}
+use borrow.Author.Tests.{leb-true}
 use Rattle.lists.specs.Lists.{pick, cat, All}
 use Rattle.lists.specs.Runs.{span}
-use Rattle.lists.specs.Checked.{Checked, refused, ok, ◌>>=◌, ◌>>◌, require, Placed, line, in_place, Holds}
-use Rattle.lists.specs.Refusal.{Refusal, target_short, text_long}
+use Rattle.lists.specs.Checked.{ok, require, Placed, line, in_place, Holds}
+use Rattle.lists.specs.Refusal.{target_short, text_long}
 use Rattle.lists.specs.Sizes.{most_text, most_rules}
 use Rattle.lists.proofs.Checked.{holds-bind, holds-seq, holds-require, holds_at, holds_self}
 use Rattle.text.specs.Engine.{LineRead, skip, fault, rule}
 use Rattle.text.specs.Lines.{blank, stage_of, lines_in, numbered, lines, newlines, unjoined}
 use Rattle.text.specs.Reading.{rule_count, has_label, goes_to, read_lent, reads, read_text}
 use Rattle.text.specs.Rules.{rules_in, rules_of}
-use Rattle.text.proofs.Lines.{lines_to, lines_seam, total, lines-total}
+use Rattle.text.proofs.Lines.{lines_seam, total, lines-total}
 use Rattle.text.proofs.Collect.{Faultless}
 use Rattle.text.proofs.Settle.{Aimed, Settled}
 use Rattle.text.proofs.Texts.{reading_of, Parts, read_ok, read}
@@ -27,7 +27,6 @@ use Rattle.rules.specs.Pair.{Rule, label_of, goto_of}
 use Rattle.rules.specs.Reading.{read_line, reader}
 use Rattle.writing.specs.Writing.{line_text, rule_of, written, write_checked}
 use Rattle.writing.specs.Wanted.{Reads, Wanted}
-use Rattle.writing.proofs.Values.{Fair}
 use Rattle.writing.proofs.Lines.{LineAgain, lent_again, lent_reads, one_line}
 
 -- ---- what the lines of a text give

@@ -7,17 +7,17 @@ use mathlib.Core.List.{List, [], ◌∷◌, ◌++◌, append_assoc}
 use mathlib.Core.Option.{Option, none, some, none-ne-some, some-injective}
 use native.Mathlib.Omega.{arith}
 use lib.Dec.{eqb, leb}
-use lib.ListN.{length, get_or, drop, length-append, length-drop}
-use borrow.Author.Tests.{le-leb, leb-true, eqb-true, not-true}
+use lib.ListN.{length, get_or, drop, length-append}
+use borrow.Author.Tests.{le-leb, eqb-true, not-true}
 use Rattle.lists.specs.Lists.{pick, all, cat}
-use Rattle.lists.specs.Bytes.{holds, clean}
+use Rattle.lists.specs.Bytes.{holds}
 use Rattle.lists.specs.Runs.{Part}
 use Rattle.lists.specs.Items.{Item}
-use Rattle.lists.specs.Checked.{Checked, refused, ok, ◌>>=◌, ◌>>◌, require, found, Holds}
+use Rattle.lists.specs.Checked.{ok, found, Holds}
 use Rattle.lists.specs.Refusal.{Refusal, value_bad}
 use Rattle.lists.specs.Sizes.{most_value}
 use Rattle.lists.proofs.Checked.{holds-bind}
-use Rattle.lists.proofs.Lists.{all_append, all_split}
+use Rattle.lists.proofs.Lists.{all_split}
 use Rattle.lists.proofs.Tests.{and_both, both_and, neither}
 use Rattle.rules.specs.Coded.{escapes, escape_in, hex_digit, hex_byte, taking, escaped, coded_byte, put, coded_then, coded_step, coded}
 use Rattle.rules.specs.Reading.{quoted_step, quoted, starts_mark, unescape_step, unescape, read_plain, read_coded, starts_coded, value_by, read_value}
