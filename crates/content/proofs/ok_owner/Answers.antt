@@ -15,12 +15,12 @@ loop-i-init c = rw (le-leb (length c.args.x.now) 32 c.if-x-gt32.false)
 pub returns-then-not-owner_byte : goal.returns-then-not-owner_byte
 returns-then-not-owner_byte c =
     let l = c.loop-i in
-    sym (l.invariant ∙ owner_bad c.args.x.now l.i c.loop-i-test.true (sym c.owner_byte.ensures ∙ not-true _ c.if-not-owner_byte.true-raw))
+    sym (l.invariant ∙ owner_bad c.args.x.now l.i c.loop-i-test.true (sym c.owner_byte.ensures ∙ c.if-not-owner_byte.true))
 
 pub loop-i-preserved : goal.loop-i-preserved
 loop-i-preserved c =
     let l = c.loop-i in
-    l.invariant ∙ owner-next c.args.x.now l.i c.loop-i-test.true (sym c.owner_byte.ensures ∙ not-false _ c.if-not-owner_byte.false-raw)
+    l.invariant ∙ owner-next c.args.x.now l.i c.loop-i-test.true (sym c.owner_byte.ensures ∙ c.if-not-owner_byte.false)
 
 pub returns : goal.returns
 returns c = sym (c.loop-i.invariant ∙ owner-end c.args.x.now c.loop-i.i c.loop-i-test.false)

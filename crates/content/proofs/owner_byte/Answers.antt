@@ -23,7 +23,7 @@ pub returns-in_default-3 : goal.returns-in_default-3
 returns-in_default-3 c = sym (owner_colon c.args.b (omega arith) (omega arith))
 
 pub returns-in_default-4 : goal.returns-in_default-4
-returns-in_default-4 c = sym (owner_bracket c.args.b (omega arith) (omega arith) c.in_default-1.rest.1)
+returns-in_default-4 c = sym (owner_bracket c.args.b (omega arith) (omega arith) (λ e. omega arith))
 
 pub returns-in_default-5 : goal.returns-in_default-5
 returns-in_default-5 c = sym (owner-high c.args.b (omega arith))
