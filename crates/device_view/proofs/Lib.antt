@@ -1,6 +1,1 @@
-pub mod Reading
-pub mod ByKey
-pub mod Making
-pub mod Made
-pub mod MadeByKey
 pub mod Chain

@@ -18,14 +18,14 @@ start_of-requires c =
 pub attribute_at-requires : goal.attribute_at-requires
 attribute_at-requires c =
     let rec = c.args.rec.now in
-    let b : Bytes rec = λ i. (c.type_inv.rec.given i).fits in
+    let b : Bytes rec = λ i. (c.type_inv.rec i).fits in
     let ((d, e), k, from, to) = c.requires in
     let n : c.args.place - 1 < c.args.chain.len = omega (arith, from, to) in
-    subst (Standing rec) (sym c.start_of_lem.ensures) (chain-standing rec d b e c.args.chain (k d e) (c.args.place - 1) n)
+    subst (Standing rec) (sym c.start_of.ensures) (chain-standing rec d b e c.args.chain (k d e) (c.args.place - 1) n)
 
 pub returns : goal.returns
 returns c = λ d e m g.
     let rec = c.args.rec.now in
-    let b : Bytes rec = λ i. (c.type_inv.rec.given i).fits in
+    let b : Bytes rec = λ i. (c.type_inv.rec i).fits in
     let h = chain_lies rec d b e c.args.chain (c.requires.1 d e) (c.args.place - 1) m (nth-place d c.args.place m g) in
-    c.attribute_at.ensures m (subst (λ (i : ℕ). Lies rec i m) (sym c.before.start_of_lem.ensures) h)
+    c.attribute_at.ensures m (subst (λ (i : ℕ). Lies rec i m) (sym c.before.start_of.ensures) h)
