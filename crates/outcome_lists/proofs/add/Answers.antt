@@ -1,6 +1,6 @@
 -- `outcome_lists::add` meets its contract.
 use mathlib.Core.Path.{sym, ◌∙◌, subst}
-use mathlib.Core.List.{◌∷◌, ◌++◌}
+use mathlib.Core.List.{[], ◌∷◌, ◌++◌}
 use lib.ListN.{length}
 use Prim.Native.Nat.{◌<◌}
 use Rattle.outcome_target.specs.Held.{Held}

@@ -1,5 +1,5 @@
 -- `outcome_lists::add_run` meets its contract.
-use mathlib.Core.List.{◌∷◌, ◌++◌}
+use mathlib.Core.List.{[], ◌∷◌, ◌++◌}
 use lib.ListN.{length}
 use Prim.Native.Nat.{◌<◌}
 use Rattle.row_edits.proofs.Rows.{run-size}

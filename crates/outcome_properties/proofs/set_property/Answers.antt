@@ -1,6 +1,6 @@
 -- `outcome_properties::set_property` meets its contract.
 use mathlib.Core.Path.{refl, sym, ◌∙◌}
-use mathlib.Core.List.{◌∷◌, ◌++◌}
+use mathlib.Core.List.{[], ◌∷◌, ◌++◌}
 use lib.ListN.{length}
 use Prim.Native.Nat.{◌<◌}
 use Rattle.row_edits.proofs.Rows.{property-size}

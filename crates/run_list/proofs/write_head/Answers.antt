@@ -1,7 +1,7 @@
 -- `run_list::write_head` meets its contract.
 use Rattle.std.proofs.Common.{rules}
 use Prim.Native.Nat.{ℕ, ◌+◌}
-use mathlib.Core.List.{◌∷◌}
+use mathlib.Core.List.{[], ◌∷◌}
 use mathlib.Core.Path.{ap, ◌∙◌}
 use Rattle.run_list.proofs.Heads.{command_head}
 use Rattle.bits.specs.Fields.{packed}
