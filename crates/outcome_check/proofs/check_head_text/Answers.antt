@@ -15,10 +15,10 @@ pub returns-then-not-ok_head_text : goal.returns-then-not-ok_head_text
 returns-then-not-ok_head_text c =
     let a = c.args in
     let ok = c.ok_head_text in
-    sym (text-faulty (ok_head_text a.text) a.rec.now a.at a.k (sym ok.ensures ∙ not-true _ c.if-not-ok_head_text.true-raw))
+    sym (text-faulty (ok_head_text a.text) a.rec.now a.at a.k (sym ok.ensures ∙ c.if-not-ok_head_text.true))
 
 pub returns : goal.returns
 returns c =
     let a = c.args in
     let ok = c.ok_head_text in
-    sym (text-sound (ok_head_text a.text) a.rec.now a.at a.k (omega arith) (sym ok.ensures ∙ not-false _ c.if-not-ok_head_text.false-raw))
+    sym (text-sound (ok_head_text a.text) a.rec.now a.at a.k (omega arith) (sym ok.ensures ∙ c.if-not-ok_head_text.false))

@@ -30,7 +30,7 @@ returns-then-not-ok_text c =
       le-leb run-head.result.place 16 c.if-h-gt16.false,
       le-leb
           run-head.result.place x.chain c.if-chain-h.false,
-      sym c.ok_text.ensures ∙ not-true _ c.if-not-ok_text.true-raw,
+      sym c.ok_text.ensures ∙ c.if-not-ok_text.true,
     )
 
 pub returns : goal.returns
@@ -47,5 +47,5 @@ returns c =
           c.if-h-gt16.false,
       le-leb run-head.result.place x.chain c.if-chain-h.false,
       sym
-          c.ok_text.ensures ∙ not-false _ c.if-not-ok_text.false-raw,
-    ) c.well-formed-2.ensures
+          c.ok_text.ensures ∙ c.if-not-ok_text.false,
+    ) c.well_formed-2.ensures
