@@ -29,6 +29,6 @@ returns c =
     let put_four = c.put_four in
     let n = length_part line p.arg_start p.arg_end c.requires.0.argument_in in
     pair_put (part line p.arg_start p.arg_end) (unescaped p.coded (part line p.start p.end)) (key_of p.key) (operator_of p.operator) args.plain c.requires.4
-    args.values.now put-bytes.new.0 put-value.new.0 args.rows.now put_four.new.0 args.n args.used _ _
+    args.values.now put-bytes.new.values put-value.new.values args.rows.now put_four.new.l args.n args.used _ _
     (omega (arith, n)) (omega (arith, c.requires.0.value.size)) c.requires.1 put-bytes.ensures put-value.ensures
     (rw c.kind_of.ensures at put_four.ensures)

@@ -15,5 +15,5 @@ returns-then-len-end c =
 pub returns-else-len-end : goal.returns-else-len-end
 returns-else-len-end c =
     let x = c.args in
-    added_behind _ x.at c.value_into.result x.values.now c.value_into.new.1.1.1.1.0 (omega (arith, c.requires.0.size)) c.value_into.ensures
-    (c.value_into.auto.1.1.1.1.0 ∙ length_part x.values.now x.at (length x.values.now) (omega arith))
+    added_behind _ x.at c.value_into.result x.values.now c.value_into.new.out (omega (arith, c.requires.0.size)) c.value_into.ensures
+    (c.value_into.auto.out ∙ length_part x.values.now x.at (length x.values.now) (omega arith))
