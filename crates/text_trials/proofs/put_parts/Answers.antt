@@ -5,7 +5,7 @@ use Rattle.lists.proofs.Rest.{byte_in}
 use Rattle.text_trials.proofs.put_parts.Goals as goal
 
 pub shape_of-text-then-byte_at-ne42 : goal.shape_of-text-then-byte_at-ne42
-shape_of-text-then-byte_at-ne42 c = c.put_part.auto.0
+shape_of-text-then-byte_at-ne42 c = c.put_part.auto.text
 
 pub returns-then-byte_at-ne42 : goal.returns-then-byte_at-ne42
 returns-then-byte_at-ne42 c = c.put_part.ensures
@@ -43,7 +43,7 @@ slice_bounds-put_part-end c =
     omega (arith, byte_in x.part.now c.digit_end-end.result 42 (sym c.byte_at.ensures ∙ c.if-byte_at-ne42.false) (omega arith))
 
 pub loop-turn-preserved : goal.loop-turn-preserved
-loop-turn-preserved c = (c.put_part-m.ensures, c.put_part-m.auto.0 ∙ c.loop-turn.invariant.1)
+loop-turn-preserved c = (c.put_part-m.ensures, c.put_part-m.auto.text ∙ c.loop-turn.invariant.1)
 
 pub shape_of-text : goal.shape_of-text
 shape_of-text c = c.loop-turn.invariant.1

@@ -26,7 +26,7 @@ loop-at-preserved c =
     let loop = c.loop-at in
     let byte-end = c.byte_end-end in
     let put-parts = c.put_parts-n in
-    (omega (arith, byte-end.ensures.from, byte-end.ensures.within), put-parts.ensures, put-parts.auto.0 ∙ loop.invariant.2)
+    (omega (arith, byte-end.ensures.from, byte-end.ensures.within), put-parts.ensures, put-parts.auto.text ∙ loop.invariant.2)
 
 pub shape_of-text : goal.shape_of-text
 shape_of-text c = c.loop-at.invariant.2

@@ -22,7 +22,7 @@ pub loop-at-smaller : goal.loop-at-smaller
 loop-at-smaller c = omega (arith, c.byte_end-end.ensures.from, c.byte_end-end.ensures.within)
 
 pub loop-at-preserved : goal.loop-at-preserved
-loop-at-preserved c = (omega (arith, c.byte_end-end.ensures.from, c.byte_end-end.ensures.within), c.show.auto.1.0 ∙ c.loop-at.invariant.1)
+loop-at-preserved c = (omega (arith, c.byte_end-end.ensures.from, c.byte_end-end.ensures.within), c.show.auto.text ∙ c.loop-at.invariant.1)
 
 pub shape_of-text : goal.shape_of-text
 shape_of-text c = c.loop-at.invariant.1
