@@ -9,4 +9,4 @@ pub returns : goal.returns
 returns c =
     let a = c.args in
     let put-field = c.put_field in
-    λ n lay s w. flag-put n a.t.now lay s w (λ i. (c.type_inv.t.given i).fits) put-field.new.0 put-field.auto.0 a.key (put-field.ensures ∙ ap (λ (p : ℕ). put_at a.t.now p 1 1) c.flag_place.ensures.0)
+    λ n lay s w. flag-put n a.t.now lay s w (λ i. (c.slice_known-1.given i).fits) put-field.new.t put-field.auto.t a.key (put-field.ensures ∙ ap (λ (p : ℕ). put_at a.t.now p 1 1) c.flag_place.ensures.0)

@@ -6,7 +6,7 @@ use Rattle.outcome_fields.proofs.set_group.Goals as goal
 
 pub overflow_sub-layout : goal.overflow_sub-layout
 overflow_sub-layout c =
-    let entry = c.before.before.before.before.before.before in
+    let entry = c in
     let a = entry.args in
     let pre = entry.requires in
     let old = c.field-old in
@@ -14,7 +14,7 @@ overflow_sub-layout c =
 
 pub replace-requires : goal.replace-requires
 replace-requires c =
-    let entry = c.before.before.before.before.before.before in
+    let entry = c in
     let a = entry.args in
     let pre = entry.requires in
     let old = c.field-old in
@@ -23,7 +23,7 @@ replace-requires c =
 
 pub all_moved-requires : goal.all_moved-requires
 all_moved-requires c =
-    let entry = c.before.before.before.before.before.before.before.before.before.before.before.before.before in
+    let entry = c in
     let a = entry.args in
     let pre = entry.requires in
     let old = c.field-old in
@@ -32,13 +32,13 @@ all_moved-requires c =
 
 pub returns : goal.returns
 returns c =
-    let entry = c.before.before.before.before.before.before.before.before.before.before.before.before.before.before in
+    let entry = c in
     let a = entry.args in
     let pre = entry.requires in
     let old = c.field-old in
-    let bytes = c.type_inv.t in
+    let bytes = c.slice_known-2-1.given in
     let replace = c.replace in
     let put-field = c.put_field in
     let all_moved = c.all_moved in
-    λ n s w. group-set n a.t.now a.layout s w a.x.now pre.1 old.result replace.new.0 put-field.new.0 all_moved.result old.ensures.0
-    replace.ensures (λ i. (bytes.given i).fits) put-field.ensures (put-field.auto.0 ∙ replace.auto.0) all_moved.ensures
+    λ n s w. group-set n a.t.now a.layout s w a.x.now pre.1 old.result replace.new.t put-field.new.t all_moved.result old.ensures.0
+    replace.ensures (λ i. (bytes i).fits) put-field.ensures (put-field.auto.t ∙ replace.auto.t) all_moved.ensures

@@ -9,6 +9,6 @@ returns c =
     let a = x in
     let put-field = c.put_field in
     let put-field2 = c.put_field-2 in
-    λ n lay s w. mode-put n a.t.now lay s w a.mode c.requires.1 put-field.new.0 put-field2.new.0
-    (λ i. (c.type_inv.t.given i).fits) put-field.ensures
-    (λ i. (c.type_inv.t.given i).fits) put-field2.ensures (put-field2.auto.0 ∙ put-field.auto.0)
+    λ n lay s w. mode-put n a.t.now lay s w a.mode c.requires.1 put-field.new.t put-field2.new.t
+    (λ i. (c.slice_known-1.given i).fits) put-field.ensures
+    (λ i. (c.slice_known-2-1.given i).fits) put-field2.ensures (put-field2.auto.t ∙ put-field.auto.t)

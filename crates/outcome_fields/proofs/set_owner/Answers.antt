@@ -6,52 +6,52 @@ use Rattle.outcome_fields.proofs.set_owner.Goals as goal
 
 pub overflow_sub-layout : goal.overflow_sub-layout
 overflow_sub-layout c =
-    let entry = c.before.before.before.before.before.before.before.before in
+    let entry = c in
     let a = entry.args in
     let pre = entry.requires in
-    let group = c.before.before.before.before.field in
+    let group = c.field-group in
     let old = c.field-old in
     omega (arith, names-before pre.0.0 a.t.now a.layout pre.0.1 pre.0.2, group.ensures.0, old.ensures.0)
 
 pub overflow_sub-layout-2 : goal.overflow_sub-layout-2
 overflow_sub-layout-2 c =
-    let entry = c.before.before.before.before.before.before.before.before in
+    let entry = c in
     let a = entry.args in
     let pre = entry.requires in
-    let group = c.before.before.before.before.field in
+    let group = c.field-group in
     let old = c.field-old in
     omega (arith, names-before pre.0.0 a.t.now a.layout pre.0.1 pre.0.2, group.ensures.0, old.ensures.0)
 
 pub replace-requires : goal.replace-requires
 replace-requires c =
-    let entry = c.before.before.before.before.before.before.before.before in
+    let entry = c in
     let a = entry.args in
     let pre = entry.requires in
-    let group = c.before.before.before.before.field in
+    let group = c.field-group in
     let old = c.field-old in
     let fit = owner_fit pre.0.0 a.t.now a.layout pre.0.1 pre.0.2 a.x.now pre.1 group.result old.result group.ensures.0 old.ensures.0 in
     (fit.within, fit.end, fit.fits)
 
 pub all_moved-requires : goal.all_moved-requires
 all_moved-requires c =
-    let entry = c.before.before.before.before.before.before.before.before.before.before.before.before.before.before.before in
+    let entry = c in
     let a = entry.args in
     let pre = entry.requires in
-    let group = c.before.before.before.before.before.before.before.before.before.before.before.field in
+    let group = c.field-group in
     let old = c.field-old in
     let fit = owner_fit pre.0.0 a.t.now a.layout pre.0.1 pre.0.2 a.x.now pre.1 group.result old.result group.ensures.0 old.ensures.0 in
     (fit.rising, fit.before, fit.small)
 
 pub returns : goal.returns
 returns c =
-    let entry = c.before.before.before.before.before.before.before.before.before.before.before.before.before.before.before.before in
+    let entry = c in
     let a = entry.args in
     let pre = entry.requires in
-    let group = c.before.before.before.before.before.before.before.before.before.before.before.before.field in
+    let group = c.field-group in
     let old = c.field-old in
-    let bytes = c.type_inv.t in
+    let bytes = c.slice_known-2-1.given in
     let replace = c.replace in
     let put-field = c.put_field in
     let all_moved = c.all_moved in
-    λ n s w. owner-set n a.t.now a.layout s w a.x.now pre.1 group.result old.result replace.new.0 put-field.new.0 all_moved.result group.ensures.0 old.ensures.0
-    replace.ensures (λ i. (bytes.given i).fits) put-field.ensures (put-field.auto.0 ∙ replace.auto.0) all_moved.ensures
+    λ n s w. owner-set n a.t.now a.layout s w a.x.now pre.1 group.result old.result replace.new.t put-field.new.t all_moved.result group.ensures.0 old.ensures.0
+    replace.ensures (λ i. (bytes i).fits) put-field.ensures (put-field.auto.t ∙ replace.auto.t) all_moved.ensures

@@ -6,4 +6,4 @@ pub returns : goal.returns
 returns c =
     let a = c.args in
     let put-field = c.put_field in
-    λ n lay s w. priority-put n a.t.now lay s w (λ i. (c.type_inv.t.given i).fits) put-field.new.0 put-field.auto.0 a.priority c.requires.1 put-field.ensures
+    λ n lay s w. priority-put n a.t.now lay s w (λ i. (c.slice_known-1.given i).fits) put-field.new.t put-field.auto.t a.priority c.requires.1 put-field.ensures
