@@ -12,7 +12,7 @@ returns-then-value-gt256 c =
     rw (lt-leb (length a.value.now) 256 c.if-value-gt256.true, and-false (ok_text 64 a.key.now))
 
 pub returns-then-not-ok_text : goal.returns-then-not-ok_text
-returns-then-not-ok_text c = rw (sym c.ok_text.ensures ∙ not-true _ c.if-not-ok_text.true-raw)
+returns-then-not-ok_text c = rw (sym c.ok_text.ensures ∙ c.if-not-ok_text.true)
 
 pub returns : goal.returns
-returns c = rw (sym c.ok_text.ensures ∙ not-false _ c.if-not-ok_text.false-raw, le-leb (length c.args.value.now) 256 c.if-value-gt256.false) c.clean.ensures
+returns c = rw (sym c.ok_text.ensures ∙ c.if-not-ok_text.false, le-leb (length c.args.value.now) 256 c.if-value-gt256.false) c.clean.ensures
