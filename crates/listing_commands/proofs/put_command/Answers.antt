@@ -3,8 +3,8 @@ use Rattle.listing_lines.proofs.Laws.{behind-is}
 use Rattle.listing_commands.proofs.Laws.{builtin_line, program_line}
 use Rattle.listing_commands.proofs.put_command.Goals as goal
 
-pub shape_of-out-then-builtin : goal.shape_of-out-then-builtin
-shape_of-out-then-builtin c =
+pub returns-then-builtin : goal.returns-then-builtin
+returns-then-builtin c =
     let entry = c.args in
     let if1 = c.if-builtin in
     let put-line = c.put_line in (
