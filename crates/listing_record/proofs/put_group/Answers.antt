@@ -7,8 +7,8 @@ use Rattle.listing_record.proofs.Laws.{names-within, group-text}
 use native.Mathlib.Omega.{arith}
 use Rattle.listing_record.proofs.put_group.Goals as goal
 
-pub field-requires : goal.field-requires
-field-requires c =
+pub overflow_sub-start : goal.overflow_sub-start
+overflow_sub-start c =
     let entry = c in
     let a = entry.args in
     let group = c.field in

@@ -7,8 +7,8 @@ use Rattle.listing_record.proofs.Laws.{names-within, owner-text}
 use native.Mathlib.Omega.{arith}
 use Rattle.listing_record.proofs.put_owner.Goals as goal
 
-pub field-requires : goal.field-requires
-field-requires c =
+pub overflow_sub-end : goal.overflow_sub-end
+overflow_sub-end c =
     let entry = c in
     let a = entry.args in
     let group = c.field in
@@ -16,8 +16,8 @@ field-requires c =
     let w = names-within n a.t.now a.layout s h in
     omega (arith, w.0, w.1, group.ensures.0)
 
-pub field-requires-2 : goal.field-requires-2
-field-requires-2 c =
+pub overflow_sub-start : goal.overflow_sub-start
+overflow_sub-start c =
     let entry = c in
     let a = entry.args in
     let group = c.field in

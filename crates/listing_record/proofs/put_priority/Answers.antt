@@ -25,7 +25,7 @@ returns c =
       λ n s h.
           let number : field.result ≡ s.priority =
           field.ensures.0 ∙ held_number n t entry.layout s h 35 32 (omega arith) ∙ ap (λ (x : Head). x.priority) (held_head n t entry.layout s h) in
-          let e : z ≡ to_signed s.priority = to_z-of_z {w = w32} {z = to-signed.result} (record { sfits = to-signed.type-inv }) ∙ to-signed.ensures ∙ ap to_signed number in
+          let e : z ≡ to_signed s.priority = to_z-of_z {w = w32} {z = to-signed.result} (record { sfits = to-signed.type_inv }) ∙ to-signed.ensures ∙ ap to_signed number in
           behind-is (line_of word (signed z)) (line_of word (signed (to_signed s.priority))) entry.out.now put-signed-line.new.out
           entry.front put-signed-line.result (ap (λ (i : ℤ). line_of word (signed i)) e) put-signed-line.ensures.1,
     )

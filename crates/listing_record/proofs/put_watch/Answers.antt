@@ -1,4 +1,5 @@
 -- `listing_record::put_watch` meets its contract.
+use mathlib.Core.List.{[]}
 use mathlib.Core.Path.{sym, ◌∙◌}
 use Rattle.lists.specs.Quoted.{bytes}
 use Rattle.engine.specs.Listing.{watch_line}
@@ -6,9 +7,9 @@ use Rattle.listing_lines.proofs.Laws.{behind-is, behind-none}
 use Rattle.listing_record.proofs.Laws.{watch_line_lem, nowatch_line, no_line, watch_is}
 use Rattle.listing_record.proofs.put_watch.Goals as goal
 
-pub shape_of-out-then-watch-eq1 : goal.shape_of-out-then-watch-eq1
+pub returns-then-watch-eq1 : goal.returns-then-watch-eq1
 unfolding bytes
-shape_of-out-then-watch-eq1 c =
+returns-then-watch-eq1 c =
     let a = c.args in
     let field = c.field-watch in
     let put = c.put_text in (
