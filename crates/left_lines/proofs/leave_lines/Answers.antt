@@ -11,35 +11,25 @@ loop-left-init c =
 
 pub leave_line-left-requires : goal.leave_line-left-requires
 leave_line-left-requires c =
-    let if1 = c.loop-left-test in
-    let loop = c.loop-left in
-    (if1.true, loop.invariant.1)
+    (c.loop-left-test.true, c.loop-left.invariant.1)
 
 pub loop-left-smaller : goal.loop-left-smaller
 loop-left-smaller c =
-    let leave-line = c.leave_line-left in
-    let n = leave-line.ensures in omega (arith, n.0, n.1)
+    omega (arith, c.leave_line-left.ensures.0, c.leave_line-left.ensures.1)
 
 pub loop-left-preserved : goal.loop-left-preserved
 loop-left-preserved c =
-    let leave-line = c.leave_line-left in
-    let loop = c.loop-left in
-    let n = leave-line.ensures in
-    (n.1, n.2, leave-line.auto.1.1.0 ∙ loop.invariant.2, leave-line.auto.1.1.1.1.0 ∙ loop.invariant.3)
+    (c.leave_line-left.ensures.1, c.leave_line-left.ensures.2, c.leave_line-left.auto.list ∙ c.loop-left.invariant.2, c.leave_line-left.auto.target ∙ c.loop-left.invariant.3)
 
 pub shape_of-list : goal.shape_of-list
 shape_of-list c =
-    let loop = c.loop-left in
-    loop.invariant.2
+    c.loop-left.invariant.2
 
 pub shape_of-target : goal.shape_of-target
 shape_of-target c =
-    let loop = c.loop-left in
-    loop.invariant.3
+    c.loop-left.invariant.3
 
 pub returns : goal.returns
 returns c =
-    let loop = c.loop-left in
     let a = c.args in
-    let l = loop in
-    all_left_lem a.text.now a.rules.now l.list l.target a.end l.left l.invariant.1 (omega arith)
+    all_left_lem a.text.now a.rules.now c.loop-left.list c.loop-left.target a.end c.loop-left.left c.loop-left.invariant.1 (omega arith)

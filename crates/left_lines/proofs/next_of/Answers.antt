@@ -5,10 +5,8 @@ use Rattle.left_lines.proofs.next_of.Goals as goal
 
 pub returns-then-end-text : goal.returns-then-end-text
 returns-then-end-text c =
-    let if1 = c.if-end-text in
-    let a = c.args in rw (lt-ltb a.end (length a.text.now) if1.true)
+    let a = c.args in rw (lt-ltb a.end (length a.text.now) c.if-end-text.true)
 
 pub returns-else-end-text : goal.returns-else-end-text
 returns-else-end-text c =
-    let if1 = c.if-end-text in
-    let a = c.args in rw (le-ltb a.end (length a.text.now) if1.false)
+    let a = c.args in rw (le-ltb a.end (length a.text.now) c.if-end-text.false)

@@ -4,19 +4,14 @@ use Rattle.left_lines.proofs.put_strike.Goals as goal
 
 pub returns-then-fault-eq0 : goal.returns-then-fault-eq0
 returns-then-fault-eq0 c =
-    let if1 = c.if-fault-eq0 in
-    let a = c.args in listed-none a.number a.fault a.used a.list.now if1.true
+    let a = c.args in listed-none a.number a.fault a.used a.list.now c.if-fault-eq0.true
 
 pub put_note-requires : goal.put_note-requires
 put_note-requires c =
-    let if1 = c.if-fault-eq0 in
     let a = c.args in
-    (rw (strike-size a.number a.fault a.used a.list.now if1.false) at c.requires.0, c.requires.1, c.requires.2)
+    (rw (strike-size a.number a.fault a.used a.list.now c.if-fault-eq0.false) at c.requires.0, c.requires.1, c.requires.2)
 
 pub returns : goal.returns
 returns c =
-    let put-note = c.put_note in
-    let if1 = c.if-fault-eq0 in
     let a = c.args in
-    let put = put-note.ensures in
-    listed-one a.number a.fault a.used a.list.now _ _ if1.false put.0 put.1 put.2
+    listed-one a.number a.fault a.used a.list.now _ _ c.if-fault-eq0.false c.put_note.ensures.0 c.put_note.ensures.1 c.put_note.ensures.2
