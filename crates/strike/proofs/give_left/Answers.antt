@@ -20,14 +20,10 @@ lines_in-requires c =
 
 pub returns : goal.returns
 returns c =
-    let accepted = c.accepted in
-    let lines-in = c.lines_in in
-    let clear = c.clear in
-    let clear-numbers = c.clear_numbers in
     λ text room places short h k r p all.
     let a = c.args in
     let g = a.target.now in
     let l = a.list.now in
-    all-given text g l a.left all short room places h k r p accepted.result lines-in.result _ _ accepted.ensures lines-in.ensures
-    (cleared_rest (struck reader text) g a.left.used _ _ all.text all.used clear.ensures (length_part g a.left.used (length g) (omega arith)))
-    (cleared_rest (laid_out (strikes reader text)) l a.left.listed _ _ all.list all.listed clear-numbers.ensures (length_part l a.left.listed (length l) (omega arith)))
+    all-given text g l a.left all short room places h k r p c.accepted.result c.lines_in.result _ _ c.accepted.ensures c.lines_in.ensures
+    (cleared_rest (struck reader text) g a.left.used _ _ all.text all.used c.clear.ensures (length_part g a.left.used (length g) (omega arith)))
+    (cleared_rest (laid_out (strikes reader text)) l a.left.listed _ _ all.list all.listed c.clear_numbers.ensures (length_part l a.left.listed (length l) (omega arith)))
