@@ -8,12 +8,10 @@ use Rattle.rule_writing.proofs.put_first.Goals as goal
 
 pub put_text-requires : goal.put_text-requires
 put_text-requires c =
-    let entry = c.before.before.before.before in
-    let a = entry.args in
-    omega (arith, entry.requires.1, ap length (first_of a.t3 a.len))
+    let a = c.args in
+    omega (arith, c.requires.1, ap length (first_of a.t3 a.len))
 
 pub returns : goal.returns
 returns c =
-    let entry = c.before.before.before.before.before.before.before in
-    let a = entry.args in
+    let a = c.args in
     placed_as (first_of a.t3 a.len) c.put_text.ensures

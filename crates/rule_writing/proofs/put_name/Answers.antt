@@ -14,17 +14,11 @@ row_at-row-requires c = omega (arith, c.wide.ensures, c.key_number.ensures, key_
 pub put_first-requires : goal.put_first-requires
 put_first-requires c =
     let a = c.args in
-    let k = c.wide in
-    let row = c.row_at-row in
-    let len = c.wide-2 in
-    let name = name_of_lem (key_of a.key) k.result row.result len.result (k.ensures ∙ c.key_number.ensures) row.ensures.0 len.ensures in
-    (omega (arith, len.ensures, row.ensures.1), omega (arith, c.requires, ap length name))
+    let name = name_of_lem (key_of a.key) c.wide.result c.row_at-row.result c.wide-2.result (c.wide.ensures ∙ c.key_number.ensures) c.row_at-row.ensures.0 c.wide-2.ensures in
+    (omega (arith, c.wide-2.ensures, c.row_at-row.ensures.1), omega (arith, c.requires, ap length name))
 
 pub returns : goal.returns
 returns c =
     let a = c.args in
-    let k = c.wide in
-    let row = c.row_at-row in
-    let len = c.wide-2 in
-    let name = name_of_lem (key_of a.key) k.result row.result len.result (k.ensures ∙ c.key_number.ensures) row.ensures.0 len.ensures in
+    let name = name_of_lem (key_of a.key) c.wide.result c.row_at-row.result c.wide-2.result (c.wide.ensures ∙ c.key_number.ensures) c.row_at-row.ensures.0 c.wide-2.ensures in
     placed_as name c.put_first.ensures

@@ -12,14 +12,12 @@ loop-i-init c = (omega arith, writes-from refl (omega (arith, c.requires)))
 pub put_plain_byte-end-requires : goal.put_plain_byte-end-requires
 put_plain_byte-end-requires c =
     let a = c.args in
-    let w = c.loop-i in
-    part_room (plain_byte (get_or a.value.now w.i 0)) _ (byte-here plain_byte a.value.now w.i w.invariant.1 c.loop-i-test.true) c.requires
+    part_room (plain_byte (get_or a.value.now c.loop-i.i 0)) _ (byte-here plain_byte a.value.now c.loop-i.i c.loop-i.invariant.1 c.loop-i-test.true) c.requires
 
 pub loop-i-preserved : goal.loop-i-preserved
 loop-i-preserved c =
     let a = c.args in
-    let w = c.loop-i in
-    (omega arith, writes_more (plain_byte (get_or a.value.now w.i 0)) _ (byte-here plain_byte a.value.now w.i w.invariant.1 c.loop-i-test.true) c.put_plain_byte-end.ensures)
+    (omega arith, writes_more (plain_byte (get_or a.value.now c.loop-i.i 0)) _ (byte-here plain_byte a.value.now c.loop-i.i c.loop-i.invariant.1 c.loop-i-test.true) c.put_plain_byte-end.ensures)
 
 pub shape_of-out : goal.shape_of-out
 shape_of-out c = writes_kept c.loop-i.invariant.1
@@ -27,5 +25,4 @@ shape_of-out c = writes_kept c.loop-i.invariant.1
 pub returns : goal.returns
 returns c =
     let a = c.args in
-    let w = c.loop-i in
-    bytes-end plain_byte a.value.now w.i w.invariant.1 (omega arith)
+    bytes-end plain_byte a.value.now c.loop-i.i c.loop-i.invariant.1 (omega arith)

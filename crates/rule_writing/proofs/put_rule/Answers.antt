@@ -27,23 +27,21 @@ put_pair-end-requires c =
     let a = c.args in
     let v = a.values.now in
     let r = a.rows.now in
-    let got = c.pair_at-pair in
-    let pair = pair_text (entry_of v got.result) in
+    let pair = pair_text (entry_of v c.pair_at-pair.result) in
     let rest = others (pairs_from v r (a.from + 1) (a.to - (a.from + 1))) in
     let below = above a.from a.to c.requires.0 c.if-from-to.false in
-    let is = line-here v r a.from a.to got.result got.ensures below in
-    (entry_in v r a.from a.to got.result got.ensures below c.requires.1, omega (arith, c.requires.2, ap length is, length-append pair rest))
+    let is = line-here v r a.from a.to c.pair_at-pair.result c.pair_at-pair.ensures below in
+    (entry_in v r a.from a.to c.pair_at-pair.result c.pair_at-pair.ensures below c.requires.1, omega (arith, c.requires.2, ap length is, length-append pair rest))
 
 pub put_others-requires : goal.put_others-requires
 put_others-requires c =
     let a = c.args in
     let v = a.values.now in
     let r = a.rows.now in
-    let got = c.pair_at-pair in
-    let pair = pair_text (entry_of v got.result) in
+    let pair = pair_text (entry_of v c.pair_at-pair.result) in
     let rest = others (pairs_from v r (a.from + 1) (a.to - (a.from + 1))) in
     let below = above a.from a.to c.requires.0 c.if-from-to.false in
-    let is = line-here v r a.from a.to got.result got.ensures below in
+    let is = line-here v r a.from a.to c.pair_at-pair.result c.pair_at-pair.ensures below in
     let first = writes_more pair rest (writes-from is (omega (arith, c.requires.2))) c.put_pair-end.ensures in
     (omega (arith, below), c.requires.1, rest_room first c.requires.2)
 
@@ -52,10 +50,9 @@ returns c =
     let a = c.args in
     let v = a.values.now in
     let r = a.rows.now in
-    let got = c.pair_at-pair in
-    let pair = pair_text (entry_of v got.result) in
+    let pair = pair_text (entry_of v c.pair_at-pair.result) in
     let rest = others (pairs_from v r (a.from + 1) (a.to - (a.from + 1))) in
     let below = above a.from a.to c.requires.0 c.if-from-to.false in
-    let is = line-here v r a.from a.to got.result got.ensures below in
+    let is = line-here v r a.from a.to c.pair_at-pair.result c.pair_at-pair.ensures below in
     let first = writes_more pair rest (writes-from is (omega (arith, c.requires.2))) c.put_pair-end.ensures in
     writes_last first c.put_others.ensures

@@ -1,5 +1,5 @@
 -- `rule_writing::put_two` meets its contract.
-use mathlib.Core.List.{◌∷◌}
+use mathlib.Core.List.{[], ◌∷◌}
 use mathlib.Core.Path.{refl}
 use native.Mathlib.Omega.{arith}
 use Rattle.rule_writing.proofs.Writes.{writes-from, writes_more, writes_last}
