@@ -1,5 +1,6 @@
 -- `rule_lines::note` meets its contract.
 use mathlib.Core.Path.{◌≡◌, sym, ◌∙◌}
+use native.Mathlib.Omega.{arith}
 use borrow.Author.Tests.{eq-eqb, ne_eqb}
 use Rattle.rules.specs.Key.{key_number}
 use Rattle.keys.specs.Table.{key_of}
@@ -32,4 +33,4 @@ returns-else-goto-ne0 c =
 pub returns-in_default : goal.returns-in_default
 returns-in_default c =
     let a = c.args in
-    rw (ne_eqb (key_number (key_of a.key)) 17 (λ e. c.in_default.rest.0.1 (c.key_number.ensures ∙ e)), ne_eqb (key_number (key_of a.key)) 18 (λ e. c.in_default.rest.1 (c.key_number.ensures ∙ e)))
+    rw (ne_eqb (key_number (key_of a.key)) 17 (λ e. omega (arith, c.key_number.ensures)), ne_eqb (key_number (key_of a.key)) 18 (λ e. omega (arith, c.key_number.ensures)))
