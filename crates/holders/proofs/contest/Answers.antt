@@ -7,7 +7,7 @@ use native.Mathlib.Omega.{arith}
 use Rattle.claims.specs.Records.{states_in}
 use Rattle.contest.specs.Contest.{contest as contest-list}
 use Rattle.contest.specs.Operation.{enc_listed, fullest_contest, states_of}
-use Rattle.holders.proofs.Answers.{going-same, all-bytes, all_end, all-names, contest-short, contest-refused, whole, contest-size, contest-going, contest-accepted}
+use Rattle.holders.proofs.Answers.{going_same, all-bytes, all_end, all-names, contest-short, contest-refused, whole, contest-size, contest-going, contest-accepted}
 use Rattle.holders.proofs.Lists.{names_few}
 use Rattle.holders.specs.Lists.{Going}
 use Rattle.lists.specs.Bytes.{Bytes}
@@ -55,7 +55,7 @@ accepted-requires c =
     let (ss, is) : (ss : List State) × (states_of entry.set.now ≡ ok ss) = c.in-Sound.ensures in
     let counted = c.count_of.ensures.0 ∙ (whole entry.set.now (length entry.target.now) enough in_bytes ss is).counted in
     let going = contest-going entry.set.now (length entry.target.now) enough in_bytes ss is c.clear.new.t c.count_of.result room counted in
-    let still = going-same entry.set.now list.new.t c.clear.new.t c.count_of.result list.auto.t going in
+    let still = going_same entry.set.now list.new.t c.clear.new.t c.count_of.result list.auto.t going in
     let size = contest-size entry.set.now (length entry.target.now) enough in_bytes ss is in
     let end = all_end entry.set.now list.new.t c.count_of.result list.result still list.ensures.0 list.ensures.1 in
     let few = names_few entry.set.now _ list.new.t list.result.end list.result.names list.ensures.0.written in
@@ -78,7 +78,7 @@ returns-in-Sound c =
     let (ss, is) : (ss : List State) × (states_of entry.set.now ≡ ok ss) = c.in-Sound.ensures in
     let counted = c.count_of.ensures.0 ∙ (whole entry.set.now (length entry.target.now) enough in_bytes ss is).counted in
     let going = contest-going entry.set.now (length entry.target.now) enough in_bytes ss is c.clear.new.t c.count_of.result room counted in
-    let still = going-same entry.set.now list.new.t c.clear.new.t c.count_of.result list.auto.t going in
+    let still = going_same entry.set.now list.new.t c.clear.new.t c.count_of.result list.auto.t going in
     let size = list.auto.t ∙ room in
     let made = cat enc_listed (contest-list (states_in entry.set.now)) in
     let bytes = all-bytes entry.set.now list.new.t c.count_of.result list.result still list.ensures.0 list.ensures.1 in

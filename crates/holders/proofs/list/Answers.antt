@@ -1,7 +1,7 @@
 use Prim.Native.Nat.{◌-◌}
 use mathlib.Core.Path.{refl, ◌∙◌}
 use native.Mathlib.Omega.{arith}
-use Rattle.holders.proofs.Answers.{listing_none, going-same}
+use Rattle.holders.proofs.Answers.{listing_none, going_same}
 use Rattle.holders.proofs.list.Goals as goal
 
 pub loop-done-init : goal.loop-done-init
@@ -16,7 +16,7 @@ list_record-done-requires c =
     let loop = c.loop-done in
     let pre = c.requires in
     let if1 = c.loop-done-test in
-    (going-same entry.set.now loop.t entry.t.now entry.n loop.invariant.1 pre.0, loop.invariant.0, omega (arith, if1.true))
+    (going_same entry.set.now loop.t entry.t.now entry.n loop.invariant.1 pre.0, loop.invariant.0, omega (arith, if1.true))
 
 pub loop-done-smaller : goal.loop-done-smaller
 loop-done-smaller c =
