@@ -9,9 +9,9 @@ use Rattle.rule_writing.proofs.put_first.Goals as goal
 pub put_text-requires : goal.put_text-requires
 put_text-requires c =
     let a = c.args in
-    omega (arith, c.requires.1, ap length (first_of a.t3 a.len))
+    omega (arith, c.requires.1, ap length (first_of a.name a.len))
 
 pub returns : goal.returns
 returns c =
     let a = c.args in
-    placed_as (first_of a.t3 a.len) c.put_text.ensures
+    placed_as (first_of a.name a.len) c.put_text.ensures
