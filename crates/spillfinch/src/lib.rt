@@ -82,34 +82,19 @@ pub fn spillfinch_run(
     put_answer(run::run(text, device, outcome, sheet, target), answer);
 }
 
-pub fn spillfinch_close(
-    device: &[u8],
-    outcome: &[u8],
-    target: &mut [u8],
-    answer: &mut [u32; 8],
-)
+pub fn spillfinch_close(device: &[u8], outcome: &[u8], target: &mut [u8], answer: &mut [u32; 8])
     ensures { Gives answer.new target.new (close_answer device.now outcome.now (length target.old)) }
 {
     put_answer(close::close(device, outcome, target), answer);
 }
 
-pub fn spillfinch_newer(
-    device: &[u8],
-    outcome: &[u8],
-    target: &mut [u8],
-    answer: &mut [u32; 8],
-)
+pub fn spillfinch_newer(device: &[u8], outcome: &[u8], target: &mut [u8], answer: &mut [u32; 8])
     ensures { NewerGives device.now outcome.now (length target.old) answer.new target.new }
 {
     put_answer(convert::newer(device, outcome, target), answer);
 }
 
-pub fn spillfinch_older(
-    device: &[u8],
-    outcome: &[u8],
-    target: &mut [u8],
-    answer: &mut [u32; 8],
-)
+pub fn spillfinch_older(device: &[u8], outcome: &[u8], target: &mut [u8], answer: &mut [u32; 8])
     ensures { OlderGives device.now outcome.now (length target.old) answer.new target.new }
 {
     put_answer(convert::older(device, outcome, target), answer);
@@ -123,12 +108,7 @@ pub fn spillfinch_write(text: &[u8], target: &mut [u8], answer: &mut [u32; 8])
 }
 
 // Document 02, Item 12.
-pub fn spillfinch_strike(
-    text: &[u8],
-    target: &mut [u8],
-    strikes: &mut [u16],
-    answer: &mut [u32; 8],
-)
+pub fn spillfinch_strike(text: &[u8], target: &mut [u8], strikes: &mut [u16], answer: &mut [u32; 8])
     ensures { StrikeGives text.now (length target.old) (length strikes.old) answer.new target.new strikes.new }
 {
     let struck = strike::strike(text, target, strikes);

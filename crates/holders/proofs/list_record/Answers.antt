@@ -159,14 +159,14 @@ loop-left-preserved c =
     let if1 = c.if-not-claimed_before in
     let more : 0 < loop.left = omega (arith, loop-test.true) in
     elim if1.branch [
-      then-not-claimed_before w ↦
+      | then-not-claimed_before w ↦
           let unclaimed = sym claimed-before.ensures ∙ w.if-not-claimed_before.true in
           let size = ap length w.t-is ∙ w.put_name-end.auto.t in (
             turning_new entry.set.now bytes_of.result.now entry.done.records _ loop.t loop.end loop.names loop.q loop.left loop.invariant.0 more parts_at.result parts_at.ensures
                 unclaimed if1.t if1.end if1.names (w.t-is ∙ w.put_name-end.ensures.0) (w.end-is ∙ w.put_name-end.ensures.1) size w.names-is,
             size ∙ loop.invariant.1,
           )
-    | else-not-claimed_before w ↦
+      | else-not-claimed_before w ↦
           let claimed = sym claimed-before.ensures ∙ w.if-not-claimed_before.false in (
             turning_known entry.set.now bytes_of.result.now entry.done.records _ loop.t loop.end loop.names loop.q loop.left loop.invariant.0 more parts_at.result parts_at.ensures
                 claimed if1.t if1.end if1.names w.t-is w.end-is w.names-is,

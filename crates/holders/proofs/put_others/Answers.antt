@@ -46,7 +46,7 @@ loop-k-preserved c =
     let v = get_or entry.list.now loop.k 0 in
     let x = but entry.holder (take loop.k entry.list.now) in
     elim if1.branch [
-      then-list-k w ↦
+      | then-list-k w ↦
           let other = ne_eqb v entry.holder w.if-list-k.true in
           let room = but_room entry.holder entry.list.now loop.k (omega (arith, loop-test.true)) other in
           let grown = but_other entry.holder entry.list.now loop.k (omega (arith, loop-test.true)) other in (
@@ -55,7 +55,7 @@ loop-k-preserved c =
             w.t-is ∙ put_one entry.t.now loop.t x entry.at loop.end v loop.invariant.2 loop.invariant.1 (omega (arith, room, loop.invariant.1, pre)) ∙ ap (stored entry.t.now entry.at) (sym grown),
             ap length w.t-is ∙ length-set loop.t loop.end v ∙ loop.invariant.3,
           )
-    | else-list-k w ↦
+      | else-list-k w ↦
           let same = but_holder entry.holder entry.list.now loop.k (omega (arith, loop-test.true)) (eq-eqb v entry.holder w.if-list-k.false) in (
             omega (arith, loop-test.true),
             w.end-is ∙ loop.invariant.1 ∙ ap (λ (y : List ℕ). entry.at + length y) (sym same),

@@ -101,9 +101,9 @@ returns-then-not-row_holds c =
         (λ x.
             let test = pair_holds x.device x.state in
             let here =
-                judged a.dev.now b a.chain a.t.now a.layout a.values.now p.result c.subject_of-subject.result c.subject_of-subject.ensures
-                c.at_event.result c.at_event.ensures c.row_holds.result c.row_holds.ensures x
-                ∙ not-true _ c.if-not-row_holds.true-raw in
+            judged a.dev.now b a.chain a.t.now a.layout a.values.now p.result c.subject_of-subject.result c.subject_of-subject.ensures
+            c.at_event.result c.at_event.ensures c.row_holds.result c.row_holds.ensures x
+            ∙ not-true _ c.if-not-row_holds.true-raw in
             let fails = fails_from test a.values.now a.rows.now a.to a.from n.result w.0 w.1 (all_fails a.values.now a.rows.now n.result a.to p.result p.ensures w.1 test here) in
             (sym (matched-by x.device x.state _ false fails), sym (tried_missed x.device x.state _ fails))),
         omega arith,
@@ -164,7 +164,7 @@ returns-in-At c =
     let a = c.args in
     let l = c.loop-i in
     let w = searched a.values.now a.rows.now a.from a.to a.dev.now a.chain a.t.now a.layout l.i l.parents c.nearest.result c.loop-i-test.false
-        (omega (arith, l.invariant.2.within, c.if-parents-to.false)) l.invariant.1 l.invariant.2 c.nearest.ensures in (
+    (omega (arith, l.invariant.2.within, c.if-parents-to.false)) l.invariant.1 l.invariant.2 c.nearest.ensures in (
       subst (PlacedOf a.values.now a.rows.now a.from a.to a.dev.now a.chain a.t.now a.layout) c.in-At.is w,
       asks-end a.values.now a.rows.now a.to _ l.i c.loop-i-test.false l.asks l.invariant.3,
     )
@@ -174,5 +174,5 @@ returns-in-Missed c =
     let a = c.args in
     let l = c.loop-i in
     let w = searched a.values.now a.rows.now a.from a.to a.dev.now a.chain a.t.now a.layout l.i l.parents c.nearest.result c.loop-i-test.false
-        (omega (arith, l.invariant.2.within, c.if-parents-to.false)) l.invariant.1 l.invariant.2 c.nearest.ensures in
+    (omega (arith, l.invariant.2.within, c.if-parents-to.false)) l.invariant.1 l.invariant.2 c.nearest.ensures in
     (subst (PlacedOf a.values.now a.rows.now a.from a.to a.dev.now a.chain a.t.now a.layout) c.in-Missed.is w, tt)

@@ -106,9 +106,9 @@ search-preserved c =
           let q = c.search in
           let n = the_nth a.dev.now b a.chain a.t.now a.layout x q.k c.if-devices-k.false in
           let f =
-              judged a.dev.now b a.chain a.t.now a.layout a.values.now r c.subject_of.result c.subject_of.ensures c.at_parent.result c.at_parent.ensures
-              q.k c.pair_holds.result c.pair_holds.ensures x n.member n.lies
-              ∙ not-true _ c.if-not-pair_holds.true-raw in
+          judged a.dev.now b a.chain a.t.now a.layout a.values.now r c.subject_of.result c.subject_of.ensures c.at_parent.result c.at_parent.ensures
+          q.k c.pair_holds.result c.pair_holds.ensures x n.member n.lies
+          ∙ not-true _ c.if-not-pair_holds.true-raw in
           q.invariant.1 x
           ∙ near_later (chain x.device) q.k (pairs_from a.values.now a.rows.now a.from (a.to - a.from)) n.member n.nth
           (c.loop-i.invariant.1 n.member n.lies

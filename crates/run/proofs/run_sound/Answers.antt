@@ -62,8 +62,8 @@ accepted-requires c =
     let w = c.run_rules in
     let few = small a.values.now a.rows.now a.rules.now a.count a.dev.now a.chain a.sheet.now c.load.new.t a.layout w.new.t w.result _ w.ensures c.in-Ended.is in
     let (y, q, z, v, u) =
-        ran a.dev.now a.rec.now a.chain a.layout c.load.new.t c.load.ensures (omega (arith, c.requires.0))
-        a.values.now a.rows.now a.rules.now a.count a.sheet.now w.new.t w.result _ w.ensures c.in-Ended.is x is d s h in
+    ran a.dev.now a.rec.now a.chain a.layout c.load.new.t c.load.ensures (omega (arith, c.requires.0))
+    a.values.now a.rows.now a.rules.now a.count a.sheet.now w.new.t w.result _ w.ensures c.in-Ended.is x is d s h in
     (omega (arith, few.0), omega (arith, few.1), omega (arith, used_few (length (chain d)) _ c.in-Ended.left y.state z.held))
 
 pub refused-requires : goal.refused-requires
@@ -78,8 +78,8 @@ returns-in-Ended c =
     let w = c.run_rules in
     λ x is d s h.
     let (y, q, z, v, u) =
-        ran a.dev.now a.rec.now a.chain a.layout c.load.new.t c.load.ensures (omega (arith, c.requires.0))
-        a.values.now a.rows.now a.rules.now a.count a.sheet.now w.new.t w.result _ w.ensures c.in-Ended.is x is d s h in
+    ran a.dev.now a.rec.now a.chain a.layout c.load.new.t c.load.ensures (omega (arith, c.requires.0))
+    a.values.now a.rows.now a.rules.now a.count a.sheet.now w.new.t w.result _ w.ensures c.in-Ended.is x is d s h in
     sound-ended (length a.t.now) (length (chain d)) w.new.t c.in-Ended.left c.in-Ended.visited c.in-Ended.tried
     (run_from (engine x) d next s (rules_from a.values.now a.rows.now a.rules.now 0 a.count)) y q z.held v u (omega (arith, w.ensures.length, c.load.auto.t)) c.accepted.result c.accepted.ensures
 

@@ -29,8 +29,8 @@ overflow_add-tried c =
     let l = c.loop-i in
     let x = c.run_rule in
     let y =
-        further a.values.now a.rows.now a.rules.now a.count a.dev.now a.chain a.sheet.now a.t.now a.layout l.t l.layout
-        l.visited l.tried l.i l.invariant _ x.result x.ensures _ _ _ c.in-Next.is in
+    further a.values.now a.rows.now a.rules.now a.count a.dev.now a.chain a.sheet.now a.t.now a.layout l.t l.layout
+    l.visited l.tried l.i l.invariant _ x.result x.ensures _ _ _ c.in-Next.is in
     omega (arith, l.invariant.tried, l.invariant.few, l.invariant.within, c.requires.0.few, y.2)
 
 pub loop-i-smaller : goal.loop-i-smaller
@@ -39,8 +39,8 @@ loop-i-smaller c =
     let l = c.loop-i in
     let x = c.run_rule in
     let y =
-        further a.values.now a.rows.now a.rules.now a.count a.dev.now a.chain a.sheet.now a.t.now a.layout l.t l.layout
-        l.visited l.tried l.i l.invariant _ x.result x.ensures _ _ _ c.in-Next.is in
+    further a.values.now a.rows.now a.rules.now a.count a.dev.now a.chain a.sheet.now a.t.now a.layout l.t l.layout
+    l.visited l.tried l.i l.invariant _ x.result x.ensures _ _ _ c.in-Next.is in
     omega (arith, y.0, y.1)
 
 pub loop-i-preserved : goal.loop-i-preserved
