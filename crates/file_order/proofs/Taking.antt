@@ -5,7 +5,6 @@ use mathlib.Core.Path.{◌≡◌, refl, sym, ap, ap₂, ◌∙◌, subst}
 use mathlib.Core.Bool.{Bool, true, false}
 use mathlib.Core.List.{List, [], ◌∷◌, ◌++◌, map, append_assoc}
 use native.Mathlib.Omega.{arith}
-use native.Mathlib.Numerals.{add-one}
 use lib.ListN.{length, take, drop, get_or, length-append, length-drop, take-append-drop}
 use lib.Seq.{length-take-le, take-append_seam, take-nil}
 use Rattle.lists.specs.Lists.{pick, reject, All}
@@ -15,8 +14,8 @@ use Rattle.lists.specs.Bytes.{part}
 use Rattle.splice.specs.Moves.{inserted}
 use Rattle.files.specs.Files.{File, loses, before, insert, in_order, winners}
 use Rattle.file_rows.specs.Places.{file_at, files_at}
-use Rattle.file_order.specs.Order.{Lies, file_on, chosen, Kept, place_in, TakenIs, WinnersAre}
-use Rattle.file_order.proofs.Numbers.{mapped-length, mapped_next, mapped_end}
+use Rattle.file_order.specs.Order.{file_on, chosen, Kept, place_in, TakenIs, WinnersAre}
+use Rattle.file_order.proofs.Numbers.{mapped_next, mapped_end}
 
 -- ---- where a file is put
 

@@ -3,7 +3,7 @@
 use Prim.Native.Nat.{ℕ, ◌+◌, ◌-◌, ◌≤◌, ◌<◌}
 use mathlib.Core.Path.{◌≡◌, refl, sym, ap, ap₂, ◌∙◌}
 use mathlib.Core.Bool.{Bool, true, false, ◌&&◌}
-use mathlib.Core.List.{List, [], ◌∷◌}
+use mathlib.Core.List.{List}
 use native.Mathlib.Omega.{arith}
 use borrow.Author.Tests.{le-leb, lt-leb, leb-true, leb-false}
 use lib.Dec.{leb}
@@ -11,11 +11,11 @@ use lib.ListN.{length, take, drop, get_or, length-drop, drop_of_length-le}
 use lib.Seq.{drop-drop, length-take-le}
 use Rattle.lists.proofs.Rest.{rest_at}
 use Rattle.lists.proofs.Tests.{and_both, both_and, and-false}
-use Rattle.entries.specs.Parse.{Parse, got, bad, keep}
+use Rattle.entries.specs.Parse.{got, bad, keep}
 use Rattle.entries.specs.Entry.{one_text}
 use Rattle.entries.proofs.Entries.{kept, keep_there}
 use Rattle.files.specs.Files.{ok_name, most_name}
-use Rattle.set_rows.specs.Places.{bytes_in, Inside}
+use Rattle.set_rows.specs.Places.{bytes_in}
 use Rattle.set_rows.specs.declared.Part.{Part}
 use Rattle.file_rows.specs.Places.{NameFrom, NameIs}
 

@@ -1,8 +1,7 @@
 -- A long text, and a record beside its device, by the places that code has.
 -- Assumes nothing.
 use Prim.Native.Nat.{ℕ, ◌+◌, ◌-◌, ◌≤◌, ◌<◌}
-use mathlib.Core.Path.{◌≡◌, refl, sym, ap, ap₂, ◌∙◌}
-use mathlib.Core.Bool.{Bool, true, false}
+use mathlib.Core.Path.{◌≡◌, sym, ap, ap₂, ◌∙◌}
 use mathlib.Core.List.{List}
 use native.Mathlib.Omega.{arith}
 use borrow.Author.Tests.{le-leb, lt-leb, leb-true}
@@ -11,7 +10,7 @@ use lib.ListN.{length, take, drop, length-drop}
 use lib.Seq.{drop-drop}
 use Rattle.lists.proofs.Moves.{ap_at}
 use Rattle.bits.specs.Bits.{number_at}
-use Rattle.entries.specs.Parse.{Parse, got, bad, bind, keep}
+use Rattle.entries.specs.Parse.{Parse, got, bad, bind}
 use Rattle.entries.specs.Entry.{exactly}
 use Rattle.entries.proofs.Rows.{through}
 use Rattle.entries.proofs.Entries.{kept, keep_there}
@@ -19,7 +18,7 @@ use Rattle.sets.specs.Sets.{one_long}
 use Rattle.sets.specs.Lent.{Lent, one_lent}
 use Rattle.set_rows.specs.declared.Part.{Part}
 use Rattle.set_rows.specs.declared.LentPlace.{LentPlace}
-use Rattle.set_rows.specs.Places.{bytes_in, Inside, LongFrom, LongIs, lent_in, LentFrom, LentIs}
+use Rattle.set_rows.specs.Places.{bytes_in, LongFrom, LongIs, LentFrom, LentIs}
 
 -- ---- a long text
 

@@ -10,7 +10,7 @@ use native.Mathlib.Omega.{arith}
 use borrow.Author.Tests.{le-leb, lt-leb, leb-true, eq-eqb, ne_eqb}
 use lib.Dec.{leb, eqb}
 use lib.ListN.{length, drop, get_or, length-drop}
-use Rattle.lists.specs.Lists.{is_some, is_empty}
+use Rattle.lists.specs.Lists.{is_some}
 use Rattle.lists.specs.Bytes.{between}
 use Rattle.lists.proofs.Moves.{ap_at}
 use Rattle.lists.proofs.Tests.{and_both, both_and, and-false}

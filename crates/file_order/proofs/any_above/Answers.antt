@@ -1,4 +1,3 @@
-use Prim.Native.Nat.{◌-◌}
 use mathlib.Core.Path.{refl, sym, ◌∙◌}
 use Rattle.files.specs.Files.{above}
 use Rattle.file_rows.specs.Places.{file_at}

@@ -1,4 +1,3 @@
-use Prim.Native.Nat.{◌-◌}
 use mathlib.Core.Path.{refl, sym, ◌∙◌}
 use Rattle.file_order.proofs.Names.{before_out, before_less, before_more, before_on, before-end}
 use native.Mathlib.Omega.{arith}

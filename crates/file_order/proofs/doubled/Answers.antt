@@ -1,4 +1,3 @@
-use Prim.Native.Nat.{◌-◌}
 use mathlib.Core.Path.{refl, sym, ◌∙◌}
 use Rattle.file_order.proofs.Numbers.{doubled-next, doubled-none}
 use native.Mathlib.Omega.{arith}

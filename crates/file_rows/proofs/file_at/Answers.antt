@@ -8,7 +8,7 @@ use Rattle.sets.specs.Sets.{one_long}
 use Rattle.files.specs.Files.{ok_name}
 use Rattle.set_rows.specs.Places.{LongIs}
 use Rattle.file_rows.specs.Places.{NameIs}
-use Rattle.file_rows.proofs.Files.{no-file, no_name, no_text, no-rank, file-is}
+use Rattle.file_rows.proofs.Files.{no-file, no_name, no_text, file-is}
 use native.Mathlib.Omega.{arith}
 use Rattle.file_rows.proofs.file_at.Goals as goal
 

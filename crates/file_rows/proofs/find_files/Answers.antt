@@ -1,11 +1,7 @@
-use Prim.Native.Nat.{◌-◌}
-use mathlib.Core.Path.{◌≡◌}
-use lib.ListN.{drop}
-use Rattle.entries.specs.Parse.{bad}
 use Rattle.files.specs.Files.{most_files, one_file}
 use Rattle.set_rows.proofs.Walk.{set-empty, set-above}
 use Rattle.file_rows.specs.Places.{FileIs}
-use Rattle.file_rows.proofs.Walk.{found_first, found-bad, found-next, found-behind, found_all}
+use Rattle.file_rows.proofs.Walk.{found_first, found-next, found-behind, found_all}
 use native.Mathlib.Omega.{arith}
 use Rattle.file_rows.proofs.find_files.Goals as goal
 

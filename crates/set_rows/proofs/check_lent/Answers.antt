@@ -1,10 +1,8 @@
 use Prim.Native.Nat.{ℕ, ◌≤◌}
 use lib.ListN.{length, drop, get_or}
-use mathlib.Core.Path.{◌≡◌, sym, ap, ◌∙◌}
+use mathlib.Core.Path.{sym, ap, ◌∙◌}
 use native.Mathlib.Omega.{arith}
-use Rattle.entries.specs.Parse.{bad}
-use Rattle.set_rows.proofs.Walk.{is_whole, turn-whole, turn-bad, end_whole, set-empty, set-above, set-begins}
-use Rattle.set_rows.specs.Places.{lent_in, LentIs}
+use Rattle.set_rows.proofs.Walk.{is_whole, end_whole, set-empty, set-above, set-begins}
 use Rattle.sets.specs.Lent.{most_records, one_lent}
 use Rattle.set_rows.proofs.check_lent.Goals as goal
 
