@@ -12,12 +12,15 @@ use lib.IntN.{ℤ, nat_abs}
 use Rattle.bits.proofs.Signed.{Below, Above}
 use Rattle.template.specs.Decimal.{decimal}
 use Rattle.lists.specs.Bytes.{between}
-use Rattle.engine.specs.Listing.{hex, shown_byte, escaped, signed, four_octal, line_of, set_line}
+use Rattle.lists.specs.Quoted.{bytes}
+use Rattle.lists.specs.Checked.{refused, line}
+use Rattle.lists.specs.Refusal.{Refusal, number}
+use Rattle.engine.specs.Listing.{hex, shown_byte, escaped, signed, four_octal, line_of, set_line, printed}
 use Rattle.insertion.specs.Append.{Appended}
 use Rattle.insertion.specs.declared.Put.{Put}
 use Rattle.insertion.specs.declared.Put.TheVariants.{Done, Full}
 use Rattle.insertion.proofs.Laws.{appended_both, appended_full}
-use Rattle.listing_lines.specs.Behind.{Within, Behind}
+use Rattle.listing_lines.specs.Behind.{Within, Behind, refusal_line}
 
 -- ---- one text
 
@@ -35,6 +38,11 @@ behind_both y z l₁ l₂ l₃ p q r f g x l used a =
 
 pub behind-none : (l : List ℕ) (p : Put) → Behind [] l p p l
 behind-none l p x m used a = subst (λ (t : List ℕ). Appended t m used p l) (sym (append-nil x)) a
+
+-- the line of a refusal is all that is listed of it
+pub refusal-printed : (n : ℕ) (f : Refusal) → refusal_line (number f) n ≡ printed (refused (line n f))
+unfolding printed bytes
+refusal-printed n f = refl
 
 -- ---- what is left to write
 

@@ -2,23 +2,32 @@
 -- Assumes nothing.
 use Prim.Native.Nat.{ℕ, ◌+◌, ◌-◌, ◌≤◌}
 use mathlib.Core.Path.{◌≡◌, refl, ap, ◌∙◌}
-use mathlib.Core.List.{List, [], ◌∷◌}
+use mathlib.Core.List.{List, [], ◌∷◌, ◌++◌, append_assoc}
 use mathlib.Core.Option.{Option, none, some}
 use native.Mathlib.Omega.{arith}
 use borrow.Author.Tests.{eq-eqb, ne_eqb}
 use lib.ListN.{length, take, drop, length-append}
 use lib.Seq.{take_at}
+use Rattle.lists.specs.Lists.{cat}
 use Rattle.lists.specs.Quoted.{bytes}
 use Rattle.lists.proofs.Moves.{ap_at}
 use Rattle.bits.specs.Bits.{number_at}
 use Rattle.outcome.specs.Head.{Head, header_size}
 use Rattle.outcome.specs.State.{State, mode_set, mode_bits}
-use Rattle.engine.specs.Listing.{line_of, four_octal, mode_line, watch_line}
+use Rattle.engine.specs.Operations.{Command}
+use Rattle.engine.specs.Listing.{line_of, four_octal, mode_line, watch_line, command_line, listing_of}
 use Rattle.outcome_target.specs.Layout.{layout_of}
 use Rattle.outcome_target.specs.Held.{Held}
 use Rattle.outcome_target.specs.declared.Layout.{Layout}
 use Rattle.outcome_target.proofs.Facts.{held_number, held_head, held-part, held-rising, held-size}
 use Rattle.outcome_target.proofs.Frames.{owner-frame, group-frame}
+use Rattle.listing_record.specs.Lines.{record_lines}
+
+-- ---- the lines of the record, then those of the commands
+
+pub listing-parts : (visited tried : ℕ) (s : State) (cs : List Command) → record_lines visited tried s ++ cat command_line cs ≡ listing_of visited tried s cs
+unfolding listing_of bytes
+listing-parts visited tried s cs = simp append_assoc
 
 -- ---- mode
 

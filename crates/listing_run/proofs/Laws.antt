@@ -56,6 +56,7 @@ use Rattle.insertion.specs.declared.Put.{Put}
 use Rattle.insertion.specs.declared.Put.TheVariants.{Done}
 use Rattle.insertion.proofs.Laws.{appended_none}
 use Rattle.listing_lines.specs.Behind.{Behind, refusal_line}
+use Rattle.listing_lines.proofs.Laws.{refusal-printed}
 use Rattle.listing_record.specs.Lines.{record_lines}
 use Rattle.listing_run.specs.Listed.{Made, LeftBy, closed_listing}
 
@@ -66,11 +67,6 @@ from_start y o o₁ r b = b [] o 0 (appended_none o 0 (omega arith))
 
 pub appended_is : (y z o o₁ : List ℕ) (r : Put) → y ≡ z → Appended y o 0 r o₁ → Appended z o 0 r o₁
 appended_is y z o o₁ r e a = subst (λ (x : List ℕ). Appended x o 0 r o₁) e a
-
--- the lines of the record, then those of the commands
-pub listing-parts : (visited tried : ℕ) (s : State) (cs : List Command) → record_lines visited tried s ++ cat command_line cs ≡ listing_of visited tried s cs
-unfolding listing_of bytes
-listing-parts visited tried s cs = simp append_assoc
 
 -- ---- numbers
 no_number : (f : Refusal) → number f ≡ 0 → ⊥
@@ -84,8 +80,8 @@ module _ (text dev out sheet : List ℕ) where
 
   -- a refused run is all that is listed
   ran-refused : (n : ℕ) (f : Refusal) → halted ≡ refused (line n f) → listing_from text dev out sheet ≡ refusal_line (number f) n
-  unfolding listing_from listed printed bytes
-  ran-refused n f e = rw e
+  unfolding listing_from listed
+  ran-refused n f e = rw e (sym (refusal-printed n f))
 
   ran-ok : (h : Halt State) (d : Device) → halted ≡ ok h → D.decode dev ≡ some d → listing_from text dev out sheet ≡ printed (closed_listing h.visited h.tried d h.state)
   unfolding listing_from listed
@@ -172,12 +168,11 @@ module _ (dev t : List ℕ) (used : ℕ) (d : Device) (s : State) (w : LeftBy de
     close_answer = e ∙ ap (operations.given fullest_run_list) closes
 
     pub close-refused : (visited tried : ℕ) → (g.number ≡ 0 → ⊥) → refusal_line g.number g.line ≡ printed (closed_listing visited tried d s)
-    unfolding printed bytes
     close-refused visited tried z = go made close_answer
       where
         go : (c : Checked Refusal (List Command)) → answered g list ≡ operations.given fullest_run_list (on_line 0 c >>= λ cs. ok (run_list cs))
             → refusal_line g.number g.line ≡ printed (on_line 0 c >>= λ cs. ok (listing_of visited tried s cs))
-        go (refused f) a = rw (ap (λ (x : runs.Answer). x.number) a, ap (λ (x : runs.Answer). x.line) a) refl
+        go (refused f) a = rw (ap (λ (x : runs.Answer). x.number) a, ap (λ (x : runs.Answer). x.line) a) (refusal-printed 0 f)
         go (ok cs) a = absurd (z (ap (λ (x : runs.Answer). x.number) a))
 
     pub close-made : g.number ≡ 0 → (cs : List Command) × (made ≡ ok cs) × Made list cs

@@ -10,7 +10,8 @@ use Rattle.listing_commands.specs.Lines.{entry_lines}
 use Rattle.listing_commands.proofs.Laws.{list_lines_lem}
 use Rattle.listing_record.specs.Lines.{record_lines}
 use Rattle.listing_lines.proofs.Laws.{behind-is, behind_both}
-use Rattle.listing_run.proofs.Laws.{from_start, appended_is, listing-parts}
+use Rattle.listing_record.proofs.Laws.{listing-parts}
+use Rattle.listing_run.proofs.Laws.{from_start, appended_is}
 use Rattle.listing_run.proofs.put_both.Goals as goal
 
 pub returns : goal.returns
