@@ -15,7 +15,7 @@ use Rattle.lists.specs.Bytes.{between}
 use Rattle.lists.specs.Quoted.{bytes}
 use Rattle.lists.specs.Checked.{refused, line}
 use Rattle.lists.specs.Refusal.{Refusal, number}
-use Rattle.engine.specs.Listing.{hex, shown_byte, escaped, signed, four_octal, line_of, set_line, printed}
+use Rattle.engine.specs.Listing.{hex, shown_byte, escaped, signed, four_octal, line_of, set_line, printed as printed_of}
 use Rattle.insertion.specs.Append.{Appended}
 use Rattle.insertion.specs.declared.Put.{Put}
 use Rattle.insertion.specs.declared.Put.TheVariants.{Done, Full}
@@ -40,8 +40,8 @@ pub behind-none : (l : List ℕ) (p : Put) → Behind [] l p p l
 behind-none l p x m used a = subst (λ (t : List ℕ). Appended t m used p l) (sym (append-nil x)) a
 
 -- the line of a refusal is all that is listed of it
-pub refusal-printed : (n : ℕ) (f : Refusal) → refusal_line (number f) n ≡ printed (refused (line n f))
-unfolding printed bytes
+pub refusal-printed : (n : ℕ) (f : Refusal) → refusal_line (number f) n ≡ printed_of (refused (line n f))
+unfolding printed_of bytes
 refusal-printed n f = refl
 
 -- ---- what is left to write
