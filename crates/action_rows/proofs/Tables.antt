@@ -4,7 +4,7 @@ use Prim.Native.Nat.{ℕ, zero, suc, ◌+◌, ◌-◌, ◌*◌, ◌≤◌, ◌<�
 use mathlib.Core.Path.{◌≡◌, refl, sym, ap, ap₂, ◌∙◌, subst}
 use mathlib.Core.Bool.{true, false}
 use mathlib.Core.List.{List, ◌∷◌}
-use mathlib.Core.Option.{Option, none, some}
+use Rattle.std.specs.Prelude.{Option, None, Some}
 use native.Mathlib.Omega.{arith}
 use lib.ListN.{length, get_or}
 use Rattle.lists.specs.Checked.{Placed}
@@ -41,8 +41,8 @@ module _ (v r t t' : List ℕ) (n : ℕ) (w : ActionsPut r t t' n) where
   }
 
   jump_same : (i k : ℕ) (o : Option (List ℕ)) → Resolved v r t i n o k → Resolved v r t' i n o k
-  jump_same i k none h = h
-  jump_same i k (some g) (p, h) = (p, goes_same g (i + 1) (k - 1) h)
+  jump_same i k None h = h
+  jump_same i k (Some g) (p, h) = (p, goes_same g (i + 1) (k - 1) h)
 
   pub runnable_same : (js : List ℕ) → Runnable v r t js n → Runnable v r t' js n
   runnable_same js h = record {

@@ -5,21 +5,20 @@
 
 ghost use Rattle.std.specs.Prelude.{◌≡◌, ℕ, ◌-◌, ◌*◌, ◌≤◌, ◌<◌, length};
 ghost use Rattle.lists.specs.Sizes.{most_rules};
+ghost use Rattle.table.specs.Rules.{mark_of};
 ghost use Rattle.action_rows.specs.Actions.{action_in, Within, ActionsPut};
 
-// One more than the first of these rows whose key is ACTION, which has the number 0; or 0.
-fn action_in(rows: &[u16], from: usize, to: usize) -> usize
+// The first of these rows whose key is ACTION, which has the number 0.
+fn action_in(rows: &[u16], from: usize, to: usize) -> Option<usize>
     requires { (from ≤ to) × (to < 65536) × (to * 4 ≤ length rows.now) }
-    ensures { (result ≡ action_in rows.now from (to - from)) × (result ≤ to) }
+    ensures { (mark_of result ≡ action_in rows.now from (to - from)) × (mark_of result ≤ to) }
 {
-    let mut i = from;
-    while i < to {
+    for i in from..to {
         if table::number_at(rows, i * 4) < 16 {
-            return i + 1;
+            return Some(i);
         }
-        i += 1;
     }
-    0
+    None
 }
 
 // Notes it for each rule, in the place of the row of its GOTO, whose jump is known by then.
@@ -27,12 +26,10 @@ pub fn put_actions(rows: &[u16], rules: &mut [u16], count: usize)
     requires { (count ≤ most_rules) × (count * 4 ≤ length rules.old) × ((i : ℕ) → i < count → Within rows.now rules.old i) }
     ensures { ActionsPut rows.now rules.old rules.new count }
 {
-    let mut i: usize = 0;
-    while i < count {
+    for i in 0..count {
         let from = table::number_at(rules, i * 4 + 1);
         let to = table::number_at(rules, i * 4 + 2);
         let action = action_in(rows, from, to);
-        rules[i * 4 + 3] = table::short(action);
-        i += 1;
+        rules[i * 4 + 3] = table::mark(action);
     }
 }

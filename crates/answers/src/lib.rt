@@ -2,7 +2,7 @@
 
 #![tactic(auto)]
 
-ghost use Rattle.std.specs.Prelude.{◌≡◌, ◌<◌};
+ghost use Rattle.std.specs.Prelude.{◌<◌};
 ghost use Rattle.refusals.specs.Refusals.{refusal_of};
 ghost use Rattle.answers.specs.Answers.{Refuses, Accepts};
 
@@ -17,20 +17,13 @@ pub struct Given {
     pub used: u32,
 }
 
-fn narrow(n: usize) -> u32
-    requires { n < 4294967296 }
-    ensures { result ≡ n }
-{
-    n as u32
-}
-
 pub fn refused(why: Refusal, line: usize) -> Given
     requires { line < 4294967296 }
     ensures { Refuses result line (refusal_of why) }
 {
     Given {
         number: refusals::number(why),
-        line: narrow(line),
+        line: line as u32,
         visited: 0,
         tried: 0,
         used: 0,
@@ -44,8 +37,8 @@ pub fn accepted(visited: usize, tried: usize, used: usize) -> Given
     Given {
         number: 0,
         line: 0,
-        visited: narrow(visited),
-        tried: narrow(tried),
-        used: narrow(used),
+        visited: visited as u32,
+        tried: tried as u32,
+        used: used as u32,
     }
 }

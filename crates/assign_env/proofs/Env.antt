@@ -4,6 +4,7 @@ use Prim.Native.Nat.{ℕ, ◌+◌, ◌≤◌}
 use mathlib.Core.Path.{◌≡◌, refl, sym, ◌∙◌, ap, subst}
 use mathlib.Core.Bool.{Bool, true, false, not}
 use mathlib.Core.List.{List, [], ◌∷◌, ◌++◌, map}
+use Rattle.std.specs.Prelude.{Option, None, Some, ok_or}
 use native.Mathlib.Omega.{arith}
 use lib.Dec.{eqb}
 use lib.ListN.{length, take, drop, length-map, length-append}
@@ -26,11 +27,8 @@ use Rattle.outcome.specs.Change.{with_properties}
 use Rattle.outcome.specs.Edits.{property, remove_property, set_property}
 use Rattle.outcome_target.specs.Held.{Changed, Left, Edited}
 use Rattle.outcome_target.specs.declared.Layout.{Layout}
-use Rattle.outcome_target.specs.declared.Edit.{Edit}
-use Rattle.outcome_target.specs.declared.Edit.TheVariants.{Done, Full}
 use Rattle.engine.specs.Assign.{Escape, link_byte, clean_byte, cleaned, clean_value, change_properties, valued}
 use Rattle.records.specs.Records.{Says}
-use Rattle.records.specs.declared.Change.TheVariants as change
 
 -- ---- the value
 
@@ -83,14 +81,14 @@ some_list (b ∷ x) h = refl
 
 module _ (e : Escape) (k v l : List ℕ) (lay : Layout) (l' : List ℕ) where
   pub property-removed : (lay' : Layout) → length v ≡ 0 → Changed (λ s. with_properties s (remove_property k s.properties)) l lay l' lay'
-      → Edited with_properties (λ s. change_properties e k v s.properties) l lay l' (Done lay')
+      → Edited with_properties (λ s. change_properties e k v s.properties) l lay l' (Some lay')
   unfolding change_properties
   property-removed lay' h c = λ n s w. (remove_property k s.properties, removed s.properties, c n s w)
     where
       removed : (ps : List Property) → change_properties e k v ps ≡ ok (remove_property k ps)
       removed ps = rw (empty_list v h, change_properties)
 
-  pub property-set : (r : Edit) → (length v ≡ 0 → ⊥) → Edited with_properties (λ s. set_property k (clean_value e v) s.properties) l lay l' r
+  pub property-set : (r : Option Layout) → (length v ≡ 0 → ⊥) → Edited with_properties (λ s. set_property k (clean_value e v) s.properties) l lay l' r
       → Edited with_properties (λ s. change_properties e k v s.properties) l lay l' r
   unfolding change_properties
   property-set r h c = λ n s w. subst (λ (b : Checked refusal.Refusal (List Property)). Left n (with_properties s) b l' r) (sym (changed s.properties)) (c n s w)
@@ -100,18 +98,11 @@ module _ (e : Escape) (k v l : List ℕ) (lay : Layout) (l' : List ℕ) where
 
 -- ---- the whole
 
-module _ (e : Escape) (n : ℕ) (s : State) (p : Pair) (k v : List ℕ) (g : p.argument ≡ k) (f : p.value ≡ v) (l' : List ℕ) (r : Edit)
-    (h : Left n (with_properties s) (change_properties e k v s.properties) l' r) where
+module _ (e : Escape) (n : ℕ) (s : State) (p : Pair) (k v : List ℕ) (g : p.argument ≡ k) (f : p.value ≡ v) (l' : List ℕ) where
   whole : valued e p s ≡ (change_properties e k v s.properties >>= λ ps. ok (with_properties s ps))
   unfolding valued
   whole = rw (g, f)
 
-  pub env-left : (lay : Layout) → r ≡ Done lay → Says n l' (change.Left lay) (valued e p s)
-  env-left lay q =
-      let (ps, c, z) = subst (Left n (with_properties s) (change_properties e k v s.properties) l') q h in
-      (with_properties s ps, whole ∙ ap (λ (b : Checked refusal.Refusal (List Property)). b >>= λ ps. ok (with_properties s ps)) c, z)
-
-  pub env_full : r ≡ Full → Says n l' (change.Refused ListFull) (valued e p s)
-  env_full q =
-      let c = subst (Left n (with_properties s) (change_properties e k v s.properties) l') q h in
-      whole ∙ ap (λ (b : Checked refusal.Refusal (List Property)). b >>= λ ps. ok (with_properties s ps)) c
+  pub env_says : (r : Option Layout) → Left n (with_properties s) (change_properties e k v s.properties) l' r → Says n l' (ok_or r ListFull) (valued e p s)
+  env_says (Some lay) (ps, c, z) = (with_properties s ps, whole ∙ ap (λ (b : Checked refusal.Refusal (List Property)). b >>= λ ps. ok (with_properties s ps)) c, z)
+  env_says None c = whole ∙ ap (λ (b : Checked refusal.Refusal (List Property)). b >>= λ ps. ok (with_properties s ps)) c

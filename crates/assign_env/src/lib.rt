@@ -11,8 +11,7 @@ ghost use Rattle.outcome.specs.Edits.{set_property};
 ghost use Rattle.engine.specs.Assign.{clean_value, change_properties};
 ghost use Rattle.assign_env.specs.Env.{escape_of, EnvAssigned};
 
-use outcome_target::{Edit, Layout};
-use records::Change;
+use outcome_target::Layout;
 use refusals::Refusal;
 
 // A rule's latest `string_escape`.
@@ -23,7 +22,13 @@ pub enum Escape {
     Replaced,
 }
 
-fn set_clean(t: &mut [u8], layout: Layout, escape: Escape, key: &[u8], value: &[u8]) -> Edit
+fn set_clean(
+    t: &mut [u8],
+    layout: Layout,
+    escape: Escape,
+    key: &[u8],
+    value: &[u8],
+) -> Option<Layout>
     requires { Holds t.old layout × (ok_text most_key key.now ≡ true) × (clean value.now ≡ true) × (length value.now ≤ most_value) }
     ensures { Edited with_properties (λ s. set_property key.now (clean_value (escape_of escape) value.now) s.properties) t.old layout t.new result }
 {
@@ -35,17 +40,22 @@ fn set_clean(t: &mut [u8], layout: Layout, escape: Escape, key: &[u8], value: &[
             link_names::clean(&mut out[..n], false);
             outcome_properties::set_property(t, layout, key, &out[..n])
         }
-        Escape::Unset => outcome_properties::set_property(t, layout, key, value),
-        Escape::AsIs => outcome_properties::set_property(t, layout, key, value),
+        Escape::Unset | Escape::AsIs => outcome_properties::set_property(t, layout, key, value),
     }
 }
 
-fn change_properties(t: &mut [u8], layout: Layout, escape: Escape, key: &[u8], value: &[u8]) -> Edit
+fn change_properties(
+    t: &mut [u8],
+    layout: Layout,
+    escape: Escape,
+    key: &[u8],
+    value: &[u8],
+) -> Option<Layout>
     requires { Holds t.old layout × (ok_text most_key key.now ≡ true) × (clean value.now ≡ true) × (length value.now ≤ most_value) }
     ensures { Edited with_properties (λ s. change_properties (escape_of escape) key.now value.now s.properties) t.old layout t.new result }
 {
-    if value.len() == 0 {
-        return Edit::Done(outcome_properties::remove_property(t, layout, key));
+    if value.is_empty() {
+        return Some(outcome_properties::remove_property(t, layout, key));
     }
     set_clean(t, layout, escape, key, value)
 }
@@ -56,12 +66,9 @@ pub fn assign_property(
     escape: Escape,
     key: &[u8],
     value: &[u8],
-) -> Change
+) -> Result<Layout, Refusal>
     requires { Holds t.old layout × (ok_text most_key key.now ≡ true) × (clean value.now ≡ true) × (length value.now ≤ most_value) }
     ensures { EnvAssigned (escape_of escape) key.now value.now t.old layout t.new result }
 {
-    match change_properties(t, layout, escape, key, value) {
-        Edit::Done(left) => Change::Left(left),
-        Edit::Full => Change::Refused(Refusal::ListFull),
-    }
+    change_properties(t, layout, escape, key, value).ok_or(Refusal::ListFull)
 }

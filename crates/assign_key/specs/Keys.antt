@@ -1,6 +1,7 @@
 -- What one assignment leaves, by its key.
 -- Assumes nothing.
 use Rattle.std.specs.Prelude.{ℕ, ◌≤◌, ◌≡◌, Bool, true, false, List, length}
+use Rattle.std.specs.Prelude.{Option, None, Some, Result, Ok, Err}
 use Rattle.lists.specs.Bytes.{same_bytes, ok_text}
 use Rattle.lists.specs.Checked.{Checked, refused, ok}
 use Rattle.lists.specs.Refusal as refusal
@@ -11,6 +12,8 @@ use Rattle.rules.specs.Key.{Key, ACTION, DEVPATH, KERNEL, KERNELS, SUBSYSTEM, SU
 use Rattle.rules.specs.Pair.{Pair}
 use Rattle.rules.specs.Setting.{setting_of}
 use Rattle.refusals.specs.Refusals.{refusal_of}
+use Rattle.refusals.specs.declared.Refusal.{Refusal}
+use Rattle.outcome_target.specs.declared.Layout.{Layout}
 use Rattle.device.specs.Device.{Device, chain}
 use Rattle.device_lookup.specs.declared.Chain.{Chain}
 use Rattle.outcome.specs.State.{State}
@@ -21,39 +24,35 @@ use Rattle.outcome_fields.specs.declared.Closable.TheVariants as closable
 use Rattle.engine.specs.Assign as assign
 use Rattle.engine.specs.Assign.{linked, tagged, queued, owned, grouped, moded, set_by, assigned}
 use Rattle.records.specs.Records.{Denotes, Says}
-use Rattle.records.specs.declared.Change.{Change}
-use Rattle.records.specs.declared.Change.TheVariants as change
 use Rattle.assign_env.specs.Env.{escape_of}
 use Rattle.assign_env.specs.declared.Escape.{Escape}
 use Rattle.assign_key.specs.declared.Work.{Work}
-use Rattle.assign_key.specs.declared.Assigned.{Assigned}
-use Rattle.assign_key.specs.declared.Assigned.TheVariants as answer
 use Rattle.assign_key.specs.declared.Assignee.{Assignee}
-use Rattle.assign_key.specs.declared.Assignee.TheVariants.{Closable as Closes, Property, Option, Nothing}
+use Rattle.assign_key.specs.declared.Assignee.TheVariants as assignee
 
-abbrev pub assignee_of : Key → Assignee
-assignee_of SYMLINK = Closes closable.Links
-assignee_of TAG = Closes closable.Tags
-assignee_of RUN = Closes closable.Runs
-assignee_of OWNER = Closes closable.Owner
-assignee_of GROUP = Closes closable.Group
-assignee_of MODE = Closes closable.Mode
-assignee_of ENV = Property
-assignee_of OPTIONS = Option
-assignee_of PROGRAM = Nothing
-assignee_of RESULT = Nothing
-assignee_of ACTION = Nothing
-assignee_of DEVPATH = Nothing
-assignee_of KERNEL = Nothing
-assignee_of KERNELS = Nothing
-assignee_of SUBSYSTEM = Nothing
-assignee_of SUBSYSTEMS = Nothing
-assignee_of DRIVER = Nothing
-assignee_of DRIVERS = Nothing
-assignee_of ATTR = Nothing
-assignee_of ATTRS = Nothing
-assignee_of LABEL = Nothing
-assignee_of GOTO = Nothing
+abbrev pub assignee_of : Key → Option Assignee
+assignee_of SYMLINK = Some (assignee.Closable closable.Links)
+assignee_of TAG = Some (assignee.Closable closable.Tags)
+assignee_of RUN = Some (assignee.Closable closable.Runs)
+assignee_of OWNER = Some (assignee.Closable closable.Owner)
+assignee_of GROUP = Some (assignee.Closable closable.Group)
+assignee_of MODE = Some (assignee.Closable closable.Mode)
+assignee_of ENV = Some assignee.Property
+assignee_of OPTIONS = Some assignee.Option
+assignee_of PROGRAM = None
+assignee_of RESULT = None
+assignee_of ACTION = None
+assignee_of DEVPATH = None
+assignee_of KERNEL = None
+assignee_of KERNELS = None
+assignee_of SUBSYSTEM = None
+assignee_of SUBSYSTEMS = None
+assignee_of DRIVER = None
+assignee_of DRIVERS = None
+assignee_of ATTR = None
+assignee_of ATTRS = None
+assignee_of LABEL = None
+assignee_of GOTO = None
 
 unfoldable pub builtin_in : List ℕ → Bool
 unfolding bytes
@@ -69,11 +68,11 @@ Fits closable.Owner v = well_formed v ≡ true
 Fits closable.Group v = well_formed v ≡ true
 Fits closable.Mode v = well_formed v ≡ true
 
-abbrev pub FitsTo : Assignee → List ℕ → List ℕ → Type 0
-FitsTo (Closes c) a v = Fits c v
-FitsTo Property a v = ok_text most_key a ≡ true
-FitsTo Option a v = Unit {0}
-FitsTo Nothing a v = Unit {0}
+abbrev pub FitsTo : Option Assignee → List ℕ → List ℕ → Type 0
+FitsTo (Some (assignee.Closable c)) a v = Fits c v
+FitsTo (Some assignee.Property) a v = ok_text most_key a ≡ true
+FitsTo (Some assignee.Option) a v = Unit {0}
+FitsTo None a v = Unit {0}
 
 abbrev pub FitsKey : Key → List ℕ → List ℕ → Type 0
 FitsKey k a v = FitsTo (assignee_of k) a v
@@ -106,11 +105,11 @@ closable_change false c d place p w = open_change c d place p w
 abbrev pub Beside : (Device → State → Type 0) → List ℕ → Chain → List ℕ → Work → Type 0
 Beside P dev places t w = (d : Device) (s : State) → Denotes dev places t w.layout d s → P d s
 
-abbrev pub ClosableChanged : Closable → Op → List ℕ → List ℕ → List ℕ → Chain → ℕ → List ℕ → Work → List ℕ → Change → Type 0
+abbrev pub ClosableChanged : Closable → Op → List ℕ → List ℕ → List ℕ → Chain → ℕ → List ℕ → Work → List ℕ → Result Layout Refusal → Type 0
 ClosableChanged c o a v dev places place t w t' r =
     (p : Pair) → Is o a v p → Beside (λ d s. Says (length (chain d)) t' r (open_change c d place p (work_of s w.escape))) dev places t w
 
-abbrev pub ClosableAssigned : Closable → Op → List ℕ → List ℕ → List ℕ → Chain → ℕ → List ℕ → Work → List ℕ → Change → Type 0
+abbrev pub ClosableAssigned : Closable → Op → List ℕ → List ℕ → List ℕ → Chain → ℕ → List ℕ → Work → List ℕ → Result Layout Refusal → Type 0
 ClosableAssigned c o a v dev places place t w t' r =
     (p : Pair) → Is o a v p → Beside (λ d s. Says (length (chain d)) t' r (closable_change (flag c s.closed) c d place p (work_of s w.escape))) dev places t w
 
@@ -118,15 +117,11 @@ abbrev pub OptionSet : List ℕ → List ℕ → Work → List ℕ → Work → 
 OptionSet v t w t' r = (n : ℕ) (s : State) → Held n t w.layout s
     → (s' : State) × (set_by (setting_of v) (work_of s w.escape) ≡ work_of s' r.escape) × Held n t' r.layout s'
 
-abbrev pub went_on : Change → Escape → Assigned
-went_on (change.Left lay) e = answer.Left (record { layout = lay; escape = e })
-went_on (change.Refused f) e = answer.Refused f
-
 -- an answer beside what the definition gives
-abbrev pub WorkSays : ℕ → List ℕ → Assigned → Checked refusal.Refusal assign.Work → Type 0
-WorkSays n t (answer.Left w) c = (s : State) × (c ≡ ok (work_of s w.escape)) × Held n t w.layout s
-WorkSays n t (answer.Refused f) c = c ≡ refused (refusal_of f)
+abbrev pub WorkSays : ℕ → List ℕ → Result Work Refusal → Checked refusal.Refusal assign.Work → Type 0
+WorkSays n t (Ok w) c = (s : State) × (c ≡ ok (work_of s w.escape)) × Held n t w.layout s
+WorkSays n t (Err f) c = c ≡ refused (refusal_of f)
 
-abbrev pub KeyAssigned : Key → Op → List ℕ → List ℕ → List ℕ → Chain → ℕ → List ℕ → Work → List ℕ → Assigned → Type 0
+abbrev pub KeyAssigned : Key → Op → List ℕ → List ℕ → List ℕ → Chain → ℕ → List ℕ → Work → List ℕ → Result Work Refusal → Type 0
 KeyAssigned k o a v dev places place t w t' r =
     (p : Pair) → Is o a v p → Beside (λ d s. WorkSays (length (chain d)) t' r (assigned k d place p (work_of s w.escape))) dev places t w

@@ -9,7 +9,7 @@ ghost use Rattle.keys.specs.Table.{key_of, operator_of};
 ghost use Rattle.records.specs.Records.{Ready};
 ghost use Rattle.outcome_target.specs.Held.{Holds};
 ghost use Rattle.assign_env.specs.Env.{escape_of};
-ghost use Rattle.assign_key.specs.Keys.{assignee_of, builtin_in, Fits, FitsKey, ClosableChanged, ClosableAssigned, OptionSet, went_on, KeyAssigned};
+ghost use Rattle.assign_key.specs.Keys.{assignee_of, builtin_in, Fits, FitsKey, ClosableChanged, ClosableAssigned, OptionSet, KeyAssigned};
 
 use assign_env::Escape;
 use assign_owner::Single;
@@ -17,21 +17,14 @@ use device_lookup::Chain;
 use keys::{Key, Operator};
 use outcome_fields::Closable;
 use outcome_target::Layout;
-use records::Change;
 use refusals::Refusal;
-use signed::SettingRead;
+use signed::Setting;
 
 // The layout of the target and the latest `string_escape`, between two assignments of a rule.
-#[derive(Drop)]
+#[derive(Clone, Copy)]
 pub struct Work {
     pub layout: Layout,
     pub escape: Escape,
-}
-
-#[derive(Drop)]
-pub enum Assigned {
-    Left(Work),
-    Refused(Refusal),
 }
 
 // What a key assigns to.
@@ -40,35 +33,21 @@ pub enum Assignee {
     Closable(Closable),
     Property,
     Option,
-    Nothing,
 }
 
-fn assignee_of(key: Key) -> Assignee
+fn assignee_of(key: Key) -> Option<Assignee>
     ensures { result ≡ assignee_of (key_of key) }
 {
     match key {
-        Key::Symlink => Assignee::Closable(Closable::Links),
-        Key::Tag => Assignee::Closable(Closable::Tags),
-        Key::Run => Assignee::Closable(Closable::Runs),
-        Key::Owner => Assignee::Closable(Closable::Owner),
-        Key::Group => Assignee::Closable(Closable::Group),
-        Key::Mode => Assignee::Closable(Closable::Mode),
-        Key::Env => Assignee::Property,
-        Key::Options => Assignee::Option,
-        Key::Program => Assignee::Nothing,
-        Key::Result => Assignee::Nothing,
-        Key::Action => Assignee::Nothing,
-        Key::Devpath => Assignee::Nothing,
-        Key::Kernel => Assignee::Nothing,
-        Key::Kernels => Assignee::Nothing,
-        Key::Subsystem => Assignee::Nothing,
-        Key::Subsystems => Assignee::Nothing,
-        Key::Driver => Assignee::Nothing,
-        Key::Drivers => Assignee::Nothing,
-        Key::Attr => Assignee::Nothing,
-        Key::Attrs => Assignee::Nothing,
-        Key::Label => Assignee::Nothing,
-        Key::Goto => Assignee::Nothing,
+        Key::Symlink => Some(Assignee::Closable(Closable::Links)),
+        Key::Tag => Some(Assignee::Closable(Closable::Tags)),
+        Key::Run => Some(Assignee::Closable(Closable::Runs)),
+        Key::Owner => Some(Assignee::Closable(Closable::Owner)),
+        Key::Group => Some(Assignee::Closable(Closable::Group)),
+        Key::Mode => Some(Assignee::Closable(Closable::Mode)),
+        Key::Env => Some(Assignee::Property),
+        Key::Options => Some(Assignee::Option),
+        _ => None,
     }
 }
 
@@ -90,15 +69,21 @@ fn change_closable(
     operator: Operator,
     argument: &[u8],
     value: &[u8],
-) -> Change
+) -> Result<Layout, Refusal>
     requires { Ready dev.now chain t.old work.layout × (place ≤ chain.len) × (clean value.now ≡ true) × (length value.now ≤ most_value) × Fits key value.now }
     ensures { ClosableChanged key (operator_of operator) argument.now value.now dev.now chain place t.old work t.new result }
 {
     let layout = work.layout;
-    let escape = work.escape;
     match key {
         Closable::Links => assign_links::assign_links(
-            t, layout, dev, chain, place, operator, escape, value,
+            t,
+            layout,
+            dev,
+            chain,
+            place,
+            operator,
+            work.escape,
+            value,
         ),
         Closable::Tags => assign_lists::assign_tag(t, layout, operator, value),
         Closable::Runs => assign_lists::assign_run(
@@ -153,13 +138,12 @@ fn assign_closable(
     operator: Operator,
     argument: &[u8],
     value: &[u8],
-) -> Change
+) -> Result<Layout, Refusal>
     requires { Ready dev.now chain t.old work.layout × (place ≤ chain.len) × (clean value.now ≡ true) × (length value.now ≤ most_value) × Fits key value.now }
     ensures { ClosableAssigned key (operator_of operator) argument.now value.now dev.now chain place t.old work t.new result }
 {
     if outcome_fields::is_closed(t, key) {
-        let layout = work.layout;
-        return Change::Left(layout);
+        return Ok(work.layout);
     }
     change_closable(t, work, dev, chain, place, key, operator, argument, value)
 }
@@ -171,42 +155,32 @@ fn assign_option(t: &mut [u8], work: Work, value: &[u8]) -> Work
     ensures { OptionSet value.now t.old work t.new result }
 {
     let layout = work.layout;
-    let escape = work.escape;
     match signed::setting_of(value) {
-        SettingRead::EscapeNone => Work {
+        Some(Setting::EscapeNone) => Work {
             layout,
             escape: Escape::AsIs,
         },
-        SettingRead::EscapeReplace => Work {
+        Some(Setting::EscapeReplace) => Work {
             layout,
             escape: Escape::Replaced,
         },
-        SettingRead::Watch => {
+        Some(Setting::Watch) => {
             outcome_fields::set_watch(t, 1);
-            Work { layout, escape }
+            work
         }
-        SettingRead::NoWatch => {
+        Some(Setting::NoWatch) => {
             outcome_fields::set_watch(t, 2);
-            Work { layout, escape }
+            work
         }
-        SettingRead::Priority(priority) => {
+        Some(Setting::Priority(priority)) => {
             outcome_fields::set_priority(t, bits::from_signed(priority) as usize);
-            Work { layout, escape }
+            work
         }
-        SettingRead::Faulty => Work { layout, escape },
+        None => work,
     }
 }
 
 // ---- any key
-
-fn went(change: Change, escape: Escape) -> Assigned
-    ensures { result ≡ went_on change escape }
-{
-    match change {
-        Change::Left(layout) => Assigned::Left(Work { layout, escape }),
-        Change::Refused(refusal) => Assigned::Refused(refusal),
-    }
-}
 
 pub fn assign(
     t: &mut [u8],
@@ -218,26 +192,22 @@ pub fn assign(
     operator: Operator,
     argument: &[u8],
     value: &[u8],
-) -> Assigned
+) -> Result<Work, Refusal>
     requires { Ready dev.now chain t.old work.layout × (place ≤ chain.len) × (clean value.now ≡ true) × (length value.now ≤ most_value) × FitsKey (key_of key) argument.now value.now }
     ensures { KeyAssigned (key_of key) (operator_of operator) argument.now value.now dev.now chain place t.old work t.new result }
 {
-    let escape = work.escape;
     match assignee_of(key) {
-        Assignee::Closable(closable) => went(
-            assign_closable(
+        Some(Assignee::Closable(closable)) => {
+            let layout = assign_closable(
                 t, work, dev, chain, place, closable, operator, argument, value,
-            ),
-            escape,
-        ),
-        Assignee::Property => {
-            let layout = work.layout;
-            went(
-                assign_env::assign_property(t, layout, escape, argument, value),
-                escape,
-            )
+            )?;
+            Ok(Work { layout, ..work })
         }
-        Assignee::Option => Assigned::Left(assign_option(t, work, value)),
-        Assignee::Nothing => Assigned::Left(work),
+        Some(Assignee::Property) => {
+            let layout = assign_env::assign_property(t, work.layout, work.escape, argument, value)?;
+            Ok(Work { layout, ..work })
+        }
+        Some(Assignee::Option) => Ok(assign_option(t, work, value)),
+        None => Ok(work),
     }
 }

@@ -8,6 +8,7 @@ use native.Mathlib.Omega.{arith}
 use lib.Dec.{eqb, leb}
 use lib.ListN.{length, take, drop, length-map, length-append}
 use lib.Seq.{take_at}
+use Rattle.std.specs.Prelude.{Option, None, Some, Result, Ok, Err, ok_or}
 use Rattle.lists.specs.Lists.{pick, all}
 use Rattle.lists.specs.Bytes.{clean, part}
 use Rattle.lists.specs.Checked.{Checked, refused, ok, ◌>>=◌, ◌>>◌, require}
@@ -29,20 +30,15 @@ use Rattle.outcome.specs.Change.{with_links, shut_links}
 use Rattle.outcome_target.specs.Held.{Held, Left}
 use Rattle.outcome_target.specs.declared.Layout.{Layout}
 use Rattle.outcome_target.specs.declared.Section.TheVariants.{Links}
-use Rattle.outcome_target.specs.declared.Edit.{Edit}
-use Rattle.outcome_target.specs.declared.Edit.TheVariants as edit
 use Rattle.outcome_fields.specs.Fields.{shut, Rewritten}
 use Rattle.outcome_fields.specs.declared.Closable.TheVariants as closable
 use Rattle.engine.specs.Substitute.{Source, substituted, within, filled}
 use Rattle.engine.specs.Assign.{Escape, unset, as_is, replaced, is_as_is, clean_byte, clean_name, kept, closing, change_entry, names_in, change_links, source_of, linked}
 use Rattle.engine.proofs.Clean.{substituted-clean}
 use Rattle.link_names.specs.Names.{names, byte_but, Named}
-use Rattle.link_names.specs.declared.NameFound.{NameFound}
-use Rattle.link_names.specs.declared.NameFound.TheVariants as name
+use Rattle.link_names.specs.declared.Name.{Name}
 use Rattle.link_names.proofs.Cleaning.{names-cleaned}
 use Rattle.records.specs.Records.{Says}
-use Rattle.records.specs.declared.Change.{Change}
-use Rattle.records.specs.declared.Change.TheVariants as change
 use Rattle.assign_operators.specs.Begun.{begun}
 use Rattle.assign_operators.proofs.Operators.{begun-links}
 use Rattle.assign_env.proofs.Env.{byte-clean}
@@ -65,7 +61,7 @@ module _ (x : List ℕ) (b : Bool) (e : b ≡ ok_name x) where
       go false e h = rw (← e)
       go true e h = let z : ◌≡◌ {A = ℕ} 0 1 = cc in absurd (omega arith)
 
-  module _ (o : Op) (s : State) (h : not b ≡ false) (n : ℕ) (l : List ℕ) (r : Edit) (k : Left n (with_links s) (change_entry o most_links x s.links) l r) where
+  module _ (o : Op) (s : State) (h : not b ≡ false) (n : ℕ) (l : List ℕ) (r : Option Layout) (k : Left n (with_links s) (change_entry o most_links x s.links) l r) where
     passed : one_link o x s ≡ (change_entry o most_links x s.links >>= λ ls. ok (with_links s ls))
     passed = go b e h
       where
@@ -73,15 +69,12 @@ module _ (x : List ℕ) (b : Bool) (e : b ≡ ok_name x) where
         go true e h = rw (← e)
         go false e h = let z : ◌≡◌ {A = ℕ} 0 1 = cc in absurd (omega arith)
 
-    pub link_left : (lay : Layout) → r ≡ edit.Done lay → Says n l (change.Left lay) (one_link o x s)
-    link_left lay q =
-        let (ls, c, z) = subst (Left n (with_links s) (change_entry o most_links x s.links) l) q k in
-        (with_links s ls, passed ∙ ap (λ (b : Checked refusal.Refusal (List (List ℕ))). b >>= λ ls. ok (with_links s ls)) c, z)
-
-    pub link_full : r ≡ edit.Full → Says n l (change.Refused ListFull) (one_link o x s)
-    link_full q =
-        let c = subst (Left n (with_links s) (change_entry o most_links x s.links) l) q k in
-        passed ∙ ap (λ (b : Checked refusal.Refusal (List (List ℕ))). b >>= λ ls. ok (with_links s ls)) c
+    pub link_says : Says n l (ok_or r ListFull) (one_link o x s)
+    link_says = at r k
+      where
+        at : (r : Option Layout) → Left n (with_links s) (change_entry o most_links x s.links) l r → Says n l (ok_or r ListFull) (one_link o x s)
+        at (Some lay) (ls, c, z) = (with_links s ls, passed ∙ ap (λ (b : Checked refusal.Refusal (List (List ℕ))). b >>= λ ls. ok (with_links s ls)) c, z)
+        at None c = passed ∙ ap (λ (b : Checked refusal.Refusal (List (List ℕ))). b >>= λ ls. ok (with_links s ls)) c
 
 -- ---- one name after the other
 
@@ -116,32 +109,32 @@ module _ (o : Op) (text t₀ : List ℕ) (lay₀ : Layout) where
   pub links_begin : Going o text t₀ lay₀ t₀ lay₀ 0
   links_begin = record { room = refl; within = omega arith; going = λ n s h. (s, h, refl) }
 
-  module _ (t : List ℕ) (lay : Layout) (at : ℕ) (g : Going o text t₀ lay₀ t lay at) (r : NameFound) (k : Named text at r) where
-    pub name_placed : (b e : ℕ) → r ≡ name.At b e → Named text at (name.At b e)
-    name_placed b e q = subst (Named text at) q k
+  module _ (t : List ℕ) (lay : Layout) (at : ℕ) (g : Going o text t₀ lay₀ t lay at) (r : Option Name) (k : Named text at r) where
+    module _ (b : Name) (q : r ≡ Some b) (t' : List ℕ) (x : Result Layout Refusal) (i : length t' ≡ length t)
+        (c : (n : ℕ) (s : State) → Held n t lay s → Says n t' x (one_link o (part text b.start b.end) s)) where
+      name_placed : Named text at (Some b)
+      name_placed = subst (Named text at) q k
 
-    module _ (b e : ℕ) (q : r ≡ name.At b e) (t' : List ℕ) (x : Change) (i : length t' ≡ length t)
-        (c : (n : ℕ) (s : State) → Held n t lay s → Says n t' x (one_link o (part text b e) s)) where
-      split : (s : State) → the_links o (names (drop at text)) s ≡ (one_link o (part text b e) s >>= λ s'. the_links o (names (drop e text)) s')
-      split s = ap (λ (xs : List (List ℕ)). the_links o xs s) (name_placed b e q).0 ∙ next_link o (part text b e) (names (drop e text)) s
+      split : (s : State) → the_links o (names (drop at text)) s ≡ (one_link o (part text b.start b.end) s >>= λ s'. the_links o (names (drop b.end text)) s')
+      split s = ap (λ (xs : List (List ℕ)). the_links o xs s) name_placed.0 ∙ next_link o (part text b.start b.end) (names (drop b.end text)) s
 
-      pub links-on : (lay' : Layout) → x ≡ change.Left lay' → Going o text t₀ lay₀ t' lay' e
+      pub links-on : (lay' : Layout) → x ≡ Ok lay' → Going o text t₀ lay₀ t' lay' b.end
       links-on lay' w = record {
         room = i ∙ g.room;
-        within = (name_placed b e q).3;
+        within = name_placed.3;
         going = λ n s₀ h.
             let (s, z, f) = g.going n s₀ h in
-            let (s', u, v) = subst (λ (x : Change). Says n t' x (one_link o (part text b e) s)) w (c n s z) in
-            (s', v, sym (split s ∙ ap (λ (y : Checked refusal.Refusal State). y >>= λ s'. the_links o (names (drop e text)) s') u) ∙ f);
+            let (s', u, v) = subst (λ (x : Result Layout Refusal). Says n t' x (one_link o (part text b.start b.end) s)) w (c n s z) in
+            (s', v, sym (split s ∙ ap (λ (y : Checked refusal.Refusal State). y >>= λ s'. the_links o (names (drop b.end text)) s') u) ∙ f);
       }
 
-      pub links-refused : (y : Refusal) → x ≡ change.Refused y → (n : ℕ) (s₀ : State) → Held n t₀ lay₀ s₀ → the_links o (names text) s₀ ≡ refused (refusal_of y)
+      pub links-refused : (y : Refusal) → x ≡ Err y → (n : ℕ) (s₀ : State) → Held n t₀ lay₀ s₀ → the_links o (names text) s₀ ≡ refused (refusal_of y)
       links-refused y w n s₀ h =
           let (s, z, f) = g.going n s₀ h in
-          let u : one_link o (part text b e) s ≡ refused (refusal_of y) = subst (λ (x : Change). Says n t' x (one_link o (part text b e) s)) w (c n s z) in
-          sym f ∙ split s ∙ ap (λ (y : Checked refusal.Refusal State). y >>= λ s'. the_links o (names (drop e text)) s') u
+          let u : one_link o (part text b.start b.end) s ≡ refused (refusal_of y) = subst (λ (x : Result Layout Refusal). Says n t' x (one_link o (part text b.start b.end) s)) w (c n s z) in
+          sym f ∙ split s ∙ ap (λ (y : Checked refusal.Refusal State). y >>= λ s'. the_links o (names (drop b.end text)) s') u
 
-    pub links_end : r ≡ name.End → (n : ℕ) (s₀ : State) → Held n t₀ lay₀ s₀ → Says n t (change.Left lay) (the_links o (names text) s₀)
+    pub links_end : r ≡ None → (n : ℕ) (s₀ : State) → Held n t₀ lay₀ s₀ → Says n t (Ok lay) (the_links o (names text) s₀)
     unfolding change_links
     links_end q n s₀ h =
         let (s, z, f) = g.going n s₀ h in
@@ -158,15 +151,15 @@ all_whole o xs s = rw (begun-links o s) (go (change_links o xs (kept o s.links))
     go (refused f) = refl
     go (ok ls) = refl
 
-module _ (o : Op) (xs : List (List ℕ)) (n : ℕ) (s : State) (l : List ℕ) (r : Change) (h : Says n l r (the_links o xs (begun Links o s))) where
-  pub all_left : (lay : Layout) → r ≡ change.Left lay → (l' : List ℕ) → Rewritten (closing o (shut closable.Links)) l l' → Says n l' (change.Left lay) (all_links o xs s)
+module _ (o : Op) (xs : List (List ℕ)) (n : ℕ) (s : State) (l : List ℕ) (r : Result Layout Refusal) (h : Says n l r (the_links o xs (begun Links o s))) where
+  pub all_left : (lay : Layout) → r ≡ Ok lay → (l' : List ℕ) → Rewritten (closing o (shut closable.Links)) l l' → Says n l' (Ok lay) (all_links o xs s)
   all_left lay q l' w =
-      let (s', c, z) = subst (λ (r : Change). Says n l r (the_links o xs (begun Links o s))) q h in
+      let (s', c, z) = subst (λ (r : Result Layout Refusal). Says n l r (the_links o xs (begun Links o s))) q h in
       (closing o shut_links s', all_whole o xs s ∙ ap (λ (b : Checked refusal.Refusal State). b >>= λ s'. ok (closing o shut_links s')) c, w n lay s' z)
 
-  pub all-refused : (y : Refusal) → r ≡ change.Refused y → all_links o xs s ≡ refused (refusal_of y)
+  pub all-refused : (y : Refusal) → r ≡ Err y → all_links o xs s ≡ refused (refusal_of y)
   all-refused y q =
-      let c : the_links o xs (begun Links o s) ≡ refused (refusal_of y) = subst (λ (r : Change). Says n l r (the_links o xs (begun Links o s))) q h in
+      let c : the_links o xs (begun Links o s) ≡ refused (refusal_of y) = subst (λ (r : Result Layout Refusal). Says n l r (the_links o xs (begun Links o s))) q h in
       all_whole o xs s ∙ ap (λ (b : Checked refusal.Refusal State). b >>= λ s'. ok (closing o shut_links s')) c
 
 -- ---- the names as the setting asks
@@ -239,7 +232,7 @@ module _ (d : Device) (place : ℕ) (s : State) (p : Pair) (o : Op) (v : List �
   unfolding linked
   linked-filled x q = let w : filled (not (is_as_is z)) (source_of d place s) v ≡ ok x = rw y at q in rw (e, f, w)
 
-  pub linked-says : (x c : List ℕ) → filled (not b) (source_of d place s) v ≡ ok x → names c ≡ names_in z x → (n : ℕ) (t' : List ℕ) (r : Change)
+  pub linked-says : (x c : List ℕ) → filled (not b) (source_of d place s) v ≡ ok x → names c ≡ names_in z x → (n : ℕ) (t' : List ℕ) (r : Result Layout Refusal)
       → Says n t' r (all_links o (names c) s) → Says n t' r work
   linked-says x c q m n t' r h = subst (Says n t' r) (ap (λ (xs : List (List ℕ)). all_links o xs s) m ∙ sym (linked-filled x q)) h
 

@@ -1,6 +1,6 @@
 -- What an assignment to SYMLINK leaves, name by name.
 -- Assumes nothing.
-use Rattle.std.specs.Prelude.{ℕ, ◌≡◌, List}
+use Rattle.std.specs.Prelude.{ℕ, ◌≡◌, List, Result}
 use Rattle.lists.specs.Checked.{Checked, ok, ◌>>=◌, ◌>>◌, require}
 use Rattle.lists.specs.Refusal.{Refusal, link_bad}
 use Rattle.lists.specs.Sizes.{most_links}
@@ -13,7 +13,7 @@ use Rattle.outcome.specs.Change.{with_links, shut_links}
 use Rattle.outcome_target.specs.declared.Layout.{Layout}
 use Rattle.engine.specs.Assign.{Escape, kept, closing, change_entry, change_links, linked}
 use Rattle.records.specs.Records.{ChangesBeside}
-use Rattle.records.specs.declared.Change.{Change}
+use Rattle.refusals.specs.declared.Refusal.{Refusal as Refused}
 
 -- one name
 abbrev pub one_link : Op → List ℕ → State → Checked Refusal State
@@ -27,6 +27,6 @@ the_links o xs s = change_links o xs s.links >>= λ ls. ok (with_links s ls)
 abbrev pub all_links : Op → List (List ℕ) → State → Checked Refusal State
 all_links o xs s = change_links o xs (kept o s.links) >>= λ ls. ok (closing o shut_links (with_links s ls))
 
-abbrev pub LinksAssigned : Op → Escape → List ℕ → List ℕ → Chain → ℕ → List ℕ → Layout → List ℕ → Change → Type 0
+abbrev pub LinksAssigned : Op → Escape → List ℕ → List ℕ → Chain → ℕ → List ℕ → Layout → List ℕ → Result Layout Refused → Type 0
 LinksAssigned o e v dev places place t lay t' r =
     (p : Pair) → p.op ≡ o → p.value ≡ v → ChangesBeside (λ d s. linked d place p (record { state = s; escape = e })) dev places t lay t' r

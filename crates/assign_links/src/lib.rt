@@ -16,75 +16,67 @@ ghost use Rattle.assign_links.specs.Links.{one_link, the_links, all_links, Links
 use assign_env::Escape;
 use assign_operators::{begin, finish};
 use device_lookup::Chain;
-use insertion::Put;
 use keys::Operator;
-use link_names::NameFound;
 use outcome_fields::Closable;
-use outcome_target::{Edit, Layout, Section, Texts};
-use records::Change;
+use outcome_target::{Layout, Section, Texts};
 use refusals::Refusal;
 
 // ---- one name after the other
 
-fn change_link(t: &mut [u8], layout: Layout, operator: Operator, name: &[u8]) -> Change
+fn change_link(
+    t: &mut [u8],
+    layout: Layout,
+    operator: Operator,
+    name: &[u8],
+) -> Result<Layout, Refusal>
     requires { Holds t.old layout × (clean name.now ≡ true) }
     ensures { Changes (one_link (operator_of operator) name.now) t.old layout t.new result }
 {
     if !content::ok_name(name) {
-        return Change::Refused(Refusal::LinkBad);
+        return Err(Refusal::LinkBad);
     }
-    match assign_lists::change_entry(t, layout, Texts::Links, operator, name) {
-        Edit::Done(left) => Change::Left(left),
-        Edit::Full => Change::Refused(Refusal::ListFull),
-    }
+    assign_lists::change_entry(t, layout, Texts::Links, operator, name).ok_or(Refusal::ListFull)
 }
 
-fn change_links(t: &mut [u8], layout: Layout, operator: Operator, text: &[u8]) -> Change
+fn change_links(
+    t: &mut [u8],
+    layout: Layout,
+    operator: Operator,
+    text: &[u8],
+) -> Result<Layout, Refusal>
     requires { Holds t.old layout × (clean text.now ≡ true) }
     ensures { Changes (the_links (operator_of operator) (names text.now)) t.old layout t.new result }
 {
     let mut left = layout;
     let mut at: usize = 0;
-    loop {
-        match link_names::name_from(text, at) {
-            NameFound::At(start, end) => {
-                match change_link(t, left, operator, &text[start..end]) {
-                    Change::Left(next) => {
-                        left = next;
-                        at = end;
-                    }
-                    Change::Refused(refusal) => return Change::Refused(refusal),
-                }
-            }
-            NameFound::End => return Change::Left(left),
-        }
+    while let Some(name) = link_names::name_from(text, at) {
+        left = change_link(t, left, operator, &text[name.start..name.end])?;
+        at = name.end;
     }
+    Ok(left)
 }
 
 // ---- the assignment
 
-fn link_text(t: &mut [u8], layout: Layout, operator: Operator, text: &[u8]) -> Change
+fn link_text(
+    t: &mut [u8],
+    layout: Layout,
+    operator: Operator,
+    text: &[u8],
+) -> Result<Layout, Refusal>
     requires { Holds t.old layout × (clean text.now ≡ true) }
     ensures { Changes (all_links (operator_of operator) (names text.now)) t.old layout t.new result }
 {
     let begun = begin(t, layout, Section::Links, operator);
-    match change_links(t, begun, operator, text) {
-        Change::Left(left) => {
-            finish(t, Closable::Links, operator);
-            Change::Left(left)
-        }
-        Change::Refused(refusal) => Change::Refused(refusal),
-    }
+    let left = change_links(t, begun, operator, text)?;
+    finish(t, Closable::Links, operator);
+    Ok(left)
 }
 
 fn is_as_is(escape: Escape) -> bool
     ensures { result ≡ is_as_is (escape_of escape) }
 {
-    match escape {
-        Escape::AsIs => true,
-        Escape::Unset => false,
-        Escape::Replaced => false,
-    }
+    matches!(escape, Escape::AsIs)
 }
 
 // The names of a text as the setting asks.
@@ -93,8 +85,7 @@ fn clean_names(x: &mut [u8], escape: Escape)
 {
     match escape {
         Escape::AsIs => {}
-        Escape::Unset => link_names::clean(x, true),
-        Escape::Replaced => link_names::clean(x, true),
+        Escape::Unset | Escape::Replaced => link_names::clean(x, true),
     }
 }
 
@@ -107,17 +98,15 @@ pub fn assign_links(
     operator: Operator,
     escape: Escape,
     value: &[u8],
-) -> Change
+) -> Result<Layout, Refusal>
     requires { Ready dev.now chain t.old layout × (place ≤ chain.len) × (well_formed value.now ≡ true) × (clean value.now ≡ true) }
     ensures { LinksAssigned (operator_of operator) (escape_of escape) value.now dev.now chain place t.old layout t.new result }
 {
     let mut out = [0u8; 512];
     let spaceless = !is_as_is(escape);
-    match filling::fill(value, dev, chain, place, t, layout, spaceless, &mut out) {
-        Put::Done(k) => {
-            clean_names(&mut out[..k], escape);
-            link_text(t, layout, operator, &out[..k])
-        }
-        Put::Full => Change::Refused(Refusal::SubstitutionLong),
-    }
+    let k = filling::fill(value, dev, chain, place, t, layout, spaceless, &mut out).ok_or(
+        Refusal::SubstitutionLong,
+    )?;
+    clean_names(&mut out[..k], escape);
+    link_text(t, layout, operator, &out[..k])
 }

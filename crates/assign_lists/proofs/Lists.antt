@@ -4,6 +4,7 @@ use Prim.Native.Nat.{ℕ, ◌≤◌}
 use mathlib.Core.Path.{◌≡◌, refl, sym, subst}
 use mathlib.Core.Bool.{Bool, true, false}
 use mathlib.Core.List.{List, [], ◌∷◌}
+use Rattle.std.specs.Prelude.{Option, Some}
 use native.Mathlib.Omega.{arith}
 use lib.ListN.{length}
 use borrow.Author.Tests.{le-leb}
@@ -28,8 +29,6 @@ use Rattle.outcome_target.specs.declared.Layout.{Layout}
 use Rattle.outcome_target.specs.declared.Section.TheVariants.{Tags, Runs}
 use Rattle.outcome_target.specs.declared.Texts.{Texts}
 use Rattle.outcome_target.specs.declared.Texts.TheVariants as texts
-use Rattle.outcome_target.specs.declared.Edit.{Edit}
-use Rattle.outcome_target.specs.declared.Edit.TheVariants.{Done}
 use Rattle.outcome_lists.specs.Lists.{run_of}
 use Rattle.outcome_fields.specs.Fields.{shut}
 use Rattle.outcome_fields.specs.declared.Closable.TheVariants as closable
@@ -52,15 +51,23 @@ not-removed : (o : Op) → is_remove o ≡ false → (most : ℕ) (x : List ℕ)
 unfolding change_entry
 not-removed o e most x xs = rw (e, change_entry)
 
+pub kept_on : (o : Operator) → (o ≡ operator.Remove → ⊥) → is_remove (operator_of o) ≡ false
+kept_on operator.Remove h = absurd (h refl)
+kept_on operator.Equal h = refl
+kept_on operator.Unequal h = refl
+kept_on operator.Assign h = refl
+kept_on operator.Add h = refl
+kept_on operator.Final h = refl
+
 module _ (list : Texts) (x l : List ℕ) (lay : Layout) (l' : List ℕ) (o : Operator) where
   pub entry-removed : (lay' : Layout) → o ≡ operator.Remove → Changed (λ s. with_texts list s (remove_entry x (texts_in list s))) l lay l' lay'
-      → Edited (with_texts list) (λ s. change_entry (operator_of o) (most_of list) x (texts_in list s)) l lay l' (Done lay')
+      → Edited (with_texts list) (λ s. change_entry (operator_of o) (most_of list) x (texts_in list s)) l lay l' (Some lay')
   unfolding change_entry
   entry-removed lay' q h = rw q (λ n s k. (remove_entry x (texts_in list s), refl, h n s k))
 
-  pub entry_added : (r : Edit) (p : Operator) → o ≡ p → is_remove (operator_of p) ≡ false → Edited (with_texts list) (λ s. add_entry (most_of list) x (texts_in list s)) l lay l' r
+  pub entry_added : (r : Option Layout) → is_remove (operator_of o) ≡ false → Edited (with_texts list) (λ s. add_entry (most_of list) x (texts_in list s)) l lay l' r
       → Edited (with_texts list) (λ s. change_entry (operator_of o) (most_of list) x (texts_in list s)) l lay l' r
-  entry_added r p q e h = rw q (λ n s k. subst (λ (c : Checked Refusal (List (List ℕ))). Left n (with_texts list s) c l' r) (sym (not-removed (operator_of p) e (most_of list) x (texts_in list s))) (h n s k))
+  entry_added r e h = λ n s k. subst (λ (c : Checked Refusal (List (List ℕ))). Left n (with_texts list s) c l' r) (sym (not-removed (operator_of o) e (most_of list) x (texts_in list s))) (h n s k)
 
 -- ---- TAG
 
@@ -68,11 +75,11 @@ pub tag_ok : (x : List ℕ) → (length x ≡ 0 → ⊥) → length x ≤ most_t
 tag_ok x n h c = text-ok most_tag x n h c
 
 module _ (o : Op) (v l : List ℕ) (lay : Layout) where
-  pub tags-kept : length v ≡ 0 → Edited with_tags (λ s. change_tags o v s.tags) l lay l (Done lay)
+  pub tags-kept : length v ≡ 0 → Edited with_tags (λ s. change_tags o v s.tags) l lay l (Some lay)
   unfolding change_tags
   tags-kept e = λ n s h. (s.tags, rw (empty_list v e, change_tags), h)
 
-  pub tags-changed : (l' : List ℕ) (r : Edit) → (length v ≡ 0 → ⊥) → Edited with_tags (λ s. change_entry o (most_of texts.Tags) v s.tags) l lay l' r
+  pub tags-changed : (l' : List ℕ) (r : Option Layout) → (length v ≡ 0 → ⊥) → Edited with_tags (λ s. change_entry o (most_of texts.Tags) v s.tags) l lay l' r
       → Edited with_tags (λ s. change_tags o v s.tags) l lay l' r
   unfolding change_tags
   tags-changed l' r e h = λ n s k.
@@ -91,10 +98,10 @@ pub run_ok : (n place : ℕ) (builtin : Bool) (v : List ℕ) → (length v ≡ 0
 run_ok n place builtin v e m c h w k = rw (le-leb place most_chain m, le-leb place n k, text-ok most_value v e h c) w
 
 module _ (builtin : Bool) (place : ℕ) (v l : List ℕ) (lay : Layout) where
-  pub runs-kept : length v ≡ 0 → EditedIf (λ n. place ≤ n) with_runs (λ s. queued_runs builtin place v s.runs) l lay l (Done lay)
+  pub runs-kept : length v ≡ 0 → EditedIf (λ n. place ≤ n) with_runs (λ s. queued_runs builtin place v s.runs) l lay l (Some lay)
   runs-kept e = λ n s h k. (s.runs, rw (empty_list v e, queued_runs), h)
 
-  pub runs-changed : (l' : List ℕ) (r : Edit) → (length v ≡ 0 → ⊥) → place ≤ most_chain → clean v ≡ true → length v ≤ most_value → well_formed v ≡ true
+  pub runs-changed : (l' : List ℕ) (r : Option Layout) → (length v ≡ 0 → ⊥) → place ≤ most_chain → clean v ≡ true → length v ≤ most_value → well_formed v ≡ true
       → EditedIf (λ n. ok_run n (run_of builtin place v) ≡ true) with_runs (λ s. append most_runs (run_of builtin place v) s.runs) l lay l' r
       → EditedIf (λ n. place ≤ n) with_runs (λ s. queued_runs builtin place v s.runs) l lay l' r
   runs-changed l' r e m c z w h = λ n s k i.

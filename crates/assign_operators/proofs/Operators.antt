@@ -3,6 +3,7 @@
 use Prim.Native.Nat.{ℕ}
 use mathlib.Core.Path.{◌≡◌, refl, sym, subst, ◌∙◌, ap}
 use mathlib.Core.List.{List}
+use Rattle.std.specs.Prelude.{Option, None, Some, Ok, Err}
 use Rattle.lists.specs.Checked.{Checked, ok, ◌>>=◌}
 use Rattle.lists.specs.Refusal as refusal
 use Rattle.rules.specs.Key.{Op, equal, unequal, assign, add, remove, final}
@@ -16,14 +17,11 @@ use Rattle.outcome_target.specs.Held.{Changed, Left}
 use Rattle.outcome_target.specs.declared.Layout.{Layout}
 use Rattle.outcome_target.specs.declared.Section.{Section}
 use Rattle.outcome_target.specs.declared.Section.TheVariants.{Links, Tags, Runs}
-use Rattle.outcome_target.specs.declared.Edit.{Edit}
-use Rattle.outcome_target.specs.declared.Edit.TheVariants as edit
 use Rattle.outcome_fields.specs.Fields.{shut, Rewritten}
 use Rattle.outcome_fields.specs.declared.Closable.{Closable}
 use Rattle.outcome_lists.specs.Lists.{emptied}
 use Rattle.engine.specs.Assign.{kept, closing}
 use Rattle.records.specs.Records.{Says}
-use Rattle.records.specs.declared.Change.TheVariants as change
 use Rattle.assign_operators.specs.Begun.{begun}
 
 -- ---- before it
@@ -70,14 +68,14 @@ module _ (l : List ℕ) (key : Closable) (o : Operator) where
   closed-not p q e = rw (q, e) (λ n lay s h. h)
 
 -- what an edit left, and the key closed behind it by the operator: the whole change of a state
-module _ {A : Type 0} (n : ℕ) (put : A → State) (c : Checked refusal.Refusal A) (l : List ℕ) (r : Edit) (h : Left n put c l r) (o : Op) (key : Closable)
+module _ {A : Type 0} (n : ℕ) (put : A → State) (c : Checked refusal.Refusal A) (l : List ℕ) (r : Option Layout) (h : Left n put c l r) (o : Op) (key : Closable)
     (whole : Checked refusal.Refusal State) (w : (c >>= λ x. ok (closing o (shut key) (put x))) ≡ whole) where
-  pub done-says : (lay : Layout) → r ≡ edit.Done lay → (l' : List ℕ) → Rewritten (closing o (shut key)) l l' → Says n l' (change.Left lay) whole
+  pub done-says : (lay : Layout) → r ≡ Some lay → (l' : List ℕ) → Rewritten (closing o (shut key)) l l' → Says n l' (Ok lay) whole
   done-says lay q l' k =
       let (x, e, z) = subst (Left n put c l) q h in
       (closing o (shut key) (put x), sym w ∙ ap (λ (b : Checked refusal.Refusal A). b >>= λ x. ok (closing o (shut key) (put x))) e, k n lay (put x) z)
 
-  pub full_says : r ≡ edit.Full → Says n l (change.Refused ListFull) whole
+  pub full_says : r ≡ None → Says n l (Err ListFull) whole
   full_says q =
       let e = subst (Left n put c l) q h in
       sym w ∙ ap (λ (b : Checked refusal.Refusal A). b >>= λ x. ok (closing o (shut key) (put x))) e

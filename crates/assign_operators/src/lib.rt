@@ -19,12 +19,8 @@ pub fn begin(t: &mut [u8], layout: Layout, section: Section, operator: Operator)
     ensures { Changed (begun section (operator_of operator)) t.old layout t.new result }
 {
     match operator {
-        Operator::Assign => outcome_lists::empty(t, layout, section),
-        Operator::Final => outcome_lists::empty(t, layout, section),
-        Operator::Equal => layout,
-        Operator::Unequal => layout,
-        Operator::Add => layout,
-        Operator::Remove => layout,
+        Operator::Assign | Operator::Final => outcome_lists::empty(t, layout, section),
+        _ => layout,
     }
 }
 
@@ -34,10 +30,6 @@ pub fn finish(t: &mut [u8], key: Closable, operator: Operator)
 {
     match operator {
         Operator::Final => outcome_fields::close(t, key),
-        Operator::Equal => {}
-        Operator::Unequal => {}
-        Operator::Assign => {}
-        Operator::Add => {}
-        Operator::Remove => {}
+        _ => {}
     }
 }

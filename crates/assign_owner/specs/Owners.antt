@@ -1,8 +1,8 @@
 -- What an assignment to OWNER, GROUP or MODE leaves.
 -- Assumes nothing.
-use Rattle.std.specs.Prelude.{ℕ, ◌≡◌, List}
-use Rattle.lists.specs.Checked.{Checked, ok, ◌>>=◌}
-use Rattle.lists.specs.Refusal.{Refusal}
+use Rattle.std.specs.Prelude.{ℕ, ◌≡◌, true, List, Result, Ok, Err}
+use Rattle.lists.specs.Checked.{Checked, refused, ok, ◌>>=◌}
+use Rattle.lists.specs.Refusal.{Refusal, owner_bad}
 use Rattle.rules.specs.Key.{Op}
 use Rattle.rules.specs.Pair.{Pair}
 use Rattle.device.specs.Device.{Device}
@@ -12,9 +12,16 @@ use Rattle.outcome.specs.Change.{with_owner, with_group, with_mode, shut_owner, 
 use Rattle.outcome_target.specs.declared.Layout.{Layout}
 use Rattle.engine.specs.Assign.{closing, owner_in, mode_in, owned, grouped, moded}
 use Rattle.records.specs.Records.{ChangesBeside}
-use Rattle.records.specs.declared.Change.{Change}
+use Rattle.refusals.specs.declared.Refusal.{Refusal as Refused}
+use Rattle.refusals.specs.declared.Refusal.TheVariants.{OwnerBad}
+use Rattle.outcome.specs.Content.{ok_owner}
 use Rattle.assign_owner.specs.declared.Single.{Single}
 use Rattle.assign_owner.specs.declared.Single.TheVariants.{Owner, Group, Mode}
+
+-- the text of an owner or a group judged
+abbrev pub OwnerJudged : List ℕ → Result (Unit {0}) Refused → Type 0
+OwnerJudged t (Ok u) = (owner_in t ≡ ok t) × (ok_owner t ≡ true)
+OwnerJudged t (Err f) = (owner_in t ≡ refused owner_bad) × (f ≡ OwnerBad)
 
 -- a substituted text judged and set
 abbrev pub owner_set : Single → Op → List ℕ → State → Checked Refusal State
@@ -28,6 +35,6 @@ single Owner d place p s = owned d place p s
 single Group d place p s = grouped d place p s
 single Mode d place p s = moded d place p s
 
-abbrev pub AssignedBeside : Single → Op → List ℕ → List ℕ → Chain → ℕ → List ℕ → Layout → List ℕ → Change → Type 0
+abbrev pub AssignedBeside : Single → Op → List ℕ → List ℕ → Chain → ℕ → List ℕ → Layout → List ℕ → Result Layout Refused → Type 0
 AssignedBeside key o v dev places place t lay t' r =
     (p : Pair) → p.op ≡ o → p.value ≡ v → ChangesBeside (λ d s. single key d place p s) dev places t lay t' r

@@ -4,6 +4,7 @@ use Prim.Native.Nat.{ℕ, ◌+◌, ◌-◌, ◌≤◌, ◌<◌}
 use mathlib.Core.Path.{◌≡◌, refl, sym, ◌∙◌, ap, subst}
 use mathlib.Core.Bool.{true, false}
 use mathlib.Core.List.{List, [], ◌∷◌}
+use Rattle.std.specs.Prelude.{Result, Ok, Err}
 use native.Mathlib.Omega.{arith}
 use lib.ListN.{length}
 use Rattle.lists.specs.Checked.{Checked, refused, ok, ◌>>=◌}
@@ -23,12 +24,9 @@ use Rattle.engine.specs.Assign as assign
 use Rattle.engine.specs.Assign.{assigned, assign_pair, assign_all}
 use Rattle.engine.specs.Step.{begun}
 use Rattle.records.specs.Records.{Denotes, Ready}
-use Rattle.records.specs.declared.Change.TheVariants as change
 use Rattle.assign_env.specs.declared.Escape.TheVariants.{Unset}
 use Rattle.assign_key.specs.Keys.{work_of, WorkSays}
 use Rattle.assign_key.specs.declared.Work.{Work}
-use Rattle.assign_key.specs.declared.Assigned.{Assigned}
-use Rattle.assign_key.specs.declared.Assigned.TheVariants as answer
 use Rattle.assignment.specs.Assignment.{Assignables, RuleRows, Readable, PairAssigned, AllSays, AllAssigned}
 
 -- ---- one pair
@@ -42,7 +40,7 @@ module _ (d : Device) (place : ℕ) (p : Pair) (w : assign.Work) where
   unfolding assign_pair
   pair_assigns e = rw (e, assign_pair)
 
-  pub pair_says : is_match p.op ≡ false → (n : ℕ) (t : List ℕ) (x : Assigned) → WorkSays n t x (assigned p.key d place p w) → WorkSays n t x (assign_pair d place p w)
+  pub pair_says : is_match p.op ≡ false → (n : ℕ) (t : List ℕ) (x : Result Work Refusal) → WorkSays n t x (assigned p.key d place p w) → WorkSays n t x (assign_pair d place p w)
   pair_says e n t x h = subst (WorkSays n t x) (pair_assigns e) h
 
 -- ---- one row after the other
@@ -68,7 +66,7 @@ module _ (v r : List ℕ) (from to : ℕ) (t₀ dev : List ℕ) (places : Chain)
     still_ready (d, s₀, h) = let (s, z, e) = g.going d s₀ h in (d, s, z)
 
     -- behind the last row
-    pub going_end : to ≤ i → AllAssigned v r from to dev places place t₀ lay₀ t (change.Left w.layout)
+    pub going_end : to ≤ i → AllAssigned v r from to dev places place t₀ lay₀ t (Ok w.layout)
     unfolding assign_all
     going_end h d s₀ k =
         let (s, z, e) = g.going d s₀ k in
@@ -97,26 +95,26 @@ module _ (v r : List ℕ) (from to : ℕ) (t₀ dev : List ℕ) (places : Chain)
             (s, z, sym (all-next d (work_of s w.escape) ∙ past) ∙ b);
       }
 
-      module _ (t' : List ℕ) (x : Assigned) (c : PairAssigned v e dev places place t w t' x) where
-        says : (y : Assigned) → x ≡ y → (d : Device) (s : State) → Denotes dev places t w.layout d s → WorkSays (length (chain d)) t' y (assign_pair d place (entry_of v e) (work_of s w.escape))
-        says y q d s z = subst (λ (x : Assigned). WorkSays (length (chain d)) t' x (assign_pair d place (entry_of v e) (work_of s w.escape))) q (c d s z)
+      module _ (t' : List ℕ) (x : Result Work Refusal) (c : PairAssigned v e dev places place t w t' x) where
+        says : (y : Result Work Refusal) → x ≡ y → (d : Device) (s : State) → Denotes dev places t w.layout d s → WorkSays (length (chain d)) t' y (assign_pair d place (entry_of v e) (work_of s w.escape))
+        says y q d s z = subst (λ (x : Result Work Refusal). WorkSays (length (chain d)) t' x (assign_pair d place (entry_of v e) (work_of s w.escape))) q (c d s z)
 
-        pub going_on : (w' : Work) → x ≡ answer.Left w' → length t' ≡ length t → Going t' w' (i + 1)
+        pub going_on : (w' : Work) → x ≡ Ok w' → length t' ≡ length t → Going t' w' (i + 1)
         going_on w' q u = record {
           room = u ∙ g.room;
           ordered = omega arith;
           sound = sound-here.1;
           going = λ d s₀ k.
               let (s, z, b) = g.going d s₀ k in
-              let (s', f, y) = says (answer.Left w') q d s z in (
+              let (s', f, y) = says (Ok w') q d s z in (
                 s',
                 record { device = z.device; chained = z.chained; held = y },
                 sym (all-next d (work_of s w.escape) ∙ ap (λ (o : Checked refusal.Refusal assign.Work). o >>= λ u'. assign_all d place (pairs (i + 1)) u') f) ∙ b,
               );
         }
 
-        pub going_refused : (y : Refusal) → x ≡ answer.Refused y → AllAssigned v r from to dev places place t₀ lay₀ t' (change.Refused y)
+        pub going_refused : (y : Refusal) → x ≡ Err y → AllAssigned v r from to dev places place t₀ lay₀ t' (Err y)
         going_refused y q d s₀ k =
             let (s, z, b) = g.going d s₀ k in
-            let f : assign_pair d place (entry_of v e) (work_of s w.escape) ≡ refused (refusal_of y) = says (answer.Refused y) q d s z in
+            let f : assign_pair d place (entry_of v e) (work_of s w.escape) ≡ refused (refusal_of y) = says (Err y) q d s z in
             sym b ∙ all-next d (work_of s w.escape) ∙ ap (λ (o : Checked refusal.Refusal assign.Work). o >>= λ u'. assign_all d place (pairs (i + 1)) u') f

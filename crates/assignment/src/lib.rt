@@ -9,24 +9,17 @@ ghost use Rattle.records.specs.Records.{Ready};
 ghost use Rattle.assignment.specs.Assignment.{RuleRows, Readable, PairAssigned, AllAssigned};
 
 use assign_env::Escape;
-use assign_key::{Assigned, Work};
+use assign_key::Work;
 use device_lookup::Chain;
 use keys::Operator;
 use outcome_target::Layout;
-use records::Change;
+use refusals::Refusal;
 use table::Entry;
 
 fn is_match(operator: Operator) -> bool
     ensures { result ≡ rules.is_match (operator_of operator) }
 {
-    match operator {
-        Operator::Equal => true,
-        Operator::Unequal => true,
-        Operator::Assign => false,
-        Operator::Add => false,
-        Operator::Remove => false,
-        Operator::Final => false,
-    }
+    matches!(operator, Operator::Equal | Operator::Unequal)
 }
 
 // One row that is an assignment.
@@ -38,25 +31,20 @@ fn assign_pair(
     dev: &[u8],
     chain: Chain,
     place: usize,
-) -> Assigned
+) -> Result<Work, Refusal>
     requires { Readable values.now entry × (rules.is_match (operator_of entry.operator) ≡ false) × Ready dev.now chain t.old work.layout × (place ≤ chain.len) }
     ensures { PairAssigned values.now entry dev.now chain place t.old work t.new result }
 {
-    let key = entry.key;
-    let operator = entry.operator;
-    let start = entry.start;
-    let middle = entry.middle;
-    let end = entry.end;
     assign_key::assign(
         t,
         work,
         dev,
         chain,
         place,
-        key,
-        operator,
-        &values[start..middle],
-        &values[middle..end],
+        entry.key,
+        entry.operator,
+        &values[entry.start..entry.middle],
+        &values[entry.middle..entry.end],
     )
 }
 
@@ -71,7 +59,7 @@ pub fn assign_all(
     dev: &[u8],
     chain: Chain,
     place: usize,
-) -> Change
+) -> Result<Layout, Refusal>
     requires { RuleRows values.now rows.now from to × Ready dev.now chain t.old layout × (place ≤ chain.len) }
     ensures { AllAssigned values.now rows.now from to dev.now chain place t.old layout t.new result }
 {
@@ -79,22 +67,12 @@ pub fn assign_all(
         layout,
         escape: Escape::Unset,
     };
-    let mut i = from;
-    while i < to {
+    for i in from..to {
         let entry = table::pair_at(rows, i);
-        let operator = entry.operator;
-        if is_match(operator) {
-            i += 1;
-        } else {
-            match assign_pair(values, entry, t, work, dev, chain, place) {
-                Assigned::Left(next) => {
-                    work = next;
-                    i += 1;
-                }
-                Assigned::Refused(refusal) => return Change::Refused(refusal),
-            }
+        if is_match(entry.operator) {
+            continue;
         }
+        work = assign_pair(values, entry, t, work, dev, chain, place)?;
     }
-    let left = work.layout;
-    Change::Left(left)
+    Ok(work.layout)
 }

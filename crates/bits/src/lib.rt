@@ -29,12 +29,6 @@ struct Span {
     behind: usize,
 }
 
-fn wide(x: u8) -> usize
-    ensures { (result ≡ x) × (result < 256) }
-{
-    x as usize
-}
-
 fn span_of(at: usize, n: usize) -> Span
     requires { n ≤ 32 }
     ensures { Spanned at n result }
@@ -55,10 +49,8 @@ fn window(s: &[u8], first: usize, count: usize) -> usize
     ensures { (result ≡ number_at s.now (8 * first) (8 * count)) × (result < 2 ^ 40) }
 {
     let mut w: usize = 0;
-    let mut i: usize = 0;
-    while i < count {
-        w = w * 256 + wide(s[first + i]);
-        i += 1;
+    for i in 0..count {
+        w = w * 256 + usize::from(s[first + i]);
     }
     w
 }
@@ -69,11 +61,9 @@ fn set_window(s: &mut [u8], first: usize, count: usize, w: usize)
     ensures { s.new ≡ take first s.old ++ (bytes_of count (to_bits (8 * count) w) ++ drop (first + count) s.old) }
 {
     let mut rest = w;
-    let mut i = count;
-    while 0 < i {
-        i -= 1;
+    for i in (0..count).rev() {
         s[first + i] = (rest % 256) as u8;
-        rest = rest / 256;
+        rest /= 256;
     }
 }
 
@@ -108,12 +98,11 @@ impl BitCursor {
         requires { (n ≤ 32) × (self.at + n ≤ 8 * length s.now) × (self.at < 2 ^ 32) }
         ensures { Taken s.now self.at n result }
     {
-        let at = self.at;
-        let p = span_of(at, n);
+        let p = span_of(self.at, n);
         let w = window(s, p.first, p.count);
         Field {
             value: cut(w, n, p.behind),
-            next: BitCursor { at: at + n },
+            next: BitCursor { at: self.at + n },
         }
     }
 
@@ -122,11 +111,10 @@ impl BitCursor {
         requires { (n ≤ 32) × (self.at + n ≤ 8 * length s.old) × (self.at < 2 ^ 32) }
         ensures { Put s.old s.new self.at n v result }
     {
-        let at = self.at;
-        let p = span_of(at, n);
+        let p = span_of(self.at, n);
         let w = window(s, p.first, p.count);
         set_window(s, p.first, p.count, merge(w, n, p.behind, v));
-        BitCursor { at: at + n }
+        BitCursor { at: self.at + n }
     }
 }
 

@@ -1,10 +1,10 @@
 -- The walk that judges the records of a set.
 -- Assumes nothing.
-use Prim.Native.Nat.{ℕ, zero, suc, ◌+◌, ◌-◌, ◌≤◌, ◌<◌}
+use Prim.Native.Nat.{ℕ, suc, ◌+◌, ◌-◌, ◌≤◌, ◌<◌}
 use mathlib.Core.Path.{◌≡◌, refl, sym, ap, ◌∙◌}
 use mathlib.Core.Bool.{true, false}
 use mathlib.Core.List.{List, [], ◌∷◌}
-use mathlib.Core.Option.{Option, none, some}
+use Rattle.std.specs.Prelude.{Option, None, Some, Ok}
 use native.Mathlib.Omega.{arith}
 use native.Mathlib.Numerals.{add-one}
 use lib.ListN.{length, drop, get_or}
@@ -22,7 +22,6 @@ use Rattle.outcome.specs.State as O
 use Rattle.outcome.specs.State.{State}
 use Rattle.outcome_target.specs.declared.Layout.{Layout}
 use Rattle.outcome_check.specs.Check.{checked_of}
-use Rattle.outcome_check.specs.declared.Checked.TheVariants.{Sound, Faulty}
 use Rattle.outcome_check.proofs.Answers.{sound-state, faulty-state}
 use Rattle.engine.specs.Operations.{decode_for}
 use Rattle.sets.specs.Lent.{most_records, Lent, one_lent, decode_lent}
@@ -31,7 +30,6 @@ use Rattle.set_rows.specs.Places.{lent_in, LentFrom, LentIs}
 use Rattle.set_rows.specs.declared.LentPlace.{LentPlace}
 use Rattle.set_rows.proofs.Walk.{Turn, set_read_lem, first-got, turn, many-length}
 use Rattle.contest.specs.Operation.{states_from, states_of}
-use Rattle.claims.specs.declared.Verdict.TheVariants as verdict
 use Rattle.claims.specs.Judged.{VerdictIs}
 
 -- ---- one record
@@ -41,35 +39,35 @@ module _ (dev out : List ℕ) where
   unfolding states_from
   device_faulty e n ls = rw (is_none (D.decode dev) e)
 
-  module _ (d : Device) (e : D.decode dev ≡ some d) (r : Chain) (c : Chained d r) where
+  module _ (d : Device) (e : D.decode dev ≡ Some d) (r : Chain) (c : Chained d r) where
     chained : decode_for d out ≡ O.decode r.len out
     unfolding decode_for
     chained = ap (λ (n : ℕ). O.decode n out) (sym c.len)
 
-    pub outcome_faulty : Faulty ≡ checked_of (O.decode r.len out) → (n : ℕ) (ls : List Lent) → states_from n (record { device = dev; outcome = out } ∷ ls) ≡ refused (of_record n outcome_bad)
+    pub outcome_faulty : None ≡ checked_of (O.decode r.len out) → (n : ℕ) (ls : List Lent) → states_from n (record { device = dev; outcome = out } ∷ ls) ≡ refused (of_record n outcome_bad)
     unfolding states_from
     outcome_faulty k n ls = rw (e, chained ∙ faulty-state (O.decode r.len out) k)
 
-    pub both_sound : (lay : Layout) → Sound lay ≡ checked_of (O.decode r.len out) → VerdictIs dev out verdict.Sound
+    pub both_sound : (lay : Layout) → Some lay ≡ checked_of (O.decode r.len out) → VerdictIs dev out (Ok tt)
     both_sound lay k = let (s, f, _) = sound-state (O.decode r.len out) lay k in (d, s, e, chained ∙ f)
 
 -- ---- one after the other
 
 -- why records are refused, if they are
 abbrev pub fault_of : Checked Fault (List State) → Option Fault
-fault_of (refused f) = some f
-fault_of (ok ss) = none
+fault_of (refused f) = Some f
+fault_of (ok ss) = None
 
-pub fault_of_lem : (c : Checked Fault (List State)) (f : Fault) → fault_of c ≡ some f → c ≡ refused f
+pub fault_of_lem : (c : Checked Fault (List State)) (f : Fault) → fault_of c ≡ Some f → c ≡ refused f
 fault_of_lem (refused g) f e = let q : g ≡ f = cc in ap refused q
 fault_of_lem (ok ss) f e = let z : ◌≡◌ {A = ℕ} 0 1 = cc in absurd (omega arith)
 
-pub no-fault : (c : Checked Fault (List State)) → fault_of c ≡ none → (ss : List State) × (c ≡ ok ss)
+pub no-fault : (c : Checked Fault (List State)) → fault_of c ≡ None → (ss : List State) × (c ≡ ok ss)
 no-fault (refused f) e = let z : ◌≡◌ {A = ℕ} 0 1 = cc in absurd (omega arith)
 no-fault (ok ss) e = (ss, refl)
 
 -- a sound record leaves it to the others
-sound-first : (n : ℕ) (l : Lent) (ls : List Lent) → VerdictIs l.device l.outcome verdict.Sound → fault_of (states_from n (l ∷ ls)) ≡ fault_of (states_from (suc n) ls)
+sound-first : (n : ℕ) (l : Lent) (ls : List Lent) → VerdictIs l.device l.outcome (Ok tt) → fault_of (states_from n (l ∷ ls)) ≡ fault_of (states_from (suc n) ls)
 unfolding states_from
 sound-first n l ls (d, s, e, f) = rw (e, f) (more (states_from (suc n) ls))
   where
@@ -124,9 +122,9 @@ module _ (set : List ℕ) (p i count : ℕ) (w : Left set p i count) (h : i < co
         → states_of set ≡ refused (record { why = f.why; position = i + 1; line = f.line })
     left-faulty f k =
         fault_of_lem (states_of set) (record { why = f.why; position = i + 1; line = f.line })
-        (sym fault-here ∙ ap fault_of (k (suc i) here.others) ∙ ap (λ (n : ℕ). some (record { why = f.why; position = n; line = f.line })) (sym (add-one i)))
+        (sym fault-here ∙ ap fault_of (k (suc i) here.others) ∙ ap (λ (n : ℕ). Some (record { why = f.why; position = n; line = f.line })) (sym (add-one i)))
 
-    pub left-sound : VerdictIs (lent_in set r).device (lent_in set r).outcome verdict.Sound → Left set r.outcome.end (i + 1) count
+    pub left-sound : VerdictIs (lent_in set r).device (lent_in set r).outcome (Ok tt) → Left set r.outcome.end (i + 1) count
     left-sound v = record {
       within = is.outcome.within;
       few = w.few;
@@ -143,6 +141,6 @@ left-none set p i count w h =
     let e : length w.lents ≡ 0 = many-length one_lent (count - i) (drop p set) w.lents [] w.read ∙ n in
     no-fault (states_of set) (sym w.fault ∙ at w.lents e)
   where
-    at : (ls : List Lent) → length ls ≡ 0 → fault_of (states_from (suc i) ls) ≡ none
+    at : (ls : List Lent) → length ls ≡ 0 → fault_of (states_from (suc i) ls) ≡ None
     at [] z = refl
     at (l ∷ ls) z = absurd (omega arith)

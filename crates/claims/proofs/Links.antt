@@ -1,27 +1,23 @@
 -- The links and the link priority of a record, where code reads them.
 -- Assumes nothing.
 use Prim.Native.Nat.{ℕ, ◌+◌, ◌-◌, ◌*◌, ◌≤◌, ◌<◌}
-use mathlib.Core.Path.{◌≡◌, refl, sym, ap, ap₂, ◌∙◌, subst}
+use mathlib.Core.Path.{◌≡◌, refl, sym, ap, ◌∙◌, subst}
 use mathlib.Core.Bool.{Bool, true, false}
 use mathlib.Core.List.{List, ◌++◌, map-id}
-use mathlib.Core.Option.{some}
+use Rattle.std.specs.Prelude.{Some}
 use native.Mathlib.Omega.{arith}
 use borrow.Author.Tests.{ltb-true, ltb-false}
 use lib.Dec.{ltb}
-use lib.IntN.{ℤ, pos, negsuc}
 use lib.ListN.{length, drop, length-append}
 use mir.Syntax.{w32}
 use mir.Val.{SFits, to_z, of_z}
 use mir.Facts.{to_z-of_z}
-use Rattle.lists.specs.Bytes.{Bytes, among}
+use Rattle.lists.specs.Bytes.{Bytes}
 use Rattle.bits.specs.Bits.{number_at}
 use Rattle.bits.specs.Signed.{to_signed}
 use Rattle.bits.proofs.Numbers.{number-front}
 use Rattle.bits.proofs.Signed.{signed_low, signed_high}
-use Rattle.entries.specs.Entry.{one_text}
 use Rattle.entries.proofs.Entries.{text-laws}
-use Rattle.rows.specs.Row.{names}
-use Rattle.rows.specs.declared.Kind.TheVariants as kind
 use Rattle.rows.proofs.Readers.{text-reads, many-row, many-names}
 use Rattle.outcome.specs.Head.{Head, header_size, header, head_of}
 use Rattle.outcome.specs.Content.{ok_link}
@@ -32,7 +28,7 @@ use Rattle.outcome_target.specs.Layout.{layout_of, start_of}
 use Rattle.outcome_target.specs.declared.Section.TheVariants.{Links}
 use Rattle.outcome_target.proofs.Rows.{links-row}
 use Rattle.run_list.proofs.Rows.{record_row}
-use Rattle.contest.specs.Contest.{claims, rank}
+use Rattle.contest.specs.Contest.{rank}
 use Rattle.claims.specs.declared.Claims.{Claims}
 use Rattle.claims.specs.Claims.{ClaimsAre}
 
@@ -53,7 +49,7 @@ signed_back x h = to_z-of_z {w = w32} {z = to_signed x} (signed-fits x h)
 
 -- ---- a record
 
-module _ (n : ℕ) (rec : List ℕ) (s : State) (by : Bytes rec) (is : decode n rec ≡ some s) where
+module _ (n : ℕ) (rec : List ℕ) (s : State) (by : Bytes rec) (is : decode n rec ≡ Some s) where
   good : Good n s
   good = (back n rec s by is).1
 

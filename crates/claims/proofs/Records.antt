@@ -3,12 +3,12 @@
 use Prim.Native.Nat.{ℕ, zero, suc, ◌≤◌, ◌<◌}
 use mathlib.Core.Path.{◌≡◌, refl, sym, ap, ◌∙◌, subst}
 use mathlib.Core.List.{List, [], ◌∷◌}
-use mathlib.Core.Option.{Option, none, some}
+use Rattle.std.specs.Prelude.{Option, None, Some}
 use native.Mathlib.Omega.{arith}
 use lib.ListN.{length, drop, get_or}
 use Rattle.lists.specs.Checked.{Checked, refused, ok, ◌>>=◌, found}
 use Rattle.lists.specs.Refusal.{device_bad, outcome_bad, set_bad}
-use Rattle.entries.specs.Parse.{Parse, got, bad, many}
+use Rattle.entries.specs.Parse.{got, many}
 use Rattle.entries.proofs.Rows.{through}
 use Rattle.device.specs.Device as D
 use Rattle.device.specs.Device.{Device, chain}
@@ -20,7 +20,7 @@ use Rattle.set_rows.specs.Places.{bytes_in, lent_in, LentFrom, LentIs}
 use Rattle.set_rows.specs.declared.LentPlace.{LentPlace}
 use Rattle.set_rows.proofs.Walk.{set_read_lem, many-length}
 use Rattle.contest.specs.Operation.{states_from, states_of}
-use Rattle.claims.specs.Records.{Held, or_none, states_in, First, Stand, Standing, StandsAt}
+use Rattle.claims.specs.Records.{or_none, states_in, Stand, Standing, StandsAt}
 
 -- ---- from what was read to what stands there
 
@@ -28,9 +28,9 @@ bound : {A B : Type 0} (c : Checked Fault A) (k : A → Checked Fault B) (b : B)
 bound (refused f) k b e = let z : ◌≡◌ {A = ℕ} 0 1 = cc in absurd (omega arith)
 bound (ok a) k b e = (a, refl, e)
 
-found_ok : {A : Type 0} (o : Option A) (f : Fault) (a : A) → found o f ≡ ok a → o ≡ some a
-found_ok none f a e = let z : ◌≡◌ {A = ℕ} 0 1 = cc in absurd (omega arith)
-found_ok (some b) f a e = let q : b ≡ a = cc in ap some q
+found_ok : {A : Type 0} (o : Option A) (f : Fault) (a : A) → found o f ≡ ok a → o ≡ Some a
+found_ok None f a e = let z : ◌≡◌ {A = ℕ} 0 1 = cc in absurd (omega arith)
+found_ok (Some b) f a e = let q : b ≡ a = cc in ap Some q
 
 -- the states of a record and of those behind it
 record Split (n : ℕ) (l : Lent) (ls : List Lent) (ss : List State) : Type 0 where
@@ -38,7 +38,7 @@ record Split (n : ℕ) (l : Lent) (ls : List Lent) (ss : List State) : Type 0 wh
   state : State
   others : List State
   split : ss ≡ state ∷ others
-  held : decode chain l.outcome ≡ some state
+  held : decode chain l.outcome ≡ Some state
   behind : states_from (suc n) ls ≡ ok others
 
 split_of : (n : ℕ) (l : Lent) (ls : List Lent) (ss : List State) → states_from n (l ∷ ls) ≡ ok ss → Split n l ls ss
@@ -103,7 +103,7 @@ first-from set p (s, ss, w) = let (z, f, _) = w.records in record { within = w.w
 -- by the places that code has
 pub record Here (set : List ℕ) (r : LentPlace) (s : State) (ss : List State) : Type 0 where
   pub chain : ℕ
-  pub held : decode chain (bytes_in set r.outcome) ≡ some s
+  pub held : decode chain (bytes_in set r.outcome) ≡ Some s
   pub others : Standing set r.outcome.end ss
 
 pub first-here : (set : List ℕ) (p : ℕ) (r : LentPlace) → LentIs set p r → (s : State) (ss : List State) → Standing set p (s ∷ ss) → Here set r s ss

@@ -1,6 +1,8 @@
 -- What code says of the claims of records.
 -- Assumes nothing.
 use Rattle.std.specs.Prelude.{ℕ, suc, ◌≤◌, ◌≡◌, true, List, ◌∷◌, length, take, drop}
+use Rattle.std.specs.Prelude.{Some, None}
+use Rattle.lists.specs.Lists.{pick}
 use Rattle.lists.specs.Bytes.{distinct}
 use Rattle.rows.specs.Row.{Row, names}
 use Rattle.rows.specs.declared.Kind.TheVariants as kind
@@ -24,8 +26,7 @@ pub record ClaimsAre (rec : List ℕ) (s : State) (r : Claims) : Type 0 where
 
 -- the first of records claims a name or not, and the others begin behind it
 pub record ClaimIs (set name : List ℕ) (s : State) (ss : List State) (r : Claim) : Type 0 where
-  pub made : r.made ≡ claims name s
-  pub priority : r.priority ≡ rank s
+  pub priority : r.priority ≡ pick (claims name s) (Some (rank s)) None
   pub others : Standing set r.end ss
 
 abbrev pub as_claimant : Claimant → contest.Claimant

@@ -1,7 +1,7 @@
 -- The records of a lent set beside the states that they hold.
 -- Assumes nothing.
 use Rattle.std.specs.Prelude.{ℕ, ◌≤◌, ◌≡◌, List, [], ◌∷◌, length, drop}
-use Rattle.std.proofs.Math.Option.{some}
+use Rattle.std.specs.Prelude.{Some}
 use Rattle.lists.specs.Checked.{Checked, refused, ok}
 use Rattle.entries.specs.Parse.{got}
 use Rattle.outcome.specs.State.{State, decode}
@@ -13,10 +13,10 @@ use Rattle.contest.specs.Operation.{states_of}
 
 -- it holds a state
 abbrev pub Held : List ℕ → Type 0
-Held rec = (n : ℕ) × (s : State) × (decode n rec ≡ some s)
+Held rec = (n : ℕ) × (s : State) × (decode n rec ≡ Some s)
 
 abbrev pub OfRecord : List ℕ → (State → Type 0) → Type 0
-OfRecord rec P = (n : ℕ) (s : State) → decode n rec ≡ some s → P s
+OfRecord rec P = (n : ℕ) (s : State) → decode n rec ≡ Some s → P s
 
 -- ---- a set
 
@@ -33,7 +33,7 @@ pub record First (bs : List ℕ) (s : State) (z : List ℕ) : Type 0 where
   pub chain : ℕ
   pub lent : Lent
   pub read : one_lent bs ≡ got lent z
-  pub held : decode chain lent.outcome ≡ some s
+  pub held : decode chain lent.outcome ≡ Some s
 
 -- the records of states, one behind the other
 abbrev pub Stand : List ℕ → List State → Type 0

@@ -15,64 +15,53 @@ ghost use Rattle.claims.specs.Judged.{VerdictIs, JudgedIs};
 ghost use Rattle.claims.specs.Records.{Held, OfRecord, states_in, Standing, StandsAt, OfFirst};
 ghost use Rattle.claims.specs.Claims.{ClaimsAre, ClaimIs, as_claimant, HoldingIs};
 
-use outcome_check::Checked;
 use outcome_target::HEADER;
-use refusals::Refusal;
+use refusals::{Refusal, SetRefusal};
 use rows::Kind;
 
 // ---- soundness
 
-#[derive(Drop)]
-pub enum Verdict {
-    Sound,
-    Faulty(Refusal),
-}
-
 // A device record and the outcome record beside it.
-fn judge_record(device: &[u8], outcome: &[u8]) -> Verdict
+fn judge_record(device: &[u8], outcome: &[u8]) -> Result<(), Refusal>
     ensures { VerdictIs device.now outcome.now result }
 {
     if !device_check::check(device) {
-        return Verdict::Faulty(Refusal::DeviceBad);
+        return Err(Refusal::DeviceBad);
     }
-    let chain = device_lookup::chain_of(device);
-    match outcome_check::check(outcome, chain.len) {
-        Checked::Sound(_) => Verdict::Sound,
-        Checked::Faulty => Verdict::Faulty(Refusal::OutcomeBad),
+    match outcome_check::check(outcome, device_lookup::chain_of(device).len) {
+        Some(_) => Ok(()),
+        None => Err(Refusal::OutcomeBad),
     }
 }
 
 // The first fault of a set, with the position that it has.
-#[derive(Drop)]
-pub enum Judged {
-    Sound,
-    Refused(Refusal, usize),
-}
-
-pub fn judge(set: &[u8]) -> Judged
+pub fn judge(set: &[u8]) -> Result<(), SetRefusal>
     ensures { JudgedIs (states_of set.now) result }
 {
     if !set_rows::check_lent(set) {
-        return Judged::Refused(Refusal::SetBad, 0);
+        return Err(SetRefusal {
+            refusal: Refusal::SetBad,
+            position: 0,
+            line: 0,
+        });
     }
-    let count = set_rows::count_of(set);
-    let mut p: usize = 1;
-    let mut i: usize = 0;
-    while i < count {
+    let mut p = 1;
+    for i in 0..set_rows::count_of(set) {
         let place = set_rows::lent_in(set, p);
-        let device = place.device;
-        let outcome = place.outcome;
-        i += 1;
-        let verdict = judge_record(
-            set_rows::bytes_of(set, device),
-            set_rows::bytes_of(set, outcome),
+        let judged = judge_record(
+            set_rows::bytes_of(set, place.device),
+            set_rows::bytes_of(set, place.outcome),
         );
-        if let Verdict::Faulty(why) = verdict {
-            return Judged::Refused(why, i);
+        if let Err(refusal) = judged {
+            return Err(SetRefusal {
+                refusal,
+                position: i + 1,
+                line: 0,
+            });
         }
-        p = outcome.end;
+        p = place.outcome.end;
     }
-    Judged::Sound
+    Ok(())
 }
 
 // ---- one record
@@ -106,11 +95,10 @@ pub fn claims_in(rec: &[u8]) -> Claims
     }
 }
 
-// Whether the record at a place claims a name, its link priority, and where the next one begins.
-#[derive(Drop)]
+// The link priority of the record at a place, if it claims a name, and where the next one begins.
+#[derive(Clone, Copy)]
 pub struct Claim {
-    pub made: bool,
-    pub priority: i32,
+    pub priority: Option<i32>,
     pub end: usize,
 }
 
@@ -118,13 +106,12 @@ fn claim_at(set: &[u8], p: usize, name: &[u8]) -> Claim
     requires { StandsAt set.now p }
     ensures { OfFirst set.now p (λ s ss. ClaimIs set.now name.now s ss result) }
 {
-    let place = set_rows::lent_in(set, p);
-    let outcome = place.outcome;
+    let outcome = set_rows::lent_in(set, p).outcome;
     let rec = set_rows::bytes_of(set, outcome);
     let row = claims_in(rec);
+    let made = rows::has(rec, row.links, row.count, Kind::Text, name);
     Claim {
-        made: rows::has(rec, row.links, row.count, Kind::Text, name),
-        priority: row.priority,
+        priority: if made { Some(row.priority) } else { None },
         end: outcome.end,
     }
 }
@@ -136,15 +123,13 @@ pub fn claimed_before(set: &[u8], n: usize, name: &[u8]) -> bool
     requires { Standing set.now 1 (states_in set.now) × (n ≤ length (states_in set.now)) }
     ensures { result ≡ any (claims name.now) (take n (states_in set.now)) }
 {
-    let mut p: usize = 1;
-    let mut i: usize = 0;
-    while i < n {
+    let mut p = 1;
+    for _ in 0..n {
         let claim = claim_at(set, p, name);
-        if claim.made {
+        if claim.priority.is_some() {
             return true;
         }
         p = claim.end;
-        i += 1;
     }
     false
 }
@@ -191,22 +176,15 @@ pub fn claimants(
 {
     let mut top = first;
     let mut q = p;
-    let mut i = first.position;
-    list[0] = byte(i);
-    let mut count: usize = 1;
-    while i < n {
+    list[0] = byte(first.position);
+    let mut count = 1;
+    for i in first.position..n {
         let claim = claim_at(set, q, name);
-        i += 1;
-        if claim.made {
-            list[count] = byte(i);
+        if let Some(priority) = claim.priority {
+            let position = i + 1;
+            list[count] = byte(position);
             count += 1;
-            top = higher(
-                top,
-                Claimant {
-                    position: i,
-                    priority: claim.priority,
-                },
-            );
+            top = higher(top, Claimant { position, priority });
         }
         q = claim.end;
     }

@@ -4,7 +4,7 @@ use Prim.Native.Nat.{ℕ, ◌+◌, ◌-◌, ◌≤◌, ◌<◌}
 use mathlib.Core.Path.{◌≡◌, refl, sym, ap, ◌∙◌}
 use mathlib.Core.Bool.{false}
 use mathlib.Core.List.{List, [], ◌++◌}
-use mathlib.Core.Option.{none, some}
+use Rattle.std.specs.Prelude.{None, Some}
 use borrow.Author.Tests.{le-leb, lt-leb}
 use lib.ListN.{length, replicate}
 use Rattle.lists.proofs.Lists.{is_none}
@@ -23,7 +23,6 @@ use Rattle.outcome.specs.State.{State}
 use Rattle.outcome_target.specs.declared.Layout.{Layout}
 use Rattle.outcome_check.proofs.Answers.{sound-state, faulty-state}
 use Rattle.outcome_check.specs.Check.{checked_of}
-use Rattle.outcome_check.specs.declared.Checked.TheVariants.{Sound, Faulty}
 use Rattle.engine.specs.Operations.{Command, run_list, commands, given, decode_for, close_checked, close}
 use Rattle.insertion.specs.Append.{Placed}
 use Rattle.run_list.specs.Records.{Both}
@@ -41,15 +40,15 @@ module _ (dev out : List ℕ) (room : ℕ) where
     unfolding close close_checked
     close_device k = rw (le-leb fullest_run_list room h, is_none (D.decode dev) k)
 
-    module _ (d : Device) (e : D.decode dev ≡ some d) (r : Chain) (c : Chained d r) where
-      pub close_outcome : Faulty ≡ checked_of (O.decode r.len out) → close dev out room ≡ refusal room (line 0 outcome_bad)
+    module _ (d : Device) (e : D.decode dev ≡ Some d) (r : Chain) (c : Chained d r) where
+      pub close_outcome : None ≡ checked_of (O.decode r.len out) → close dev out room ≡ refusal room (line 0 outcome_bad)
       unfolding close close_checked decode_for
       close_outcome k =
-          let f : O.decode (length (chain d)) out ≡ none = ap (λ (n : ℕ). O.decode n out) (sym c.len) ∙ faulty-state (O.decode r.len out) k in
+          let f : O.decode (length (chain d)) out ≡ None = ap (λ (n : ℕ). O.decode n out) (sym c.len) ∙ faulty-state (O.decode r.len out) k in
           rw (le-leb fullest_run_list room h, e, f)
 
       -- both records are sound
-      pub close_both : (lay : Layout) → Sound lay ≡ checked_of (O.decode r.len out) → (s : State) × Both dev out r lay d s
+      pub close_both : (lay : Layout) → Some lay ≡ checked_of (O.decode r.len out) → (s : State) × Both dev out r lay d s
       unfolding decode_for
       close_both lay k =
           let (s, f, g) = sound-state (O.decode r.len out) lay k in

@@ -11,8 +11,6 @@ ghost use Rattle.close.specs.Closing.{listed};
 
 use answers::Given;
 use device_lookup::Chain;
-use insertion::Put;
-use outcome_check::Checked;
 use outcome_target::Layout;
 use refusals::Refusal;
 
@@ -21,13 +19,11 @@ fn list(t: &mut [u8], dev: &[u8], rec: &[u8], chain: Chain, layout: Layout) -> G
     requires { (fullest_run_list ≤ length t.old) × (t.old ≡ replicate (length t.old) 0) × RecordStands dev.now rec.now chain layout }
     ensures { OfRecord dev.now rec.now chain layout (λ d s. answered result t.new ≡ given (length t.old) (listed (commands d s.properties s.output s.runs))) }
 {
-    match run_list::write(t, dev, rec, chain, layout) {
-        Put::Done(used) => answers::accepted(0, 0, used),
-        Put::Full => {
-            splice::clear(t);
-            answers::refused(Refusal::SubstitutionLong, 0)
-        }
-    }
+    let Some(used) = run_list::write(t, dev, rec, chain, layout) else {
+        splice::clear(t);
+        return answers::refused(Refusal::SubstitutionLong, 0);
+    };
+    answers::accepted(0, 0, used)
 }
 
 pub fn close(device: &[u8], outcome: &[u8], target: &mut [u8]) -> Given
@@ -41,8 +37,8 @@ pub fn close(device: &[u8], outcome: &[u8], target: &mut [u8]) -> Given
         return answers::refused(Refusal::DeviceBad, 0);
     }
     let chain = device_lookup::chain_of(device);
-    match outcome_check::check(outcome, chain.len) {
-        Checked::Sound(layout) => list(target, device, outcome, chain, layout),
-        Checked::Faulty => answers::refused(Refusal::OutcomeBad, 0),
-    }
+    let Some(layout) = outcome_check::check(outcome, chain.len) else {
+        return answers::refused(Refusal::OutcomeBad, 0);
+    };
+    list(target, device, outcome, chain, layout)
 }

@@ -24,17 +24,13 @@ fn say(stdout: Stdout, word: &[u8]) {
 
 fn say_number(stdout: Stdout, n: u32) {
     let d = pieces::decimal(n);
-    let digits = d.digits;
-    let start = d.start;
-    say(stdout, &digits[start..]);
+    say(stdout, &d.digits[d.start..]);
 }
 
 // The text of the only command in a run list of `used` bytes.
 fn say_text(stdout: Stdout, list: &[u8], used: usize) {
-    if 3 <= used {
-        if used <= list.len() {
-            say(stdout, &list[3..used]);
-        }
+    if 3 <= used && used <= list.len() {
+        say(stdout, &list[3..used]);
     }
 }
 
@@ -42,7 +38,7 @@ fn digit_of(b: u8) -> usize
     ensures { result ≤ 31 }
 {
     match b {
-        b'0'..=b'9' => (b - b'0') as usize,
+        b'0'..=b'9' => usize::from(b - b'0'),
         _ => 31,
     }
 }
@@ -56,8 +52,7 @@ fn show_close(stdout: Stdout, place: usize, template: &[u8])
     len_at.put(&mut rec, 9, template.len());
     splice::store(&mut rec, 96, template);
     let mut target = [0u8; 8225];
-    let end = 96 + template.len();
-    let given = close::close(&DEVICE, &rec[0..end], &mut target);
+    let given = close::close(&DEVICE, &rec[..96 + template.len()], &mut target);
     if given.number == 0 {
         say_text(stdout, &target, given.used as usize);
     } else {
@@ -69,20 +64,15 @@ fn show_close(stdout: Stdout, place: usize, template: &[u8])
 fn show_line(stdout: Stdout, line: &[u8]) {
     say(stdout, line);
     say(stdout, b"\t");
-    if 2 <= line.len() {
-        if line.len() <= 258 {
-            show_close(stdout, digit_of(line[0]), &line[2..]);
-        }
+    if matches!(line.len(), 2..=258) {
+        show_close(stdout, digit_of(line[0]), &line[2..]);
     }
     say(stdout, b"\n");
 }
 
 fn show_all(stdout: Stdout, table: &[u8]) {
-    let mut at: usize = 0;
-    while at < table.len() {
-        let end = scan::byte_end(table, at, b'\n');
-        show_line(stdout, &table[at..end]);
-        at = end + 1;
+    for line in table.split_inclusive(|b| *b == b'\n') {
+        show_line(stdout, line.strip_suffix(b"\n").unwrap_or(line));
     }
 }
 

@@ -4,7 +4,8 @@ use Prim.Native.Nat.{ℕ, suc}
 use mathlib.Core.Path.{◌≡◌, refl, sym, ap, ap₂, ◌∙◌}
 use mathlib.Core.Bool.{Bool, true, false, not, ◌&&◌, ◌||◌}
 use mathlib.Core.List.{List, [], ◌∷◌}
-use mathlib.Core.Option.{Option, none, some, some-injective}
+use Rattle.std.specs.Prelude.{Option, None, Some}
+use Rattle.std.proofs.lemmas.Option.{same_Some}
 use native.Mathlib.Omega.{arith}
 use lib.ListN.{length}
 use borrow.Author.Tests.{eqb-true, not-true}
@@ -31,7 +32,7 @@ every : List Key
 every =
     ACTION ∷ DEVPATH ∷ KERNEL ∷ KERNELS ∷ SUBSYSTEM ∷ SUBSYSTEMS ∷ DRIVER ∷ DRIVERS ∷ ATTR ∷ ATTRS ∷ ENV ∷ SYMLINK ∷ TAG ∷ OWNER ∷ GROUP ∷ MODE ∷ RUN ∷ LABEL ∷ GOTO ∷ OPTIONS ∷ PROGRAM ∷ RESULT ∷ []
 
-at_number : (a : Key) → nth (key_number a) every ≡ some a
+at_number : (a : Key) → nth (key_number a) every ≡ Some a
 unfolding every
 at_number ACTION = refl
 at_number DEVPATH = refl
@@ -58,7 +59,7 @@ at_number RESULT = refl
 
 pub key_same : (a b : Key) → same_key a b ≡ true → a ≡ b
 key_same a b h =
-    some-injective a b
+    same_Some a b
     (sym (at_number a) ∙ ap (λ (n : ℕ). nth n every) (eqb-true (key_number a) (key_number b) h) ∙ at_number b)
 
 -- ---- a pair that is dropped
@@ -166,9 +167,9 @@ module _ (k : ClosingKey) where
   value_same key n (p ∷ r) = at (assigns_to k p) refl (value_same key n r)
     where
       at : (t : Bool) → assigns_to k p ≡ t → value_of key (drop_rule k r) ≡ value_of key r
-          → value_of key (pick t (drop_rule k r) (p ∷ drop_rule k r)) ≡ pick (same_key p.key key) (some p.value) (value_of key r)
-      at true e ih = ih ∙ ap (λ (b : Bool). pick b (some p.value) (value_of key r)) (sym (ap (λ (a : Key). same_key a key) (drop_key k p e) ∙ n))
-      at false e ih = ap (λ (o : Option (List ℕ)). pick (same_key p.key key) (some p.value) o) ih
+          → value_of key (pick t (drop_rule k r) (p ∷ drop_rule k r)) ≡ pick (same_key p.key key) (Some p.value) (value_of key r)
+      at true e ih = ih ∙ ap (λ (b : Bool). pick b (Some p.value) (value_of key r)) (sym (ap (λ (a : Key). same_key a key) (drop_key k p e) ∙ n))
+      at false e ih = ap (λ (o : Option (List ℕ)). pick (same_key p.key key) (Some p.value) o) ih
 
   pub drop-label : (r : Rule) → label_of (drop_rule k r) ≡ label_of r
   drop-label r = value_same LABEL (no_label k) r
@@ -197,17 +198,17 @@ module _ (k : ClosingKey) where
     unfolding nearest
     drop-nearest n [] r = refl
     drop-nearest n (m ∷ ms) r =
-        ap₂ (λ (t : Bool) (o : Option ℕ). elim t as (λ _. Option ℕ) [ true ↦ some n | false ↦ o ]) (drop-member m r) (drop-nearest (suc n) ms r)
+        ap₂ (λ (t : Bool) (o : Option ℕ). elim t as (λ _. Option ℕ) [ true ↦ Some n | false ↦ o ]) (drop-member m r) (drop-nearest (suc n) ms r)
 
     drop-place : (r : Rule) → place_of d (drop_rule k r) ≡ place_of d r
     unfolding place_of
     drop-place r =
-        ap₂ (λ (t : Bool) (o : Option ℕ). elim t as (λ _. Option ℕ) [ true ↦ o | false ↦ some 0 ]) (drop_parents r) (drop-nearest 1 (chain d) r)
+        ap₂ (λ (t : Bool) (o : Option ℕ). elim t as (λ _. Option ℕ) [ true ↦ o | false ↦ Some 0 ]) (drop_parents r) (drop-nearest 1 (chain d) r)
 
     pub drop-matched : (s : State) (r : Rule) → matched d s (drop_rule k r) ≡ matched d s r
     unfolding matched
     drop-matched s r =
-        ap₂ (λ (t : Bool) (o : Option ℕ). elim t as (λ _. Option ℕ) [ true ↦ o | false ↦ none ]) (drop-holds s r) (drop-place r)
+        ap₂ (λ (t : Bool) (o : Option ℕ). elim t as (λ _. Option ℕ) [ true ↦ o | false ↦ None ]) (drop-holds s r) (drop-place r)
 
     -- the assignments that are left do the same
     pub drop_all : (place : ℕ) (r : Rule) (w : Work) → is_closed k w.state ≡ true → assign_all d place (drop_rule k r) w ≡ assign_all d place r w
@@ -265,8 +266,8 @@ module _ (k : ClosingKey) where
 
       step_at_lem : (o : Option ℕ) (r : Rule) (s : State) → is_closed k s ≡ true → step_at o a d (drop_rule k r) s ≡ step_at o a d r s
       unfolding step_at
-      step_at_lem none r s h = refl
-      step_at_lem (some place) r s h =
+      step_at_lem None r s h = refl
+      step_at_lem (Some place) r s h =
           ap (λ (c : Checked Refusal (Stepped State)). c >>= λ x. asked_then x (finished d place (drop_rule k r))) (drop-asks place r s)
           ∙ on (ask_all a d place r s) (asks_stay k d a place r s h)
         where

@@ -4,7 +4,7 @@ use Prim.Native.Nat.{ℕ, ◌+◌}
 use mathlib.Core.Path.{◌≡◌, refl, sym, ap, ap₂, ◌∙◌, subst}
 use mathlib.Core.Bool.{Bool, true, false}
 use mathlib.Core.List.{List, [], ◌∷◌}
-use mathlib.Core.Option.{Option, none, some}
+use Rattle.std.specs.Prelude.{Option, None, Some}
 use Rattle.lists.specs.Lists.{pick}
 use Rattle.lists.specs.Checked.{Checked, refused, ok, Holds, Placed, line}
 use Rattle.lists.specs.Refusal.{Refusal}
@@ -115,14 +115,14 @@ module _ (a : Sheet) (k : ClosingKey) (d : Device) where
     visit-none next s h e =
         let w : step a d r s ≡ ok (went s true) = sym (drop-step k d a r s h) ∙ ap (λ (x : Rule). step a d x s) e ∙ nothing-done a d s in
         let z : tried d r s ≡ 0 = sym (drop-tried k d r s) ∙ ap (λ (x : Rule). tried d x s) e ∙ nothing-tried d s in
-        let o : goto_of r ≡ none = sym (drop_goto k r) ∙ ap goto_of e in
+        let o : goto_of r ≡ None = sym (drop_goto k r) ∙ ap goto_of e in
         same next s h
         ∙ sym (farther-none (unvisited (g next s)))
         ∙ sym (unvisited-more 1 0 (g next s))
-        ∙ ap (λ (t : ℕ). unvisited (started (engine a) (ok (went s true)) n t none g)) (sym z)
+        ∙ ap (λ (t : ℕ). unvisited (started (engine a) (ok (went s true)) n t None g)) (sym z)
         ∙ sym (ap₂ (λ (c : Checked Refusal (Stepped State)) (o : Option (List ℕ)). unvisited (started (engine a) c n (tried d r s) o g)) w o)
     visit-none (seek l) s h e =
-        let o : label_of r ≡ none = sym (drop-label k r) ∙ ap label_of e in
+        let o : label_of r ≡ None = sym (drop-label k r) ∙ ap label_of e in
         same (seek l) s h ∙ sym (ap (λ (o : Option (List ℕ)). unvisited (visit (engine a) (has_label l o) d n r (seek l) s g)) o)
 
   pub drop-run : (ps : List (Placed Rule)) (m : Mode) (s : State) → is_closed k s ≡ true
@@ -149,16 +149,16 @@ module _ (a : Sheet) (k : ClosingKey) where
   drop-goes l (line n r ∷ ps) = at (drop_rule k r) refl (drop-goes l ps)
     where
       at : (r' : Rule) → drop_rule k r ≡ r' → goes_to reader l (drop_rules k ps) ≡ goes_to reader l ps
-          → goes_to reader l (unless_empty r' (drop_rules k ps) (λ x. line n x)) ≡ pick (has_label l (label_of r)) (some n) (goes_to reader l ps)
+          → goes_to reader l (unless_empty r' (drop_rules k ps) (λ x. line n x)) ≡ pick (has_label l (label_of r)) (Some n) (goes_to reader l ps)
       at [] e ih =
-          let o : label_of r ≡ none = sym (drop-label k r) ∙ ap label_of e in
-          ih ∙ sym (ap (λ (o : Option (List ℕ)). pick (has_label l o) (some n) (goes_to reader l ps)) o)
+          let o : label_of r ≡ None = sym (drop-label k r) ∙ ap label_of e in
+          ih ∙ sym (ap (λ (o : Option (List ℕ)). pick (has_label l o) (Some n) (goes_to reader l ps)) o)
       at (p ∷ q) e ih =
-          ap₂ (λ (o : Option (List ℕ)) (x : Option ℕ). pick (has_label l o) (some n) x) (ap label_of (sym e) ∙ drop-label k r) ih
+          ap₂ (λ (o : Option (List ℕ)) (x : Option ℕ). pick (has_label l o) (Some n) x) (ap label_of (sym e) ∙ drop-label k r) ih
 
   aimed_same : (o : Option (List ℕ)) (ps : List (Placed Rule)) → Aimed (engine a) o ps → Aimed (engine a) o (drop_rules k ps)
-  aimed_same none ps a = tt
-  aimed_same (some l) ps (n, e) = (n, drop-goes l ps ∙ e)
+  aimed_same None ps a = tt
+  aimed_same (Some l) ps (n, e) = (n, drop-goes l ps ∙ e)
 
   pub drop_settled : (ps : List (Placed Rule)) → Settled (engine a) ps → Settled (engine a) (drop_rules k ps)
   unfolding drop_rules

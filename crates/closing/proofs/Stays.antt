@@ -4,7 +4,7 @@ use Prim.Native.Nat.{ℕ}
 use mathlib.Core.Path.{◌≡◌, refl, sym, ◌∙◌}
 use mathlib.Core.Bool.{Bool, true, false, not}
 use mathlib.Core.List.{List, [], ◌∷◌}
-use mathlib.Core.Option.{Option, none, some}
+use Rattle.std.specs.Prelude.{Option, None, Some}
 use native.Mathlib.Omega.{arith}
 use Rattle.lists.specs.Checked.{Checked, refused, ok, ◌>>=◌, found, Holds}
 use Rattle.lists.specs.Runs.{chomp}
@@ -168,12 +168,12 @@ leaves_stay k w (refused f) h = tt
 leaves_stay k w (ok s) h = h
 
 set_stays : (k : ClosingKey) (o : Option Setting) (w : Work) → Stays k w.state (set_by o w)
-set_stays k none w = same_refl k w.state
-set_stays k (some escape_none) w = same_refl k w.state
-set_stays k (some escape_replace) w = same_refl k w.state
-set_stays k (some watched) w = watch_stay k w.state 1
-set_stays k (some unwatched) w = watch_stay k w.state 2
-set_stays k (some (priority z)) w = priority_stay k w.state (from_signed z)
+set_stays k None w = same_refl k w.state
+set_stays k (Some escape_none) w = same_refl k w.state
+set_stays k (Some escape_replace) w = same_refl k w.state
+set_stays k (Some watched) w = watch_stay k w.state 1
+set_stays k (Some unwatched) w = watch_stay k w.state 2
+set_stays k (Some (priority z)) w = priority_stay k w.state (from_signed z)
 
 module _ (k : ClosingKey) (d : Device) (place : ℕ) (p : Pair) where
   linked_stays : (w : Work) → is_closed k w.state ≡ true → w.state.closed.links ≡ false → Holds (Same k w.state) (linked d place p w)
@@ -322,5 +322,5 @@ module _ (k : ClosingKey) (d : Device) where
     step_stays r s h = at (matched d s r)
       where
         at : (o : Option ℕ) → Holds (StepStays s) (step_at o a d r s)
-        at none = same_refl k s
-        at (some place) = then_stays s (ask_all a d place r s) (finished d place r) h (asks_stay place r s h) (λ s' h'. finished_stays place r s' h')
+        at None = same_refl k s
+        at (Some place) = then_stays s (ask_all a d place r s) (finished d place r) h (asks_stay place r s h) (λ s' h'. finished_stays place r s' h')

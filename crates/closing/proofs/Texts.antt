@@ -4,7 +4,7 @@ use Prim.Native.Nat.{ℕ, zero, suc, ◌+◌, ◌≤◌}
 use mathlib.Core.Path.{◌≡◌, refl, sym, ap, ◌∙◌, subst}
 use mathlib.Core.Bool.{Bool, true, false}
 use mathlib.Core.List.{List, [], ◌∷◌, ◌++◌, map, map-append}
-use mathlib.Core.Option.{some}
+use Rattle.std.specs.Prelude.{Some}
 use native.Mathlib.Omega.{arith}
 use lib.Dec.{leb}
 use lib.ListN.{take, replicate}
@@ -147,7 +147,7 @@ module _ (k : ClosingKey) where
 abbrev ran : ℕ → Ran State → Ran State
 ran room c = require (leb fullest_outcome room) (line 0 target_short) >> c
 
-module _ (a : Sheet) (dev out sheet : List ℕ) (d : Device) (s : State) (is : D.decode dev ≡ some d) (at : decode_for d out ≡ some s) (ss : Sheets.decode sheet ≡ some a) (room : ℕ) where
+module _ (a : Sheet) (dev out sheet : List ℕ) (d : Device) (s : State) (is : D.decode dev ≡ Some d) (at : decode_for d out ≡ Some s) (ss : Sheets.decode sheet ≡ Some a) (room : ℕ) where
   run_accepted : (t : List ℕ) → Parts (engine a) t → run_checked t dev out sheet room ≡ ran room (run_from (engine a) d next s (rules_of reader t))
   unfolding run_checked
   run_accepted t h = rw (read_ok (engine a) t h, is, at, ss)
@@ -172,7 +172,7 @@ ran-holds P true c h = h
 ran-holds P false c h = tt
 
 module _ (k : ClosingKey) (t dev out sheet : List ℕ) (d : Device) (s : State) (a : Sheet) (ag : Sheets.Good a) (room : ℕ) (h : Parts (engine a) t) (by : Bytes out)
-    (is : D.decode dev ≡ some d) (at : decode_for d out ≡ some s) (ss : Sheets.decode sheet ≡ some a) (shut : is_closed k s ≡ true) where
+    (is : D.decode dev ≡ Some d) (at : decode_for d out ≡ Some s) (ss : Sheets.decode sheet ≡ Some a) (shut : is_closed k s ≡ true) where
   dropped : given (run (drop_text k t) dev out sheet room) ≡ given (run t dev out sheet room)
   unfolding run
   dropped =
@@ -187,7 +187,7 @@ module _ (k : ClosingKey) (t dev out sheet : List ℕ) (d : Device) (s : State) 
 
   -- what an answer's record says
   abbrev Kept : Answer → Type 0
-  Kept x = x.number ≡ 0 → (s' : State) × (decode_for d (take x.used x.bytes) ≡ some s') × Same k s s'
+  Kept x = x.number ≡ 0 → (s' : State) × (decode_for d (take x.used x.bytes) ≡ Some s') × Same k s s'
 
   kept_by : (c : Ran State) → Holds (λ (h : Halt State). Same k s h.state) c → Holds (Sound (engine a) (engine-laws a ag) d) c → Kept (operations.ran room c)
   unfolding operations.ran

@@ -1,7 +1,7 @@
 -- Document 02, Item 13: what is shown of every key that closes.
 -- Assumes nothing.
 use Rattle.std.specs.Prelude.{ℕ, ◌≡◌, true, List, take}
-use Rattle.std.proofs.Math.Option.{some}
+use Rattle.std.specs.Prelude.{Some}
 use Rattle.lists.specs.Bytes.{Bytes}
 use Rattle.lists.specs.Checked.{ok, Placed}
 use Rattle.rules.specs.Pair.{Rule}
@@ -36,7 +36,7 @@ Accepted t = (rs : List (Placed Rule)) × (read_text reader t ≡ ok rs)
 pub record ClosedStays (k : ClosingKey) (text dev out sheet : List ℕ) (d : Device) (s : State) (room : ℕ) : Type 0 where
   -- a run that is not refused leaves what stands under the key
   pub kept : (run text dev out sheet room).number ≡ 0
-      → (s' : State) × (decode_for d (take (run text dev out sheet room).used (run text dev out sheet room).bytes) ≡ some s') × Same k s s'
+      → (s' : State) × (decode_for d (take (run text dev out sheet room).used (run text dev out sheet room).bytes) ≡ Some s') × Same k s s'
   -- the text without the assignments to the key is accepted, has the same newlines, and gives the same but for the visited count
   pub accepted : Accepted (drop_text k text)
   pub lines : newlines (drop_text k text) ≡ newlines text
@@ -45,4 +45,4 @@ pub record ClosedStays (k : ClosingKey) (text dev out sheet : List ℕ) (d : Dev
 -- whatever is run, wherever it starts, as long as the check accepts the text and the key is closed there
 pub record ClosedMeansClosed : Type 0 where
   pub shown : (k : ClosingKey) (text dev out sheet : List ℕ) (d : Device) (s : State) (a : Sheet) (room : ℕ) → Accepted text → Bytes out → Bytes sheet
-      → D.decode dev ≡ some d → decode_for d out ≡ some s → Sheets.decode sheet ≡ some a → is_closed k s ≡ true → ClosedStays k text dev out sheet d s room
+      → D.decode dev ≡ Some d → decode_for d out ≡ Some s → Sheets.decode sheet ≡ Some a → is_closed k s ≡ true → ClosedStays k text dev out sheet d s room

@@ -16,18 +16,17 @@ use Rattle.lists.proofs.Rest.{rest_at}
 use Rattle.lists.proofs.Tests.{and-false}
 use Rattle.outcome.specs.Content.{octal, octal_from, ok_mode}
 use Rattle.content.specs.Mode.{mode_of}
-use Rattle.content.specs.declared.ModeRead.{ModeRead}
-use Rattle.content.specs.declared.ModeRead.TheVariants.{Mode, Faulty}
+use Rattle.std.specs.Prelude.{Option, Some, None}
 
 -- what the digits of a list give, where n is the number of those before them
-abbrev pub mode_from : ℕ → List ℕ → ModeRead
-mode_from n x = pick (octal x) (Mode (octal_from n x)) Faulty
+abbrev pub mode_from : ℕ → List ℕ → Option ℕ
+mode_from n x = pick (octal x) (Some (octal_from n x)) None
 
-pub mode-empty : (x : List ℕ) → length x < 1 → mode_of x ≡ Faulty
+pub mode-empty : (x : List ℕ) → length x < 1 → mode_of x ≡ None
 unfolding mode_of
 mode-empty x h = rw (lt-leb 1 (length x) h)
 
-pub mode-long : (x : List ℕ) → 4 < length x → mode_of x ≡ Faulty
+pub mode-long : (x : List ℕ) → 4 < length x → mode_of x ≡ None
 unfolding mode_of
 mode-long x h = rw (lt-leb (length x) 4 h, and-false (leb 1 (length x)))
 
@@ -36,16 +35,16 @@ unfolding mode_of
 mode-start x h k = rw (le-leb 1 (length x) h, le-leb (length x) 4 k)
 
 module _ (x : List ℕ) (n i : ℕ) where
-  pub mode-low : i < length x → get_or x i 0 < 48 → mode_from n (drop i x) ≡ Faulty
+  pub mode-low : i < length x → get_or x i 0 < 48 → mode_from n (drop i x) ≡ None
   mode-low h k = rw (rest_at x i h, lt-leb 48 (get_or x i 0) k)
 
-  pub mode-high : i < length x → 55 < get_or x i 0 → mode_from n (drop i x) ≡ Faulty
+  pub mode-high : i < length x → 55 < get_or x i 0 → mode_from n (drop i x) ≡ None
   mode-high h k = rw (rest_at x i h, lt-leb (get_or x i 0) 55 k, and-false (leb 48 (get_or x i 0)))
 
   pub mode-next : i < length x → 48 ≤ get_or x i 0 → get_or x i 0 ≤ 55 → mode_from n (drop i x) ≡ mode_from (n * 8 + (get_or x i 0 - 48)) (drop (i + 1) x)
   mode-next h k j = rw (rest_at x i h, le-leb 48 (get_or x i 0) k, le-leb (get_or x i 0) 55 j)
 
-  pub mode-end : length x ≤ i → mode_from n (drop i x) ≡ Mode n
+  pub mode-end : length x ≤ i → mode_from n (drop i x) ≡ Some n
   mode-end h = rw (drop_of_length-le x h)
 
 -- a number of i octal digits

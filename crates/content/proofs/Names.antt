@@ -42,16 +42,19 @@ part_dot [] h e = absurd (omega arith)
 part_dot (a ∷ []) h e = rw (eq-eqb a 46 e)
 part_dot (a ∷ b ∷ x) h e = absurd (omega arith)
 
-pub part_two : (x : List ℕ) → length x ≡ 2 → get_or x 0 0 ≡ 46 → not (eqb (get_or x 1 0) 46) ≡ ok_part x
+pub part_second : (x : List ℕ) → length x ≡ 2 → (get_or x 1 0 ≡ 46 → ⊥) → ok_part x ≡ true
 unfolding same_bytes
-part_two [] h e = absurd (omega arith)
-part_two (a ∷ []) h e = absurd (omega arith)
-part_two (a ∷ b ∷ []) h e = rw (eq-eqb a 46 e) (go (eqb b 46))
-  where
-    go : (t : Bool) → not t ≡ not (t && true)
-    go true = refl
-    go false = refl
-part_two (a ∷ b ∷ c ∷ x) h e = absurd (omega arith)
+part_second [] h n = absurd (omega arith)
+part_second (a ∷ []) h n = absurd (omega arith)
+part_second (a ∷ b ∷ []) h n = rw (ne_eqb b 46 n, and-false (eqb a 46))
+part_second (a ∷ b ∷ c ∷ x) h n = absurd (omega arith)
+
+pub part_dots : (x : List ℕ) → length x ≡ 2 → get_or x 0 0 ≡ 46 → get_or x 1 0 ≡ 46 → ok_part x ≡ false
+unfolding same_bytes
+part_dots [] h e f = absurd (omega arith)
+part_dots (a ∷ []) h e f = absurd (omega arith)
+part_dots (a ∷ b ∷ []) h e f = rw (eq-eqb a 46 e, eq-eqb b 46 f)
+part_dots (a ∷ b ∷ c ∷ x) h e f = absurd (omega arith)
 
 -- ---- a turn: the component from i up to e
 

@@ -6,26 +6,15 @@ ghost use Rattle.std.specs.Prelude.{◌≡◌, ◌<◌};
 ghost use Rattle.outcome.specs.Content.{ok_part, ok_name, ok_link, owner_byte, ok_owner, ok_output, others_write};
 ghost use Rattle.content.specs.Mode.{mode_of, Small};
 
+use scan::Not;
+
 // ---- links
 
 // A component is not empty, not `.` and not `..`.
 fn ok_part(x: &[u8]) -> bool
     ensures { result ≡ ok_part x.now }
 {
-    let n = x.len();
-    if n == 0 {
-        return false;
-    }
-    if 2 < n {
-        return true;
-    }
-    if x[0] != b'.' {
-        return true;
-    }
-    if n == 1 {
-        return false;
-    }
-    x[1] != b'.'
+    !matches!(x, [] | [b'.'] | [b'.', b'.'])
 }
 
 // Check 31: to 128 bytes, and each component sound.
@@ -38,7 +27,7 @@ pub fn ok_name(x: &[u8]) -> bool
     }
     let mut i: usize = 0;
     loop {
-        let end = scan::byte_end(x, i, b'/');
+        let end = scan::run_end(x, i, Not(b'/'));
         if !ok_part(&x[i..end]) {
             return false;
         }
@@ -53,10 +42,7 @@ pub fn ok_name(x: &[u8]) -> bool
 pub fn ok_link(x: &[u8]) -> bool
     ensures { result ≡ ok_link x.now }
 {
-    if !ok_name(x) {
-        return false;
-    }
-    rows::clean(x)
+    ok_name(x) && rows::clean(x)
 }
 
 // ---- owner and group
@@ -65,13 +51,7 @@ pub fn ok_link(x: &[u8]) -> bool
 fn owner_byte(b: u8) -> bool
     ensures { result ≡ owner_byte b }
 {
-    match b {
-        b'a'..=b'z' => true,
-        b'A'..=b'Z' => true,
-        b'0'..=b'9' => true,
-        b'-' | b'.' | b'_' => true,
-        _ => false,
-    }
+    matches!(b, b'a'..=b'z' | b'A'..=b'Z' | b'0'..=b'9' | b'-' | b'.' | b'_')
 }
 
 // To 32 such bytes; none is unset.
@@ -81,12 +61,10 @@ pub fn ok_owner(x: &[u8]) -> bool
     if 32 < x.len() {
         return false;
     }
-    let mut i: usize = 0;
-    while i < x.len() {
-        if !owner_byte(x[i]) {
+    for b in x {
+        if !owner_byte(*b) {
             return false;
         }
-        i += 1;
     }
     true
 }
@@ -97,51 +75,26 @@ pub fn ok_owner(x: &[u8]) -> bool
 pub fn ok_output(x: &[u8]) -> bool
     ensures { result ≡ ok_output x.now }
 {
-    if 512 < x.len() {
-        return false;
-    }
-    rows::clean(x)
+    x.len() <= 512 && rows::clean(x)
 }
 
 // ---- mode
 
-#[derive(Drop)]
-pub enum ModeRead {
-    Mode(usize),
-    Faulty,
-}
-
-fn digit(b: u8) -> usize
-    requires { b < 56 }
-    ensures { result ≡ b }
-{
-    b as usize
-}
-
 // 1 to 4 octal digits.
-pub fn mode_of(x: &[u8]) -> ModeRead
+pub fn mode_of(x: &[u8]) -> Option<usize>
     ensures { (result ≡ mode_of x.now) × Small result }
 {
-    if x.len() < 1 {
-        return ModeRead::Faulty;
-    }
-    if 4 < x.len() {
-        return ModeRead::Faulty;
-    }
+    let 1..=4 = x.len() else {
+        return None;
+    };
     let mut mode: usize = 0;
-    let mut i: usize = 0;
-    while i < x.len() {
-        let b = x[i];
-        if b < 48 {
-            return ModeRead::Faulty;
+    for b in x {
+        if !matches!(*b, b'0'..=b'7') {
+            return None;
         }
-        if 55 < b {
-            return ModeRead::Faulty;
-        }
-        mode = mode * 8 + (digit(b) - 48);
-        i += 1;
+        mode = mode * 8 + usize::from(*b - b'0');
     }
-    ModeRead::Mode(mode)
+    Some(mode)
 }
 
 // Whether a mode has the bit 0002.

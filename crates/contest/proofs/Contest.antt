@@ -4,7 +4,7 @@ use Prim.Native.Nat.{ℕ, zero, suc, ◌+◌, ◌<◌}
 use mathlib.Core.Path.{◌≡◌, refl, sym, ap, ap₂, ◌∙◌, subst}
 use mathlib.Core.Bool.{Bool, true, false, not, ◌&&◌, ◌||◌, or_assoc}
 use mathlib.Core.List.{List, [], ◌∷◌, ◌++◌, map}
-use mathlib.Core.Option.{none-ne-some, some-injective}
+use Rattle.std.proofs.lemmas.Option.{none-some, same_Some}
 use native.Mathlib.Omega.{arith}
 use lib.Dec.{eqb}
 use Rattle.lists.specs.Lists.{pick, any, reject, All}
@@ -87,9 +87,9 @@ any-claims x (s ∷ ss) h = at (claims x s) refl h (any-claims x ss)
     at false e h ih = let (k, c) = ih h in (suc k, record { state = c.state; there = c.there; claimed = c.claimed })
 
 claims-any : (x : List ℕ) (ss : List State) (k : ℕ) → Claims x ss k → any (claims x) ss ≡ true
-claims-any x [] k c = absurd (none-ne-some c.state c.there)
+claims-any x [] k c = absurd (none-some c.state c.there)
 claims-any x (s ∷ ss) zero c =
-    let e : claims x s ≡ true = ap (claims x) (some-injective s c.state c.there) ∙ c.claimed in
+    let e : claims x s ≡ true = ap (claims x) (same_Some s c.state c.there) ∙ c.claimed in
     ap (λ (t : Bool). t || any (claims x) ss) e
 claims-any x (s ∷ ss) (suc k) c =
     ap (λ (t : Bool). claims x s || t) (claims-any x ss k (record { state = c.state; there = c.there; claimed = c.claimed })) ∙ or-true (claims x s)
@@ -117,9 +117,9 @@ claimants_are x n (s ∷ ss) =
 
 -- and each such record is one
 pub claimants_hold : (P : Claimant → Type 0) (x : List ℕ) (n : ℕ) (ss : List State) → All P (claimants x n ss) → (k : ℕ) (c : Claims x ss k) → P (claimant (n + k) c.state)
-claimants_hold P x n [] h k c = absurd (none-ne-some c.state c.there)
+claimants_hold P x n [] h k c = absurd (none-some c.state c.there)
 claimants_hold P x n (s ∷ ss) h zero c =
-    let w : s ≡ c.state = some-injective s c.state c.there in
+    let w : s ≡ c.state = same_Some s c.state c.there in
     let e : claims x s ≡ true = ap (claims x) w ∙ c.claimed in
     let t : All P (claimant n s ∷ claimants x (suc n) ss) = rw e at h in
     subst P (ap₂ claimant (omega arith) w) t.0

@@ -5,7 +5,7 @@ use Prim.Native.String.{String}
 use mathlib.Core.Path.{◌≡◌, refl}
 use mathlib.Core.Bool.{Bool, true, false, ◌&&◌}
 use mathlib.Core.List.{List, [], ◌∷◌, ◌++◌, map}
-use mathlib.Core.Option.{none}
+use Rattle.std.specs.Prelude.{None}
 use lib.Dec.{eqb}
 use lib.ListN.{length, take, replicate}
 use lib.IntN.{ℤ, pos, negsuc}
@@ -51,7 +51,7 @@ lent d o = record { device = d; outcome = o }
 unfoldable pub claiming : ℤ → List String → State
 unfolding bytes
 claiming z xs =
-    record { closed = open_all; owner = []; group = []; mode = none; priority = from_signed z; output = []; watch = 0; links = map bytes xs; properties = []; tags = []; runs = [] }
+    record { closed = open_all; owner = []; group = []; mode = None; priority = from_signed z; output = []; watch = 0; links = map bytes xs; properties = []; tags = []; runs = [] }
 
 unfoldable pub record_of : ℤ × List String → Lent
 unfolding bytes claiming bare outcome.encode outcome_head.header bits.to_bits bits.from_bits bits.bytes_of fields.packed

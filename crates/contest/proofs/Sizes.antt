@@ -4,7 +4,7 @@ use Prim.Native.Nat.{ℕ, suc, ◌+◌, ◌*◌, ◌≤◌}
 use mathlib.Core.Path.{◌≡◌, refl, sym, ap, ap₂, ◌∙◌, subst}
 use mathlib.Core.Bool.{Bool, true, false, not, ◌||◌}
 use mathlib.Core.List.{List, [], ◌∷◌, map}
-use mathlib.Core.Option.{some}
+use Rattle.std.specs.Prelude.{Some}
 use native.Mathlib.Omega.{arith}
 use lib.Dec.{eqb, leb}
 use lib.ListN.{length, length-append, length-map}
@@ -219,8 +219,8 @@ states_sized n [] h = (tt, refl)
 states_sized n (l ∷ ls) (h, hs) =
     let Q : List State → Type 0 = λ ss. All Sized ss × (length ss ≡ suc (length ls)) in
     holds-bind (λ (d : Device). Unit {0}) Q (found (D.decode l.device) (of_record n device_bad)) _
-    (holds-map (λ (d : Device). D.decode l.device ≡ some d) (λ (_ : Device). Unit {0}) (found (D.decode l.device) (of_record n device_bad)) (holds-found (D.decode l.device) (of_record n device_bad)) (λ _ _. tt))
-    (λ d _. holds-bind (λ (s : State). decode_for d l.outcome ≡ some s) Q (found (decode_for d l.outcome) (of_record n outcome_bad)) _ (holds-found (decode_for d l.outcome) (of_record n outcome_bad))
+    (holds-map (λ (d : Device). D.decode l.device ≡ Some d) (λ (_ : Device). Unit {0}) (found (D.decode l.device) (of_record n device_bad)) (holds-found (D.decode l.device) (of_record n device_bad)) (λ _ _. tt))
+    (λ d _. holds-bind (λ (s : State). decode_for d l.outcome ≡ Some s) Q (found (decode_for d l.outcome) (of_record n outcome_bad)) _ (holds-found (decode_for d l.outcome) (of_record n outcome_bad))
     (λ s e. holds-bind (λ (ss : List State). All Sized ss × (length ss ≡ length ls)) Q (states_from (suc n) ls) _ (states_sized (suc n) ls hs)
     (λ ss (k, m). ((good_sized (length (chain d)) s (back (length (chain d)) l.outcome s h e).1, k), ap suc m))))
 
@@ -241,7 +241,7 @@ pub states_few : (set : List ℕ) → Bytes set → Holds (λ (ss : List State).
 unfolding states_of
 states_few set h =
     let Q : List State → Type 0 = λ ss. All Sized ss × (length ss ≤ 64) in
-    holds-bind (λ (ls : List Lent). decode_lent set ≡ some ls) Q (found (decode_lent set) (of_set set_bad)) _ (holds-found (decode_lent set) (of_set set_bad))
+    holds-bind (λ (ls : List Lent). decode_lent set ≡ Some ls) Q (found (decode_lent set) (of_set set_bad)) _ (holds-found (decode_lent set) (of_set set_bad))
     (λ ls e. let (w, _, _, m) = lent_laid_out.back set ls h e in
     holds-map (λ (ss : List State). All Sized ss × (length ss ≡ length ls)) Q (states_from 1 ls) (states_sized 1 ls (set-bytes ls (subst Bytes w h)))
     (λ ss (k, n). (k, omega arith)))

@@ -1,7 +1,7 @@
 -- Document 02, Item 7: what is wanted of the list, said of the records alone.
 -- Assumes nothing.
 use Rattle.std.specs.Prelude.{ℕ, suc, ◌<◌, ◌≡◌, ◌↔◌, true, List, eqb, ◌≤ℤ◌, ◌<ℤ◌}
-use Rattle.std.proofs.Math.Option.{some}
+use Rattle.std.specs.Prelude.{Some}
 use Rattle.lists.specs.Lists.{reject, nth, All}
 use Rattle.lists.specs.Bytes.{among, distinct}
 use Rattle.outcome.specs.State.{State}
@@ -10,7 +10,7 @@ use Rattle.contest.specs.Contest.{firsts, links_of, claims, rank, claimants, pos
 -- the record at a place (from 0) claims a name
 pub record Claims (x : List ℕ) (ss : List State) (k : ℕ) : Type 0 where
   pub state : State
-  pub there : nth k ss ≡ some state
+  pub there : nth k ss ≡ Some state
   pub claimed : claims x state ≡ true
 
 -- of a listed name: its holder claims it, no claimant outranks the holder, no earlier one equals it; the others are the

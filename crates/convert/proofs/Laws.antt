@@ -4,7 +4,7 @@ use Prim.Native.Nat.{ℕ, suc, ◌+◌, ◌-◌, ◌/◌, ◌≤◌, ◌<◌}
 use mathlib.Core.Path.{◌≡◌, refl, sym, ap, ap₂, ◌∙◌, subst}
 use mathlib.Core.Bool.{Bool, true, false, ◌&&◌}
 use mathlib.Core.List.{List, [], ◌∷◌, ◌++◌, append_assoc}
-use mathlib.Core.Option.{Option, none, some}
+use Rattle.std.specs.Prelude.{Option, None, Some}
 use native.Mathlib.Omega.{arith}
 use borrow.Author.Tests.{le-leb, lt-leb, leb-true, eq-eqb, ne_eqb, eqb-true}
 use lib.Dec.{eqb, leb}
@@ -33,7 +33,6 @@ use Rattle.outcome.proofs.RoundTrip.{back}
 use Rattle.outcome.proofs.Old.{output_is, watch_is, long, ages, old_size, old_lengths}
 use Rattle.outcome_target.specs.declared.Layout.{Layout}
 use Rattle.outcome_check.specs.Check.{checked_of}
-use Rattle.outcome_check.specs.declared.Checked.TheVariants.{Sound, Faulty}
 use Rattle.outcome_check.proofs.Answers.{sound-state, faulty-state}
 use Rattle.engine.specs.Operations.{given, decode_for}
 use Rattle.engine.specs.Convert.{decode_old_for, newer_checked, newer, older_checked, older}
@@ -61,27 +60,27 @@ two_zeros m y h =
 
 -- ---- to edition 2
 
-pub no_record : (room : ℕ) (o : Option State) → o ≡ none → refusal room (line 0 outcome_bad) ≡ given room (new_record o)
+pub no_record : (room : ℕ) (o : Option State) → o ≡ None → refusal room (line 0 outcome_bad) ≡ given room (new_record o)
 no_record room o e = rw e
 
-not_read : (o : Option State) → ((s : State) → o ≡ some s → ⊥) → o ≡ none
-not_read none h = refl
-not_read (some s) h = absurd (h s refl)
+not_read : (o : Option State) → ((s : State) → o ≡ Some s → ⊥) → o ≡ None
+not_read None h = refl
+not_read (Some s) h = absurd (h s refl)
 
 -- edition 1 in the first byte
-edition_one : (n : ℕ) (old : List ℕ) (s : State) → decode_old n old ≡ some s → eqb (get_or old 0 0 / 16) 1 ≡ true
+edition_one : (n : ℕ) (old : List ℕ) (s : State) → decode_old n old ≡ Some s → eqb (get_or old 0 0 / 16) 1 ≡ true
 unfolding decode_old
 edition_one n [] s e = let z : ◌≡◌ {A = ℕ} 0 1 = cc in absurd (omega arith)
 edition_one n (b ∷ bs) s e = at (eqb (b / 16) 1) refl
   where
     at : (t : Bool) → eqb (b / 16) 1 ≡ t → eqb (b / 16) 1 ≡ true
     at true h = h
-    at false h = let q : none ≡ some s = rw (h, decode_old) at e in let z : ◌≡◌ {A = ℕ} 0 1 = cc in absurd (omega arith)
+    at false h = let q : None ≡ Some s = rw (h, decode_old) at e in let z : ◌≡◌ {A = ℕ} 0 1 = cc in absurd (omega arith)
 
-pub not_old : (n : ℕ) (old : List ℕ) → Bytes old → old_like old ≡ false → decode_old n old ≡ none
+pub not_old : (n : ℕ) (old : List ℕ) → Bytes old → old_like old ≡ false → decode_old n old ≡ None
 not_old n old by h = not_read (decode_old n old) (λ s e. differ (like s e))
   where
-    like : (s : State) → decode_old n old ≡ some s → old_like old ≡ true
+    like : (s : State) → decode_old n old ≡ Some s → old_like old ≡ true
     like s e =
         let k = old_lengths n old s by e in
         both_and (leb 11 (length old)) (leb (length old) fullest_old && eqb (get_or old 0 0 / 16) 1) (le-leb 11 (length old) k.0)
@@ -148,20 +147,20 @@ module _ (n : ℕ) (old : List ℕ) (m : ℕ) (t : List ℕ) (r : Renewed n old 
   read_front : decode_old n old ≡ decode n (take (length old + 2) t)
   read_front = r.read ∙ ap (decode n) (sym front-is)
 
-  pub faulty_new : Faulty ≡ checked_of (decode n (take (length old + 2) t)) → decode_old n old ≡ none
+  pub faulty_new : None ≡ checked_of (decode n (take (length old + 2) t)) → decode_old n old ≡ None
   faulty_new e = read_front ∙ faulty-state (decode n (take (length old + 2) t)) e
 
-  pub sound_new : Bytes t → (lay : Layout) → Sound lay ≡ checked_of (decode n (take (length old + 2) t)) → acceptance m 0 0 (renewed old) ≡ given m (new_record (decode_old n old))
+  pub sound_new : Bytes t → (lay : Layout) → Some lay ≡ checked_of (decode n (take (length old + 2) t)) → acceptance m 0 0 (renewed old) ≡ given m (new_record (decode_old n old))
   sound_new by lay e =
       let (s, f, _) = sound-state (decode n (take (length old + 2) t)) lay e in
-      let d : decode_old n old ≡ some s = read_front ∙ f in
+      let d : decode_old n old ≡ Some s = read_front ∙ f in
       let b : Bytes (renewed old) = bytes-first (renewed old) (replicate (m - length (renewed old)) 0) (subst Bytes r.bytes by) in
       let p : encode s ≡ renewed old = (back n (renewed old) s b (sym r.read ∙ d)).0 in
       ap (acceptance m 0 0) (sym p) ∙ sym (ap (λ (o : Option State). given m (new_record o)) d)
 
 -- ---- to edition 1
 
-module _ (n : ℕ) (rec : List ℕ) (s : State) (by : Bytes rec) (is : decode n rec ≡ some s) where
+module _ (n : ℕ) (rec : List ℕ) (s : State) (by : Bytes rec) (is : decode n rec ≡ Some s) where
   packs : encode s ≡ rec
   packs = (back n rec s by is).0
 
@@ -200,7 +199,7 @@ module _ (n : ℕ) (rec : List ℕ) (s : State) (by : Bytes rec) (is : decode n 
     pub first_byte : 16 ≤ get_or rec 0 0
     first_byte = at rec by is header_in
       where
-        at : (l : List ℕ) → Bytes l → decode n l ≡ some s → 13 ≤ length l → 16 ≤ get_or l 0 0
+        at : (l : List ℕ) → Bytes l → decode n l ≡ Some s → 13 ≤ length l → 16 ≤ get_or l 0 0
         at [] b e h = absurd (omega arith)
         at (x ∷ xs) b e h = let k = eqb-true ((x - 16) / 16) 1 (ages n x xs s b e is-plain).edition in omega arith
 
@@ -230,8 +229,8 @@ aged_in (b ∷ bs) m t₀ t₁ t₂ t₃ h k e₀ e₁ e₂ e₃ =
 -- ---- what is given back
 
 found_new : (o : Option State) → (found o (line 0 outcome_bad) >>= (λ (s : State). ok (encode s))) ≡ new_record o
-found_new none = refl
-found_new (some s) = refl
+found_new None = refl
+found_new (Some s) = refl
 
 module _ (dev out : List ℕ) (room : ℕ) where
   pub newer_short : room < fullest_outcome → newer dev out room ≡ refusal room (line 0 target_short)
@@ -242,7 +241,7 @@ module _ (dev out : List ℕ) (room : ℕ) where
   unfolding newer newer_checked
   newer_device h k = rw (le-leb fullest_outcome room h, is_none (D.decode dev) k)
 
-  pub newer-made : fullest_outcome ≤ room → (d : Device) → D.decode dev ≡ some d → (r : Chain) → Chained d r → newer dev out room ≡ given room (new_record (decode_old r.len out))
+  pub newer-made : fullest_outcome ≤ room → (d : Device) → D.decode dev ≡ Some d → (r : Chain) → Chained d r → newer dev out room ≡ given room (new_record (decode_old r.len out))
   unfolding newer newer_checked decode_old_for
   newer-made h d e r c =
       rw (le-leb fullest_outcome room h, e)
@@ -256,15 +255,15 @@ module _ (dev out : List ℕ) (room : ℕ) where
   unfolding older older_checked
   older_device h k = rw (le-leb fullest_old room h, is_none (D.decode dev) k)
 
-  module _ (h : fullest_old ≤ room) (d : Device) (e : D.decode dev ≡ some d) (r : Chain) (c : Chained d r) where
-    pub older_outcome : Faulty ≡ checked_of (decode r.len out) → older dev out room ≡ refusal room (line 0 outcome_bad)
+  module _ (h : fullest_old ≤ room) (d : Device) (e : D.decode dev ≡ Some d) (r : Chain) (c : Chained d r) where
+    pub older_outcome : None ≡ checked_of (decode r.len out) → older dev out room ≡ refusal room (line 0 outcome_bad)
     unfolding older older_checked decode_for
     older_outcome k =
-        let f : decode (length (chain d)) out ≡ none = ap (λ (n : ℕ). decode n out) (sym c.len) ∙ faulty-state (decode r.len out) k in
+        let f : decode (length (chain d)) out ≡ None = ap (λ (n : ℕ). decode n out) (sym c.len) ∙ faulty-state (decode r.len out) k in
         rw (le-leb fullest_old room h, e, f)
 
-    pub older-made : (s : State) → decode r.len out ≡ some s → older dev out room ≡ given room (old_record s)
+    pub older-made : (s : State) → decode r.len out ≡ Some s → older dev out room ≡ given room (old_record s)
     unfolding older older_checked decode_for
     older-made s k =
-        let f : decode (length (chain d)) out ≡ some s = ap (λ (n : ℕ). decode n out) (sym c.len) ∙ k in
+        let f : decode (length (chain d)) out ≡ Some s = ap (λ (n : ℕ). decode n out) (sym c.len) ∙ k in
         rw (le-leb fullest_old room h, e, f)

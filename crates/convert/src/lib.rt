@@ -14,7 +14,6 @@ ghost use Rattle.answers.specs.Answers.{answered};
 ghost use Rattle.convert.specs.Records.{old_like, new_record, Sound, OfSound, old_record};
 
 use answers::Given;
-use outcome_check::Checked;
 use refusals::Refusal;
 
 // The header's bytes of edition 1, and those of its fullest record.
@@ -28,13 +27,7 @@ const OLD_FULLEST: usize = 17611;
 fn is_old(rec: &[u8]) -> bool
     ensures { result ≡ old_like rec.now }
 {
-    if rec.len() < OLD_HEADER {
-        return false;
-    }
-    if OLD_FULLEST < rec.len() {
-        return false;
-    }
-    rec[0] / 16 == 1
+    matches!(rec.len(), OLD_HEADER..=OLD_FULLEST) && rec[0] / 16 == 1
 }
 
 // The edition one higher, and two bytes of zeros behind the old header, in a target of zeros.
@@ -57,13 +50,11 @@ fn renew(t: &mut [u8], old: &[u8], chain: usize) -> Given
     }
     write_newer(t, old);
     let used = old.len() + 2;
-    match outcome_check::check(&t[..used], chain) {
-        Checked::Sound(_) => answers::accepted(0, 0, used),
-        Checked::Faulty => {
-            splice::clear(t);
-            answers::refused(Refusal::OutcomeBad, 0)
-        }
-    }
+    let Some(_) = outcome_check::check(&t[..used], chain) else {
+        splice::clear(t);
+        return answers::refused(Refusal::OutcomeBad, 0);
+    };
+    answers::accepted(0, 0, used)
 }
 
 pub fn newer(device: &[u8], outcome: &[u8], target: &mut [u8]) -> Given
@@ -118,8 +109,8 @@ pub fn older(device: &[u8], outcome: &[u8], target: &mut [u8]) -> Given
         return answers::refused(Refusal::DeviceBad, 0);
     }
     let chain = device_lookup::chain_of(device);
-    match outcome_check::check(outcome, chain.len) {
-        Checked::Sound(_) => age(target, outcome),
-        Checked::Faulty => answers::refused(Refusal::OutcomeBad, 0),
-    }
+    let Some(_) = outcome_check::check(outcome, chain.len) else {
+        return answers::refused(Refusal::OutcomeBad, 0);
+    };
+    age(target, outcome)
 }

@@ -4,7 +4,7 @@ use Prim.Native.String.{String}
 use mathlib.Core.Path.{◌≡◌, refl}
 use mathlib.Core.Bool.{Bool, true, false, not}
 use mathlib.Core.List.{List, [], ◌∷◌, ◌++◌}
-use mathlib.Core.Option.{Option, none, some}
+use Rattle.std.specs.Prelude.{Option, None, Some}
 use lib.ListN.{take, drop, set, replicate}
 use Rattle.lists.specs.Lists.{is_some}
 use Rattle.lists.specs.Bytes.{same_bytes}
@@ -24,8 +24,8 @@ pub data Case : Type 0 where
   same : String → List ℕ → List ℕ → Case
 
 abbrev packs : Option Device → List ℕ → Bool
-packs none bs = false
-packs (some d) bs = same_bytes (encode d) bs
+packs None bs = false
+packs (Some d) bs = same_bytes (encode d) bs
 
 unfoldable pub right : Case → Bool
 unfolding bytes same_bytes split_at to_bits from_bits bits_of bytes_of number_at packed header lens_bytes action_names action_of encode decode
@@ -150,11 +150,11 @@ examples =
     ∷ []
 
 -- absent and empty stay apart
-pub present : attr_of (bytes "k") attrs_one ≡ some []
+pub present : attr_of (bytes "k") attrs_one ≡ Some []
 unfolding bytes same_bytes attrs_one
 present = refl
 
-pub absent : attr_of (bytes "j") attrs_one ≡ none
+pub absent : attr_of (bytes "j") attrs_one ≡ None
 unfolding bytes same_bytes attrs_one
 absent = refl
 

@@ -4,7 +4,7 @@ use Prim.Native.Nat.{ℕ, ◌≤◌}
 use mathlib.Core.Path.{◌≡◌, refl, sym, ap, ap₂, ◌∙◌, subst}
 use mathlib.Core.Bool.{Bool, true, false, ◌&&◌, ◌||◌}
 use mathlib.Core.List.{List, [], ◌∷◌, ◌++◌, append_assoc, append-nil}
-use mathlib.Core.Option.{some, none}
+use Rattle.std.specs.Prelude.{Some, None}
 use native.Mathlib.Omega.{arith}
 use lib.ListN.{length, take, drop}
 use lib.Dec.{leb, eqb}
@@ -81,32 +81,32 @@ parts-back bs d z b e =
         ap₂ (λ (u : Device) (t : List ℕ). encode u ++ t) x y
 
 -- reading to the end: nothing is left, and the whole is sound
-pub ended-back : (p : Parse Device) (d : Device) → ended p ≡ some d → (p ≡ got d []) × (whole d ≡ true)
+pub ended-back : (p : Parse Device) (d : Device) → ended p ≡ Some d → (p ≡ got d []) × (whole d ≡ true)
 ended-back bad d e = let z : ◌≡◌ {A = ℕ} 0 1 = cc in absurd (omega arith)
 ended-back (got v (b ∷ bs)) d e = let z : ◌≡◌ {A = ℕ} 0 1 = cc in absurd (omega arith)
 ended-back (got v []) d e = at (whole v) refl e
   where
-    at : (t : Bool) → whole v ≡ t → ended (got v []) ≡ some d → (got v [] ≡ got d []) × (whole d ≡ true)
-    at true h e = let q : some v ≡ some d = rw (h, ended) at e in let w : v ≡ d = cc in (ap (λ (x : Device). got x []) w, ap whole (sym w) ∙ h)
-    at false h e = let q : none ≡ some d = rw (h, ended) at e in let z : ◌≡◌ {A = ℕ} 0 1 = cc in absurd (omega arith)
+    at : (t : Bool) → whole v ≡ t → ended (got v []) ≡ Some d → (got v [] ≡ got d []) × (whole d ≡ true)
+    at true h e = let q : Some v ≡ Some d = rw (h, ended) at e in let w : v ≡ d = cc in (ap (λ (x : Device). got x []) w, ap whole (sym w) ∙ h)
+    at false h e = let q : None ≡ Some d = rw (h, ended) at e in let z : ◌≡◌ {A = ℕ} 0 1 = cc in absurd (omega arith)
 
 -- a record that was read: its length, its parts to the end, the whole
-pub decoded : (bs : List ℕ) (d : Device) → decode bs ≡ some d → (length bs ≤ most_device) × (parts bs ≡ got d []) × (whole d ≡ true)
+pub decoded : (bs : List ℕ) (d : Device) → decode bs ≡ Some d → (length bs ≤ most_device) × (parts bs ≡ got d []) × (whole d ≡ true)
 unfolding decode
 decoded bs d e = at (leb (length bs) most_device) refl e
   where
-    at : (t : Bool) → leb (length bs) most_device ≡ t → decode bs ≡ some d → (length bs ≤ most_device) × (parts bs ≡ got d []) × (whole d ≡ true)
+    at : (t : Bool) → leb (length bs) most_device ≡ t → decode bs ≡ Some d → (length bs ≤ most_device) × (parts bs ≡ got d []) × (whole d ≡ true)
     at true h e =
-        let q : ended (parts bs) ≡ some d = rw (h, decode) at e in
+        let q : ended (parts bs) ≡ Some d = rw (h, decode) at e in
         let (p, w) = ended-back (parts bs) d q in
         (leb-true (length bs) most_device h, p, w)
-    at false h e = let q : none ≡ some d = rw (h, decode) at e in let z : ◌≡◌ {A = ℕ} 0 1 = cc in absurd (omega arith)
+    at false h e = let q : None ≡ Some d = rw (h, decode) at e in let z : ◌≡◌ {A = ℕ} 0 1 = cc in absurd (omega arith)
 
-pub back : (bs : List ℕ) (d : Device) → Bytes bs → decode bs ≡ some d → encode d ≡ bs
+pub back : (bs : List ℕ) (d : Device) → Bytes bs → decode bs ≡ Some d → encode d ≡ bs
 back bs d b e = let (_, p, _) = decoded bs d e in sym (parts-back bs d [] b p ∙ append-nil (encode d))
 
 -- its header is the one that was read
-pub head_decoded : (bs : List ℕ) (d : Device) → decode bs ≡ some d → head_of (take 7 bs) ≡ head_for d
+pub head_decoded : (bs : List ℕ) (d : Device) → decode bs ≡ Some d → head_of (take 7 bs) ≡ head_for d
 head_decoded bs d e =
     let (_, p, _) = decoded bs d e in
     through (read_head bs) _ d [] p λ h r₀ p₀ e₀.

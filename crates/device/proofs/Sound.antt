@@ -4,7 +4,7 @@ use Prim.Native.Nat.{ℕ, ◌≤◌, ◌<◌}
 use mathlib.Core.Path.{◌≡◌, sym, ap, ◌∙◌, subst}
 use mathlib.Core.Bool.{true, ◌&&◌, ◌||◌}
 use mathlib.Core.List.{List, []}
-use mathlib.Core.Option.{some}
+use Rattle.std.specs.Prelude.{Some}
 use lib.ListN.{length}
 use lib.Dec.{leb, eqb}
 use borrow.Author.Tests.{leb-true}
@@ -69,9 +69,9 @@ parts-sound bs d r e =
         let p : device_of h ps m ms ≡ d = cc in
         subst Sound p (record { event = a; parents = b; few = c; properties = i; few_properties = j })
 
-pub device_sound : (bs : List ℕ) (d : Device) → decode bs ≡ some d → Sound d
+pub device_sound : (bs : List ℕ) (d : Device) → decode bs ≡ Some d → Sound d
 device_sound bs d e = parts-sound bs d [] (decoded bs d e).1
 
 -- no property key stands twice
-pub device_distinct : (bs : List ℕ) (d : Device) → decode bs ≡ some d → distinct (keys d.properties) ≡ true
+pub device_distinct : (bs : List ℕ) (d : Device) → decode bs ≡ Some d → distinct (keys d.properties) ≡ true
 device_distinct bs d e = (and_both (distinct (keys d.properties)) (rising d.event d.parents) (decoded bs d e).2).0

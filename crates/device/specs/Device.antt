@@ -1,7 +1,7 @@
 -- Document 01, Packed records and Sizes: the device record as a value, and the records that are sound.
 -- Assumes nothing.
 use Rattle.std.specs.Prelude.{ℕ, zero, suc, Bool, true, false, ◌&&◌, ◌||◌, not, List, [], ◌∷◌, ◌++◌, eqb, leb, length}
-use Rattle.std.proofs.Math.Option.{Option, none, some}
+use Rattle.std.specs.Prelude.{Option, None, Some}
 use Rattle.lists.specs.Lists.{cat, all, is_empty, nth}
 use Rattle.lists.specs.Bytes.{clean, distinct}
 use Rattle.lists.specs.Runs.{split_at, last_of}
@@ -42,7 +42,7 @@ attr_of k m = lookup k m.attributes
 
 -- the device at a place of the chain, from 1
 abbrev pub member_at : ℕ → Device → Option Member
-member_at zero d = none
+member_at zero d = None
 member_at (suc n) d = nth n (chain d)
 
 -- a path starts with `/` and has no empty component
@@ -171,13 +171,13 @@ whole d = distinct (keys d.properties) && rising d.event d.parents
 
 -- nothing after the end
 abbrev pub ended : Parse Device → Option Device
-ended bad = none
-ended (got d (b ∷ bs)) = none
-ended (got d []) = elim (whole d) [ true ↦ some d | false ↦ none ]
+ended bad = None
+ended (got d (b ∷ bs)) = None
+ended (got d []) = elim (whole d) [ true ↦ Some d | false ↦ None ]
 
 -- the sound device records, and no others: to 16,384 bytes (refusal 3)
 unfoldable pub decode : List ℕ → Option Device
-decode bs = elim (leb (length bs) most_device) [ true ↦ ended (parts bs) | false ↦ none ]
+decode bs = elim (leb (length bs) most_device) [ true ↦ ended (parts bs) | false ↦ None ]
 
 -- the names of the eight actions, by their number
 unfoldable pub action_names : List (List ℕ)

@@ -4,7 +4,6 @@ use Prim.Native.Nat.{ℕ, zero, suc, ◌+◌, ◌-◌, ◌≤◌, ◌<◌}
 use mathlib.Core.Path.{◌≡◌, refl, sym, ap, ◌∙◌}
 use mathlib.Core.Bool.{Bool, true, false, ◌&&◌, and-true, and-false, and_assoc}
 use mathlib.Core.List.{List, [], ◌∷◌}
-use mathlib.Core.Option.{some, none}
 use native.Mathlib.Nat.{not-suc-le-zero, le_of_suc-le-suc}
 use native.Mathlib.Omega.{arith}
 use borrow.Author.Tests.{le-leb, lt-leb}
@@ -20,7 +19,7 @@ use Rattle.entries.specs.Entry.{Property, enc_prop, one_prop, keys}
 use Rattle.entries.proofs.Rows.{many-back}
 use Rattle.entries.proofs.Entries.{kept, prop_laws}
 use Rattle.rows.specs.Row.{end_of}
-use Rattle.rows.specs.declared.RowEnd.TheVariants.{At, Bad}
+use Rattle.std.specs.Prelude.{Some, None}
 use Rattle.rows.proofs.Readers.{head_cut, head_whole, end_at, end-bad}
 use Rattle.device.specs.Head.{Head, head_of}
 use Rattle.device.specs.Device.{Member, Device, ok_head, cut_of, rising, enc_member, one_member, device_of, parents_on, event_on, props_on, parts, whole, ended, decode}
@@ -39,7 +38,7 @@ pub record Next (l : List ℕ) (p e : ℕ) : Type 0 where
   pub read : one_member (drop p l) ≡ got member (drop e l)
   pub within : e ≤ length l
 
-pub next_at : (l : List ℕ) → Bytes l → (p e : ℕ) → p ≤ length l → end_of (length l) (one_member (drop p l)) ≡ At e → Next l p e
+pub next_at : (l : List ℕ) → Bytes l → (p e : ℕ) → p ≤ length l → end_of (length l) (one_member (drop p l)) ≡ Some e → Next l p e
 next_at l b p e h k =
     end_at (length l) e (one_member (drop p l)) k λ m r q i.
     let (w, o) = member-laws.back (drop p l) m r (bytes_drop p l b) q in
@@ -65,7 +64,7 @@ parents_first child zero bs h = absurd (not-suc-le-zero h)
 parents_first child (suc n) bs h = ap_at (λ i. above_then (one_member bs) child (λ path r. parents_in path i r)) n (suc n - 1) (omega arith)
 
 module _ (l child : List ℕ) (p left : ℕ) (h : 0 < left) where
-  pub parents_bad : end_of (length l) (one_member (drop p l)) ≡ Bad → parents_in child left (drop p l) ≡ false
+  pub parents_bad : end_of (length l) (one_member (drop p l)) ≡ None → parents_in child left (drop p l) ≡ false
   parents_bad e = parents_first child left (drop p l) h ∙ rw (end-bad (length l) (one_member (drop p l)) e)
 
   parents_next : (e : ℕ) → Next l p e → parents_in child left (drop p l) ≡ (cut_of (path_in l p) child && parents_in (path_in l p) (left - 1) (drop e l))
@@ -99,7 +98,7 @@ pub record Event (l : List ℕ) (n p : ℕ) : Type 0 where
   pub apart-keys : distinct (keys properties) ≡ true
   pub within : p ≤ length l
 
-pub event_at : (l : List ℕ) → Bytes l → (n p : ℕ) → 7 ≤ length l → end_of (length l) (apart (many one_prop n (drop 7 l))) ≡ At p → Event l n p
+pub event_at : (l : List ℕ) → Bytes l → (n p : ℕ) → 7 ≤ length l → end_of (length l) (apart (many one_prop n (drop 7 l))) ≡ Some p → Event l n p
 event_at l b n p k f = go (many one_prop n (drop 7 l)) refl
   where
     kept-keys : (ps : List Property) (r q : List ℕ) (qs : List Property) → keep (distinct (keys ps)) ps r ≡ got qs q → (distinct (keys ps) ≡ true) × (r ≡ q)
@@ -107,7 +106,7 @@ event_at l b n p k f = go (many one_prop n (drop 7 l)) refl
 
     go : (x : Parse (List Property)) → many one_prop n (drop 7 l) ≡ x → Event l n p
     go bad q =
-        let z : Bad ≡ At p = sym (ap (λ (x : Parse (List Property)). end_of (length l) (apart x)) q) ∙ f in
+        let z : None ≡ Some p = sym (ap (λ (x : Parse (List Property)). end_of (length l) (apart x)) q) ∙ f in
         let y : ◌≡◌ {A = ℕ} 0 1 = cc in
         absurd (omega arith)
     go (got ps r) q =
@@ -140,7 +139,7 @@ rising_parents (suc n) e r = go (λ m q. rising_parents n m q) (one_member r)
 
 -- ---- the record
 
-some-kept : (d : Device) (t : Bool) → is_some {A = Device} (elim t [ true ↦ some d | false ↦ none ]) ≡ t
+some-kept : (d : Device) (t : Bool) → is_some {A = Device} (elim t [ true ↦ Some d | false ↦ None ]) ≡ t
 some-kept d true = refl
 some-kept d false = refl
 
@@ -199,7 +198,7 @@ module _ (l : List ℕ) where
       by_row : (ps : List Property) (r : List ℕ) → row ≡ got ps r → is_some (decode l) ≡ is_some (ended (event_on n ps r))
       by_row ps r q = ap is_some (record_head true o) ∙ ap (λ (x : Parse (List Property)). is_some (ended (bind x (λ ps q. event_on n ps q)))) q
 
-      pub properties-faulty : end_of (length l) (apart row) ≡ Bad → is_some (decode l) ≡ false
+      pub properties-faulty : end_of (length l) (apart row) ≡ None → is_some (decode l) ≡ false
       properties-faulty f = go row refl
         where
           twice : (t : Bool) (ps : List Property) (r : List ℕ) → keep t ps r ≡ bad → t ≡ false
@@ -212,7 +211,7 @@ module _ (l : List ℕ) where
               by_row ps r q ∙ event_twice n ps r (twice (distinct (keys ps)) ps r (sym (ap apart q) ∙ end-bad (length l) (apart row) f))
 
       module _ (p : ℕ) (v : Event l n.properties p) where
-        pub event_faulty : end_of (length l) (one_member (drop p l)) ≡ Bad → is_some (decode l) ≡ false
+        pub event_faulty : end_of (length l) (one_member (drop p l)) ≡ None → is_some (decode l) ≡ false
         event_faulty f = by_row v.properties (drop p l) v.read ∙ event_bad n v.properties (drop p l) (end-bad (length l) (one_member (drop p l)) f)
 
         pub chain-judged : (q : ℕ) → Next l p q → is_some (decode l) ≡ parents_in (path_in l p) n.above (drop q l)

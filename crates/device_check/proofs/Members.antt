@@ -19,7 +19,7 @@ use Rattle.entries.specs.Entry.{Property, ok_prop, one_prop, keys}
 use Rattle.entries.proofs.Rows.{many-kept}
 use Rattle.entries.proofs.Entries.{property-kept}
 use Rattle.rows.specs.Row.{end_of}
-use Rattle.rows.specs.declared.RowEnd.TheVariants.{Bad}
+use Rattle.std.specs.Prelude.{None}
 use Rattle.rows.proofs.Readers.{head_cut, head_whole}
 use Rattle.device.specs.Head.{Lens, lens_of}
 use Rattle.device.specs.Device.{ok_path, ok_member, member_of, attrs_on, driver_on, subsystem_on, path_on, one_member}
@@ -157,7 +157,7 @@ module _ (n : Lens) (r : List ℕ) where
 
 -- ---- the device at a place of a record
 
-pub at_cut : (l : List ℕ) (at : ℕ) → length l - at < 4 → end_of (length l) (one_member (drop at l)) ≡ Bad
+pub at_cut : (l : List ℕ) (at : ℕ) → length l - at < 4 → end_of (length l) (one_member (drop at l)) ≡ None
 at_cut l at h = ap (end_of (length l)) (member_short (drop at l) (simp length-drop (omega arith)))
 
 module _ (l : List ℕ) (at : ℕ) (n : Lens) (e : n ≡ lens_of (take 4 (drop at l))) (h : at + 4 ≤ length l) where
@@ -167,13 +167,13 @@ module _ (l : List ℕ) (at : ℕ) (n : Lens) (e : n ≡ lens_of (take 4 (drop a
   room : 4 ≤ length (drop at l)
   room = simp length-drop (omega arith)
 
-  pub at_unused : (n.unused ≡ 0 → ⊥) → end_of (length l) (one_member (drop at l)) ≡ Bad
+  pub at_unused : (n.unused ≡ 0 → ⊥) → end_of (length l) (one_member (drop at l)) ≡ None
   at_unused u = ap (end_of (length l)) (member_unused (drop at l) room (λ z. u (ap (λ (m : Lens). m.unused) e ∙ z)))
 
   front : n.unused ≡ 0 → one_member (drop at l) ≡ path_on n (drop (at + 4) l)
   front u = member-numbers (drop at l) room (sym (ap (λ (m : Lens). m.unused) e) ∙ u) ∙ ap₂ path_on (sym e) (drop-drop 4 at l)
 
-  pub at_short : n.unused ≡ 0 → length l - at - 4 < size → end_of (length l) (one_member (drop at l)) ≡ Bad
+  pub at_short : n.unused ≡ 0 → length l - at - 4 < size → end_of (length l) (one_member (drop at l)) ≡ None
   at_short u s = ap (end_of (length l)) (front u ∙ texts_short n (drop (at + 4) l) (simp length-drop (omega arith)))
 
   module _ (u : n.unused ≡ 0) (k : at + 4 + size ≤ length l) (hs : n.subsystem ≤ most_subsystem) (hd : n.driver ≤ most_subsystem) (ha : n.attributes ≤ most_attributes) where
@@ -183,7 +183,7 @@ module _ (l : List ℕ) (at : ℕ) (n : Lens) (e : n ≡ lens_of (take 4 (drop a
     same-texts : take (at + 4 + size - (at + 4)) (drop (at + 4) l) ≡ take size (drop (at + 4) l)
     same-texts = ap_at (λ i. take i (drop (at + 4) l)) (at + 4 + size - (at + 4)) size (omega arith)
 
-    pub at_faulty : ok_texts n.path (take (at + 4 + size - (at + 4)) (drop (at + 4) l)) ≡ false → end_of (length l) (one_member (drop at l)) ≡ Bad
+    pub at_faulty : ok_texts n.path (take (at + 4 + size - (at + 4)) (drop (at + 4) l)) ≡ false → end_of (length l) (one_member (drop at l)) ≡ None
     at_faulty o =
         ap (end_of (length l))
         (front u

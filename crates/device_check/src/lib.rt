@@ -13,17 +13,14 @@ ghost use Rattle.device_head.specs.Read.{head_in, path_len, path_in};
 ghost use Rattle.device_check.specs.Stages.{ok_texts, apart, parents_in};
 
 use device_head::Head;
-use rows::{Kind, RowEnd};
+use rows::Kind;
 
 // ---- paths
 
 fn are_slashes(a: u8, b: u8) -> bool
     ensures { result ≡ (eqb a 47 && eqb b 47) }
 {
-    if a != b'/' {
-        return false;
-    }
-    b == b'/'
+    a == b'/' && b == b'/'
 }
 
 // It starts with `/` and has no empty component.
@@ -31,18 +28,13 @@ fn ok_path(s: &[u8]) -> bool
     ensures { result ≡ ok_path s.now }
 {
     let n = s.len();
-    if n == 0 {
+    if n == 0 || s[0] != b'/' {
         return false;
     }
-    if s[0] != b'/' {
-        return false;
-    }
-    let mut i: usize = 1;
-    while i < n {
+    for i in 1..n {
         if are_slashes(s[i - 1], s[i]) {
             return false;
         }
-        i += 1;
     }
     s[n - 1] != b'/'
 }
@@ -52,16 +44,10 @@ fn is_cut(parent: &[u8], child: &[u8]) -> bool
     ensures { result ≡ cut_of parent.now child.now }
 {
     let n = parent.len();
-    if n == 0 {
+    if n == 0 || child.len() <= n {
         return false;
     }
-    if child.len() <= n {
-        return false;
-    }
-    if child[n] != b'/' {
-        return false;
-    }
-    scan::same(parent, &child[..n])
+    child[n] == b'/' && scan::same(parent, &child[..n])
 }
 
 // ---- the header
@@ -70,28 +56,13 @@ fn is_cut(parent: &[u8], child: &[u8]) -> bool
 fn ok_node(node: usize, major: usize, minor: usize) -> bool
     ensures { result ≡ (eqb node 1 || (eqb major 0 && eqb minor 0)) }
 {
-    if node == 1 {
-        return true;
-    }
-    if major != 0 {
-        return false;
-    }
-    minor == 0
+    node == 1 || major == 0 && minor == 0
 }
 
 fn ok_head(h: Head) -> bool
     ensures { result ≡ ok_head (head_in h) }
 {
-    if h.edition != 1 {
-        return false;
-    }
-    if !ok_node(h.node, h.major, h.minor) {
-        return false;
-    }
-    if 32 < h.properties {
-        return false;
-    }
-    h.unused == 0
+    h.edition == 1 && ok_node(h.node, h.major, h.minor) && h.properties <= 32 && h.unused == 0
 }
 
 // ---- one device
@@ -101,54 +72,43 @@ fn ok_texts(s: &[u8], path: usize) -> bool
     requires { path ≤ length s.now }
     ensures { result ≡ ok_texts path s.now }
 {
-    if path < 1 {
-        return false;
-    }
-    if 256 < path {
-        return false;
-    }
-    if !rows::clean(s) {
-        return false;
-    }
-    ok_path(&s[..path])
+    1 <= path && path <= 256 && rows::clean(s) && ok_path(&s[..path])
 }
 
 // The place behind n properties or attributes, each sound, no key twice.
-fn check_row(rec: &[u8], at: usize, n: usize) -> RowEnd
+fn check_row(rec: &[u8], at: usize, n: usize) -> Option<usize>
     requires { at ≤ length rec.now }
     ensures { result ≡ end_of (length rec.now) (apart (many one_prop n (drop at rec.now))) }
 {
-    let RowEnd::At(end) = rows::check_properties(rec, at, n) else {
-        return RowEnd::Bad;
-    };
+    let end = rows::check_properties(rec, at, n)?;
     if rows::distinct(rec, at, n, Kind::Property) {
-        RowEnd::At(end)
+        Some(end)
     } else {
-        RowEnd::Bad
+        None
     }
 }
 
 // The place behind the device that begins at a place.
-fn check_member(rec: &[u8], at: usize) -> RowEnd
+fn check_member(rec: &[u8], at: usize) -> Option<usize>
     requires { (at ≤ length rec.now) × (length rec.now ≤ most_device) }
     ensures { result ≡ end_of (length rec.now) (one_member (drop at rec.now)) }
 {
     let room = rec.len() - at;
     if room < 4 {
-        return RowEnd::Bad;
+        return None;
     }
     let lens = device_head::read_lens(rec, at);
     if lens.unused != 0 {
-        return RowEnd::Bad;
+        return None;
     }
     let texts = lens.path + lens.subsystem + lens.driver;
     if room - 4 < texts {
-        return RowEnd::Bad;
+        return None;
     }
     let start = at + 4;
     let row = start + texts;
     if !ok_texts(&rec[start..row], lens.path) {
-        return RowEnd::Bad;
+        return None;
     }
     check_row(rec, row, lens.attributes)
 }
@@ -162,9 +122,8 @@ fn check_parents(rec: &[u8], child: usize, at: usize, n: usize) -> bool
 {
     let mut c = child;
     let mut p = at;
-    let mut left = n;
-    while 0 < left {
-        let RowEnd::At(end) = check_member(rec, p) else {
+    for _ in 0..n {
+        let Some(end) = check_member(rec, p) else {
             return false;
         };
         if !is_cut(device_head::path_at(rec, p), device_head::path_at(rec, c)) {
@@ -172,7 +131,6 @@ fn check_parents(rec: &[u8], child: usize, at: usize, n: usize) -> bool
         }
         c = p;
         p = end;
-        left -= 1;
     }
     p == rec.len()
 }
@@ -193,10 +151,10 @@ pub fn check(rec: &[u8]) -> bool
     if !ok_head(head) {
         return false;
     }
-    let RowEnd::At(event) = check_row(rec, 7, head.properties) else {
+    let Some(event) = check_row(rec, 7, head.properties) else {
         return false;
     };
-    let RowEnd::At(parents) = check_member(rec, event) else {
+    let Some(parents) = check_member(rec, event) else {
         return false;
     };
     check_parents(rec, event, parents, head.above)

@@ -3,7 +3,7 @@
 use Prim.Native.Nat.{ℕ, ◌<◌}
 use mathlib.Core.Path.{◌≡◌, sym, ap, ◌∙◌, subst}
 use mathlib.Core.List.{List}
-use mathlib.Core.Option.{some}
+use Rattle.std.specs.Prelude.{Some}
 use native.Mathlib.Omega.{arith}
 use lib.ListN.{get_or}
 use lib.Seq.{get_or-take}
@@ -17,8 +17,8 @@ use Rattle.device_lookup.specs.Lookup.{Standing, Chained}
 use Rattle.device_lookup.specs.declared.Chain.{Chain}
 use Rattle.device_lookup.proofs.Devices.{record_short}
 
-module _ (l : List ℕ) (d : Device) (b : Bytes l) (e : decode l ≡ some d) (r : Chain) (c : Chained d r) where
-  pub chain_lies : (k : ℕ) (m : Member) → nth k (chain d) ≡ some m → Lies l (get_or r.at k 0) m
+module _ (l : List ℕ) (d : Device) (b : Bytes l) (e : decode l ≡ Some d) (r : Chain) (c : Chained d r) where
+  pub chain_lies : (k : ℕ) (m : Member) → nth k (chain d) ≡ Some m → Lies l (get_or r.at k 0) m
   chain_lies k m n =
       let h : k < r.len = omega (arith, nth_in (chain d) k m n, c.len) in
       let p : get_or (starts d) k 0 ≡ get_or r.at k 0 = ap (λ (x : List ℕ). get_or x k 0) (sym c.at) ∙ get_or-take r.len r.at k 0 h in

@@ -4,7 +4,7 @@ use Prim.Native.Nat.{ℕ, suc, ◌+◌, ◌-◌, ◌≤◌, ◌<◌}
 use mathlib.Core.Path.{◌≡◌, refl, sym, ap, ap₂, ◌∙◌, subst}
 use mathlib.Core.Bool.{true}
 use mathlib.Core.List.{List, [], ◌∷◌, ◌++◌, append-nil}
-use mathlib.Core.Option.{some}
+use Rattle.std.specs.Prelude.{Option, Some}
 use native.Mathlib.Omega.{arith}
 use lib.ListN.{length, take, drop, set, length-append, length-drop, length-set}
 use lib.Seq.{take_at, drop_at, drop-drop, drop-length, take-suc-set, append_snoc}
@@ -29,10 +29,10 @@ use Rattle.device.proofs.RoundTrip.{back, decoded, head_decoded}
 use Rattle.device.proofs.Sound.{device_sound}
 use Rattle.device.proofs.Places.{record_bytes, chain-bytes}
 use Rattle.device_lookup.specs.Lookup.{value_of, Says, Chained}
-use Rattle.device_lookup.specs.declared.Value.{Value}
+use Rattle.device_lookup.specs.declared.Span.{Span}
 use Rattle.device_lookup.proofs.Members.{row-says}
 
-module _ (l : List ℕ) (d : Device) (b : Bytes l) (e : decode l ≡ some d) where
+module _ (l : List ℕ) (d : Device) (b : Bytes l) (e : decode l ≡ Some d) where
   pub record_head : 7 ≤ length l
   unfolding encode
   record_head = omega (arith, ap length (back l d b e), length-append (header (head_for d)) (cat enc_prop d.properties ++ cat enc_member (chain d)), header-length (head_for d))
@@ -59,7 +59,7 @@ module _ (l : List ℕ) (d : Device) (b : Bytes l) (e : decode l ≡ some d) whe
     pub properties_stand : Row kind.Property n (drop 7 l)
     properties_stand = many-row property-reads n (drop 7 l) d.properties (cat enc_member (chain d)) properties_read
 
-    pub property-says : (key : List ℕ) (v : Value) → v ≡ value_of (find_in kind.Property key 7 n (drop 7 l)) → Says l v (lookup key d.properties)
+    pub property-says : (key : List ℕ) (v : Option Span) → v ≡ value_of (find_in kind.Property key 7 n (drop 7 l)) → Says l v (lookup key d.properties)
     property-says key v f = row-says l key n 7 d.properties (cat enc_member (chain d)) properties_read v f
 
     pub properties-end : end_in kind.Property 7 n (drop 7 l) ≡ 7 + length (cat enc_prop d.properties)
@@ -84,13 +84,13 @@ pub record Walk (d : Device) (l at : List ℕ) (p i : ℕ) : Type 0 where
   pub bytes : drop p l ≡ cat enc_member (drop i (chain d))
   pub places : take i at ++ starts_from p (drop i (chain d)) ≡ starts d
 
-pub chain_few : (l : List ℕ) (d : Device) → decode l ≡ some d → length (chain d) ≤ most_chain
+pub chain_few : (l : List ℕ) (d : Device) → decode l ≡ Some d → length (chain d) ≤ most_chain
 chain_few l d e = omega (arith, (device_sound l d e).few)
 
 pub chain_length : (d : Device) → length d.parents + 1 ≡ length (chain d)
 chain_length d = omega arith
 
-pub walk_start : (l : List ℕ) (d : Device) → Bytes l → decode l ≡ some d → (at : List ℕ) (p : ℕ) → length at ≡ most_chain → p ≡ 7 + length (cat enc_prop d.properties) → Walk d l at p 0
+pub walk_start : (l : List ℕ) (d : Device) → Bytes l → decode l ≡ Some d → (at : List ℕ) (p : ℕ) → length at ≡ most_chain → p ≡ 7 + length (cat enc_prop d.properties) → Walk d l at p 0
 walk_start l d b e at p h k =
     let s = device_sound l d e in
     record {

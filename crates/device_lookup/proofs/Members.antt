@@ -3,7 +3,7 @@
 use Prim.Native.Nat.{ℕ, ◌+◌, ◌-◌, ◌≤◌}
 use mathlib.Core.Path.{◌≡◌, refl, sym, ap, ap₂, ◌∙◌, subst}
 use mathlib.Core.List.{List}
-use mathlib.Core.Option.{Option}
+use Rattle.std.specs.Prelude.{Option, None, Some, Result, Ok, Err}
 use native.Mathlib.Omega.{arith}
 use lib.ListN.{length, take, drop, length-append, length-drop}
 use lib.Seq.{take_all}
@@ -16,7 +16,6 @@ use Rattle.entries.proofs.Entries.{prop_laws}
 use Rattle.rows.specs.Row.{Row, find_in, end_in}
 use Rattle.rows.specs.declared.Kind.TheVariants as kind
 use Rattle.rows.specs.declared.Found.{Found}
-use Rattle.rows.specs.declared.Found.TheVariants as found
 use Rattle.rows.proofs.Readers.{property-reads, many-row, many-end}
 use Rattle.rows.proofs.Lookup as rows_lookup
 use Rattle.rows.proofs.Lookup.{find_lookup}
@@ -30,8 +29,7 @@ use Rattle.device_head.specs.Read.{lens_in, path_len}
 use Rattle.device_head.proofs.Lying.{member-length, lies_within, lies_lens, lies_length, lies_attributes, lies_subsystem, lies_driver}
 use Rattle.device_lookup.specs.Lookup.{Standing, Placed, Ordered, value_of, Says, part_in}
 use Rattle.device_lookup.specs.declared.Parts.{Parts}
-use Rattle.device_lookup.specs.declared.Value.{Value}
-use Rattle.device_lookup.specs.declared.Value.TheVariants.{At, Missing}
+use Rattle.device_lookup.specs.declared.Span.{Span}
 
 -- ---- where it stands
 
@@ -112,23 +110,23 @@ module _ (l : List ℕ) (at : ℕ) (m : Member) (h : Lies l at m) (r : Parts) (p
 
 -- ---- what a search says
 
-pub found-says : (l : List ℕ) (f : Found) (o : Option (List ℕ)) → rows_lookup.Says l f o → Says l (value_of f) o
-found-says l (found.At p v k) o s = s.1
-found-says l (found.Missing p) o s = s
+pub found-says : (l : List ℕ) (f : Result Found ℕ) (o : Option (List ℕ)) → rows_lookup.Says l f o → Says l (value_of f) o
+found-says l (Ok f) o s = s.1
+found-says l (Err p) o s = s
 
 pub row-says : (l key : List ℕ) (n at : ℕ) (ps : List Property) (r : List ℕ) → many one_prop n (drop at l) ≡ got ps r
-    → (v : Value) → v ≡ value_of (find_in kind.Property key at n (drop at l)) → Says l v (lookup key ps)
+    → (v : Option Span) → v ≡ value_of (find_in kind.Property key at n (drop at l)) → Says l v (lookup key ps)
 row-says l key n at ps r e v f =
-    subst (λ (x : Value). Says l x (lookup key ps)) (sym f) (found-says l (find_in kind.Property key at n (drop at l)) (lookup key ps) (find_lookup l key n at ps r e))
+    subst (λ (x : Option Span). Says l x (lookup key ps)) (sym f) (found-says l (find_in kind.Property key at n (drop at l)) (lookup key ps) (find_lookup l key n at ps r e))
 
 pub attribute-says : (l key : List ℕ) (at : ℕ) (m : Member) (h : Lies l at m) (r : Parts) (p : Placed at m r)
-    → (v : Value) → v ≡ value_of (find_in kind.Property key r.attributes r.count (drop r.attributes l)) → Says l v (attr_of key m)
+    → (v : Option Span) → v ≡ value_of (find_in kind.Property key r.attributes r.count (drop r.attributes l)) → Says l v (attr_of key m)
 attribute-says l key at m h r p v f = row-says l key r.count r.attributes m.attributes h.rest (attributes_read l at m h r p) v f
 
 -- the part of the record reads as what was said
-pub said-part : (l : List ℕ) (v : Value) (o : Option (List ℕ)) → Says l v o → part_in l v ≡ or_empty o
-said-part l (At a k) o s = sym (ap or_empty s)
-said-part l Missing o s = sym (ap or_empty s)
+pub said-part : (l : List ℕ) (v : Option Span) (o : Option (List ℕ)) → Says l v o → part_in l v ≡ or_empty o
+said-part l (Some v) o s = sym (ap or_empty s)
+said-part l None o s = sym (ap or_empty s)
 
 -- ---- its name
 

@@ -1,22 +1,20 @@
 -- What the readers of a sound device record require and answer.
 -- Assumes nothing.
 use Rattle.std.specs.Prelude.{ℕ, ◌+◌, ◌≤◌, ◌≡◌, List, [], length, take, drop}
-use Rattle.std.proofs.Math.Option.{Option, none, some}
+use Rattle.std.specs.Prelude.{Option, None, Some, Result, Ok, Err}
 use Rattle.lists.specs.Sizes.{most_device}
 use Rattle.rows.specs.declared.Found.{Found}
-use Rattle.rows.specs.declared.Found.TheVariants as found
 use Rattle.device.specs.Device.{Member, Device, chain, decode}
 use Rattle.device.specs.Places.{starts, Lies}
 use Rattle.device_lookup.specs.declared.Chain.{Chain}
 use Rattle.device_lookup.specs.declared.Parts.{Parts}
-use Rattle.device_lookup.specs.declared.Value.{Value}
-use Rattle.device_lookup.specs.declared.Value.TheVariants.{At, Missing}
+use Rattle.device_lookup.specs.declared.Span.{Span}
 
 -- ---- what is required
 
 -- a record that the check took
 abbrev pub Sound : List ℕ → Type 0
-Sound l = (d : Device) × (decode l ≡ some d)
+Sound l = (d : Device) × (decode l ≡ Some d)
 
 -- a device begins at a place of it
 pub record Standing (l : List ℕ) (at : ℕ) : Type 0 where
@@ -28,7 +26,7 @@ pub record Standing (l : List ℕ) (at : ℕ) : Type 0 where
 
 -- of the device that a record holds
 abbrev pub OfDevice : List ℕ → (Device → Type 0) → Type 0
-OfDevice l P = (d : Device) → decode l ≡ some d → P d
+OfDevice l P = (d : Device) → decode l ≡ Some d → P d
 
 -- of the device that begins at a place
 abbrev pub OfMember : List ℕ → ℕ → (Member → Type 0) → Type 0
@@ -50,24 +48,24 @@ pub record Ordered (r : Parts) (n : ℕ) : Type 0 where
   pub within : r.attributes ≤ n
 
 -- the place of what a search found
-abbrev pub value_of : Found → Value
-value_of (found.At p v k) = At v k
-value_of (found.Missing p) = Missing
+abbrev pub value_of : Result Found ℕ → Option Span
+value_of (Ok f) = Some (record { start = f.value; len = f.len })
+value_of (Err p) = None
 
 -- a value that is there is a part of the record; absent and empty stay apart
-abbrev pub Says : List ℕ → Value → Option (List ℕ) → Type 0
-Says l (At v k) o = o ≡ some (take k (drop v l))
-Says l Missing o = o ≡ none
+abbrev pub Says : List ℕ → Option Span → Option (List ℕ) → Type 0
+Says l (Some s) o = o ≡ Some (take s.len (drop s.start l))
+Says l None o = o ≡ None
 
 -- in a record of n bytes
-abbrev pub Within : Value → ℕ → Type 0
-Within (At v k) n = v + k ≤ n
-Within Missing n = Unit {0}
+abbrev pub Within : Option Span → ℕ → Type 0
+Within (Some s) n = s.start + s.len ≤ n
+Within None n = Unit {0}
 
 -- that part of the record; what is missing reads as empty
-abbrev pub part_in : List ℕ → Value → List ℕ
-part_in l (At v k) = take k (drop v l)
-part_in l Missing = []
+abbrev pub part_in : List ℕ → Option Span → List ℕ
+part_in l (Some s) = take s.len (drop s.start l)
+part_in l None = []
 
 -- how many devices there are, and where each begins
 pub record Chained (d : Device) (r : Chain) : Type 0 where

@@ -10,7 +10,7 @@ ghost use Rattle.device.specs.Device.{name_of, attr_of, enc_member};
 ghost use Rattle.device_lookup.specs.Lookup.{Sound, Standing, OfDevice, OfMember, Placed, Ordered, value_of, Says, Within, part_in, Chained};
 
 use bits::BitCursor;
-use rows::{Found, Kind};
+use rows::Kind;
 
 // How many devices a record has, and where each of them begins.
 #[derive(Clone, Copy)]
@@ -20,10 +20,10 @@ pub struct Chain {
 }
 
 // Where a value stands and how long it is. A value of no bytes is not missing.
-#[derive(Drop)]
-pub enum Value {
-    At(usize, usize),
-    Missing,
+#[derive(Clone, Copy)]
+pub struct Span {
+    pub start: usize,
+    pub len: usize,
 }
 
 // Where the parts of a device begin, and how many attributes it has.
@@ -95,29 +95,32 @@ pub fn driver(rec: &[u8], at: usize) -> &[u8]
 // ---- values by their key
 
 // The value under a key among the n properties or attributes from `at` on.
-fn find_value(rec: &[u8], at: usize, n: usize, key: &[u8]) -> Value
+fn find_value(rec: &[u8], at: usize, n: usize, key: &[u8]) -> Option<Span>
     requires { (at ≤ length rec.now) × Row Kind.Property n (drop at rec.now) }
     ensures { (result ≡ value_of (find_in Kind.Property key.now at n (drop at rec.now))) × Within result (length rec.now) }
 {
     match rows::find(rec, at, n, Kind::Property, key) {
-        Found::At(_, value, len) => Value::At(value, len),
-        Found::Missing(_) => Value::Missing,
+        Ok(found) => Some(Span {
+            start: found.value,
+            len: found.len,
+        }),
+        Err(_) => None,
     }
 }
 
 // A value as a part of the record; empty where it is missing.
-pub fn part_of(rec: &[u8], v: Value) -> &[u8]
+pub fn part_of(rec: &[u8], v: Option<Span>) -> &[u8]
     requires { Within v (length rec.now) }
     ensures { result.now ≡ part_in rec.now v }
 {
     match v {
-        Value::At(start, len) => &rec[start..start + len],
-        Value::Missing => &rec[..0],
+        Some(span) => &rec[span.start..span.start + span.len],
+        None => &rec[..0],
     }
 }
 
 // An attribute of the device that begins at a place.
-pub fn find_attribute(rec: &[u8], at: usize, key: &[u8]) -> Value
+pub fn find_attribute(rec: &[u8], at: usize, key: &[u8]) -> Option<Span>
     requires { Standing rec.now at }
     ensures { OfMember rec.now at (λ m. Says rec.now result (attr_of key.now m)) × Within result (length rec.now) }
 {
@@ -142,7 +145,7 @@ fn property_count(rec: &[u8]) -> usize
 }
 
 // A property of the record.
-pub fn find_property(rec: &[u8], key: &[u8]) -> Value
+pub fn find_property(rec: &[u8], key: &[u8]) -> Option<Span>
     requires { Sound rec.now }
     ensures { OfDevice rec.now (λ d. Says rec.now result (lookup key.now d.properties)) × Within result (length rec.now) }
 {
@@ -195,11 +198,9 @@ pub fn chain_of(rec: &[u8]) -> Chain
     let n = above.value + 1;
     let mut at: [usize; 16] = [0; 16];
     let mut p = properties_end(rec);
-    let mut i: usize = 0;
-    while i < n {
+    for i in 0..n {
         at[i] = p;
         p = member_end(rec, p);
-        i += 1;
     }
     Chain { len: n, at }
 }

@@ -10,7 +10,7 @@ ghost use Rattle.device.specs.Device.{name_of, attr_of};
 ghost use Rattle.device_lookup.specs.Lookup.{Sound, Standing, OfDevice, OfMember, Says, Within, Chained};
 ghost use Rattle.device_view.specs.View.{OfPlace, HasParent, ParentAt};
 
-use device_lookup::{Chain, Value};
+use device_lookup::{Chain, Span};
 
 #[derive(Drop)]
 pub struct DeviceView<'a> {
@@ -75,7 +75,7 @@ impl<'a> DeviceView<'a> {
     }
 
     // Where the value of an attribute stands; absent and empty stay apart.
-    pub fn find_attribute<'b>(self, key: &'b [u8]) -> Value
+    pub fn find_attribute<'b>(self, key: &'b [u8]) -> Option<Span>
         requires { Standing self.rec.now self.at }
         ensures { OfMember self.entry.rec.now self.entry.at (λ m. Says self.entry.rec.now result (attr_of key.now m)) × Within result (length self.entry.rec.now) }
     {
@@ -139,7 +139,7 @@ pub fn driver_at(rec: &[u8], at: usize) -> &[u8]
     DeviceView::new(rec, at).driver()
 }
 
-pub fn find_attribute_at<'a, 'b>(rec: &'a [u8], at: usize, key: &'b [u8]) -> Value
+pub fn find_attribute_at<'a, 'b>(rec: &'a [u8], at: usize, key: &'b [u8]) -> Option<Span>
     requires { Standing rec.now at }
     ensures { OfMember rec.now at (λ m. Says rec.now result (attr_of key.now m)) × Within result (length rec.now) }
 {

@@ -3,7 +3,7 @@
 use Prim.Native.Nat.{ℕ, zero, suc, ◌+◌, ◌*◌}
 use mathlib.Core.Path.{◌≡◌, refl, sym, ap, ap₂, ◌∙◌, subst}
 use mathlib.Core.List.{List, [], ◌∷◌, ◌++◌, map, append_assoc}
-use mathlib.Core.Option.{Option, none, some}
+use Rattle.std.specs.Prelude.{Option, None, Some}
 use native.Mathlib.Nat.{suc-mul, zero-mul}
 use native.Mathlib.Omega.{arith}
 use lib.ListN.{length, take, drop, length-map}
@@ -31,8 +31,8 @@ use Rattle.each.specs.Wanted.{part_of, EachAlone, Wanted}
 -- ---- by places
 
 abbrev mapped : {A B : Type 0} → (A → B) → Option A → Option B
-mapped f none = none
-mapped f (some a) = some (f a)
+mapped f None = None
+mapped f (Some a) = Some (f a)
 
 nth-mapped : {A B : Type 0} (f : A → B) (xs : List A) (k : ℕ) → nth k (map f xs) ≡ mapped f (nth k xs)
 nth-mapped f [] k = refl
@@ -40,7 +40,7 @@ nth-mapped f (x ∷ xs) zero = refl
 nth-mapped f (x ∷ xs) (suc k) = nth-mapped f xs k
 
 -- the parts of lists of one length, one behind the other
-part-cat : {A : Type 0} (f : A → List ℕ) (n : ℕ) (xs : List A) → All (λ a. length (f a) ≡ n) xs → (k : ℕ) (a : A) → nth k xs ≡ some a → (r : List ℕ)
+part-cat : {A : Type 0} (f : A → List ℕ) (n : ℕ) (xs : List A) → All (λ a. length (f a) ≡ n) xs → (k : ℕ) (a : A) → nth k xs ≡ Some a → (r : List ℕ)
     → part_of n k (cat f xs ++ r) ≡ f a
 part-cat f n [] h k a e r = let z : ◌≡◌ {A = ℕ} 0 1 = cc in absurd (omega arith)
 part-cat f n (x ∷ xs) (h, hs) zero a e r =
@@ -64,7 +64,7 @@ outcomes (l ∷ ls) h =
     let second = bytes_rest (enc_long l.device) (enc_long l.outcome) first in
     (bytes_rest (packed (long_fields (length l.outcome))) l.outcome second, outcomes ls (bytes_rest (enc_lent l) (cat enc_lent ls) h))
 
-set_outcomes : (set : List ℕ) (ls : List Lent) → Bytes set → decode_lent set ≡ some ls → All (λ (l : Lent). Bytes l.outcome) ls
+set_outcomes : (set : List ℕ) (ls : List Lent) → Bytes set → decode_lent set ≡ Some ls → All (λ (l : Lent). Bytes l.outcome) ls
 unfolding sets.encode_set
 set_outcomes set ls by e = outcomes ls (bytes_rest (length ls ∷ []) (cat enc_lent ls) (subst Bytes (lent_laid_out.back set ls by e).0 by))
 
@@ -84,7 +84,7 @@ number_ok room places (refused f) e = let (k, p) = refusal-number f.why in absur
 number_ok room places (ok rs) e = (rs, refl)
 
 checked_runs : (text set sheet : List ℕ) (room places : ℕ) (rs : List Answer) → each_checked text set sheet room places ≡ ok rs
-    → (ls : List Lent) × (decode_lent set ≡ some ls) × (rs ≡ each_runs text sheet ls)
+    → (ls : List Lent) × (decode_lent set ≡ Some ls) × (rs ≡ each_runs text sheet ls)
 unfolding each_checked
 checked_runs text set sheet room places rs e = lents (decode_lent set) e
   where
@@ -93,9 +93,9 @@ checked_runs text set sheet room places rs e = lents (decode_lent set) e
     after ls (ok u) e = let q : rs ≡ each_runs text sheet ls = cc in q
 
     lents : (o : Option (List Lent)) → (found o (of_set set_bad) >>= λ ls. room_for (length ls) room places >> ok (each_runs text sheet ls)) ≡ ok rs
-        → (ls : List Lent) × (o ≡ some ls) × (rs ≡ each_runs text sheet ls)
-    lents none e = let z : ◌≡◌ {A = ℕ} 0 1 = cc in absurd (omega arith)
-    lents (some ls) e = (ls, refl, after ls (room_for (length ls) room places) e)
+        → (ls : List Lent) × (o ≡ Some ls) × (rs ≡ each_runs text sheet ls)
+    lents None e = let z : ◌≡◌ {A = ℕ} 0 1 = cc in absurd (omega arith)
+    lents (Some ls) e = (ls, refl, after ls (room_for (length ls) room places) e)
 
 each_alone : (text set sheet : List ℕ) (room places : ℕ) → Bytes set → Bytes sheet → (each_answer text set sheet room places).own.number ≡ 0
     → EachAlone text set sheet (each_answer text set sheet room places)
@@ -110,7 +110,7 @@ each_alone text set sheet room places by bs z =
       held = f;
       counted = length-map ls (run_of text sheet);
       alone = λ k l h.
-          let there : nth k (each_runs text sheet ls) ≡ some (run_of text sheet l) = nth-mapped (run_of text sheet) ls k ∙ ap (mapped (run_of text sheet)) h in
+          let there : nth k (each_runs text sheet ls) ≡ Some (run_of text sheet l) = nth-mapped (run_of text sheet) ls k ∙ ap (mapped (run_of text sheet)) h in
           record {
             target = part-cat (λ (a : Answer). a.bytes) fullest_outcome (each_runs text sheet ls) (targets_long text sheet bs ls (set_outcomes set ls by f)) k _ there _;
             answer = part-cat numbers most_numbers (each_runs text sheet ls) (answers-long text sheet (each_runs text sheet ls)) k _ there _;

@@ -1,7 +1,7 @@
 -- What is wanted of the runs of a set: nothing of one is seen by another.
 -- Assumes nothing.
 use Rattle.std.specs.Prelude.{ℕ, ◌*◌, ◌≡◌, List, length, take, drop}
-use Rattle.std.proofs.Math.Option.{some}
+use Rattle.std.specs.Prelude.{Some}
 use Rattle.lists.specs.Lists.{nth}
 use Rattle.lists.specs.Bytes.{Bytes}
 use Rattle.lists.specs.Sizes.{fullest_outcome}
@@ -21,9 +21,9 @@ pub record Alone (text sheet : List ℕ) (l : Lent) (k : ℕ) (targets answers :
 -- of all records of a set
 pub record EachAlone (text set sheet : List ℕ) (e : Each) : Type 0 where
   pub lents : List Lent
-  pub held : decode_lent set ≡ some lents
+  pub held : decode_lent set ≡ Some lents
   pub counted : e.own.count ≡ length lents
-  pub alone : (k : ℕ) (l : Lent) → nth k lents ≡ some l → Alone text sheet l k e.own.bytes e.answers
+  pub alone : (k : ℕ) (l : Lent) → nth k lents ≡ Some l → Alone text sheet l k e.own.bytes e.answers
 
 pub record Wanted : Type 0 where
   -- where the set is not refused

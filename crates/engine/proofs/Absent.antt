@@ -5,7 +5,7 @@ use Prim.Native.Nat.{ℕ}
 use mathlib.Core.Path.{◌≡◌, refl, ap}
 use mathlib.Core.Bool.{Bool, true, false}
 use mathlib.Core.List.{List, [], ◌∷◌}
-use mathlib.Core.Option.{Option, none, some}
+use Rattle.std.specs.Prelude.{Option, None, Some}
 use Rattle.rules.specs.Key.{DRIVER, DRIVERS, ATTR, ATTRS, Op, equal, unequal}
 use Rattle.rules.specs.Pair.{Pair}
 use Rattle.device.specs.Device.{Member, Device, attr_of}
@@ -23,8 +23,8 @@ expected p absent = judged p.op false
 expected p (seen v) = value_holds p v
 
 abbrev pub attribute : Pair → Option (List ℕ) → Seen
-attribute p none = absent
-attribute p (some a) = seen (seen_by p.value a)
+attribute p None = absent
+attribute p (Some a) = seen (seen_by p.value a)
 
 abbrev pub driver : List ℕ → Seen
 driver [] = absent
@@ -37,8 +37,8 @@ pub record Judged (d : Device) (s : State) (p : Pair) : Type 0 where
   pub DRIVERS-holds : (m : Member) → parent_holds DRIVERS m p ≡ expected p (driver m.driver)
 
 judged-attribute : (p : Pair) (o : Option (List ℕ)) → attr_judged p o ≡ expected p (attribute p o)
-judged-attribute p none = refl
-judged-attribute p (some a) = refl
+judged-attribute p None = refl
+judged-attribute p (Some a) = refl
 
 judged-driver : (p : Pair) (x : List ℕ) → driver_holds p x ≡ expected p (driver x)
 unfolding driver_holds

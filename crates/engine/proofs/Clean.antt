@@ -4,7 +4,7 @@ use Prim.Native.Nat.{ℕ, zero, suc, ◌+◌, ◌/◌, ◌%◌}
 use mathlib.Core.Path.{◌≡◌, refl, ap}
 use mathlib.Core.Bool.{Bool, true, false, not}
 use mathlib.Core.List.{List, [], ◌∷◌}
-use mathlib.Core.Option.{Option, none, some}
+use Rattle.std.specs.Prelude.{Option, None, Some}
 use native.Mathlib.Omega.{arith}
 use lib.ListN.{length, drop}
 use lib.Dec.{leb, ltb, eqb}
@@ -49,21 +49,21 @@ FormOk (whole p) = clean_piece p ≡ true
 FormOk (braced f) = (k : List ℕ) → clean_piece (f k) ≡ true
 
 abbrev ItemOk : Option (Item Piece) → Type 0
-ItemOk none = Unit {0}
-ItemOk (some i) = clean_piece i.value ≡ true
+ItemOk None = Unit {0}
+ItemOk (Some i) = clean_piece i.value ≡ true
 
 abbrev AllOk : Option (List Piece) → Type 0
-AllOk none = Unit {0}
-AllOk (some ps) = all clean_piece ps ≡ true
+AllOk None = Unit {0}
+AllOk (Some ps) = all clean_piece ps ≡ true
 
 abbrev NameOk : Option Named → Type 0
-NameOk none = Unit {0}
-NameOk (some n) = FormOk n.form
+NameOk None = Unit {0}
+NameOk (Some n) = FormOk n.form
 
 name_in-ok : (ns : List Named) → All (λ (n : Named). FormOk n.form) ns → (bs : List ℕ) → NameOk (name_in ns bs)
 unfolding name_in
 name_in-ok [] h bs = tt
-name_in-ok (n ∷ ns) (h, k) bs = pick_both NameOk (starts n.name bs) (some n) (name_in ns bs) h (name_in-ok ns k bs)
+name_in-ok (n ∷ ns) (h, k) bs = pick_both NameOk (starts n.name bs) (Some n) (name_in ns bs) h (name_in-ok ns k bs)
 
 names-ok : All (λ (n : Named). FormOk n.form) names
 unfolding names
@@ -74,17 +74,17 @@ unfolding letters
 letters-ok = (refl, (refl, (refl, (refl, ((λ k. refl), ((λ k. refl), (refl, (refl, (refl, (refl, tt))))))))))
 
 with_text-ok : (f : List ℕ → Piece) (n : ℕ) (o : Option (List ℕ)) → ((k : List ℕ) → clean_piece (f k) ≡ true) → ItemOk (with_text f n o)
-with_text-ok f n none h = tt
-with_text-ok f n (some text) h = h text
+with_text-ok f n None h = tt
+with_text-ok f n (Some text) h = h text
 
 formed-ok : (f : Form) (n : ℕ) (rest : List ℕ) → FormOk f → ItemOk (formed f n rest)
 formed-ok (plain p) n rest h = h
-formed-ok (whole p) n rest h = pick_both ItemOk (starts_brace rest) none (some (record { value = p; more = n })) tt h
+formed-ok (whole p) n rest h = pick_both ItemOk (starts_brace rest) None (Some (record { value = p; more = n })) tt h
 formed-ok (braced f) n rest h = with_text-ok f n (text_in rest) h
 
 named_ok : (o : Option Named) (bs : List ℕ) → NameOk o → ItemOk (named_piece o bs)
-named_ok none bs h = tt
-named_ok (some n) bs h = formed-ok n.form (length n.name) (drop (length n.name) bs) h
+named_ok None bs h = tt
+named_ok (Some n) bs h = formed-ok n.form (length n.name) (drop (length n.name) bs) h
 
 piece_by-ok : (s : Sign) (b : ℕ) (bs : List ℕ) → not (eqb b 0) ≡ true → ItemOk (piece_by s b bs)
 piece_by-ok dollar_sign b bs h = named_ok (name_in names bs) bs (name_in-ok names names-ok bs)
@@ -92,12 +92,12 @@ piece_by-ok percent_sign b bs h = named_ok (name_in letters bs) bs (name_in-ok l
 piece_by-ok no_sign b bs h = h
 
 before-ok : (p : Piece) (o : Option (List Piece)) → clean_piece p ≡ true → AllOk o → AllOk (before p o)
-before-ok p none h k = tt
-before-ok p (some ps) h k = both_and (clean_piece p) (all clean_piece ps) h k
+before-ok p None h k = tt
+before-ok p (Some ps) h k = both_and (clean_piece p) (all clean_piece ps) h k
 
 item_then-ok : (o : Option (Item Piece)) (k : ℕ → Option (List Piece)) → ItemOk o → ((n : ℕ) → AllOk (k n)) → AllOk (item_then o k)
-item_then-ok none k h g = tt
-item_then-ok (some i) k h g = before-ok i.value (k i.more) h (g i.more)
+item_then-ok None k h g = tt
+item_then-ok (Some i) k h g = before-ok i.value (k i.more) h (g i.more)
 
 items-ok : (k : ℕ) (bs : List ℕ) → clean bs ≡ true → AllOk (items piece_at k bs)
 unfolding items
@@ -108,8 +108,8 @@ items-ok zero (b ∷ bs) h =
 items-ok (suc k) (b ∷ bs) h = items-ok k bs (and_both (not (eqb b 0)) (clean bs) h).1
 
 ok-pieces : (o : Option (List Piece)) → AllOk o → all clean_piece (pieces_of o) ≡ true
-ok-pieces none h = refl
-ok-pieces (some ps) h = h
+ok-pieces None h = refl
+ok-pieces (Some ps) h = h
 
 pub pieces-clean : (v : List ℕ) → clean v ≡ true → all clean_piece (pieces_of (pieces v)) ≡ true
 unfolding pieces
@@ -141,8 +141,8 @@ name-clean : (m : Member) → MemberClean m → clean (name_of m) ≡ true
 name-clean m h = last_clean (split_at 47 m.path) (split-clean 47 m.path h.path)
 
 abbrev MaybeClean : Option Member → Type 0
-MaybeClean none = Unit {0}
-MaybeClean (some m) = MemberClean m
+MaybeClean None = Unit {0}
+MaybeClean (Some m) = MemberClean m
 
 nth-clean : (n : ℕ) (ms : List Member) → all ok_member ms ≡ true → MaybeClean (nth n ms)
 nth-clean n [] h = tt
@@ -157,20 +157,20 @@ at_clean zero d g = tt
 at_clean (suc n) d g = nth-clean n (chain d) (chain-ok d g)
 
 of_clean : (o : Option Member) (f : Member → List ℕ) → ((m : Member) → MemberClean m → clean (f m) ≡ true) → MaybeClean o → clean (of_matched o f) ≡ true
-of_clean none f g h = refl
-of_clean (some m) f g h = g m h
+of_clean None f g h = refl
+of_clean (Some m) f g h = g m h
 
 or-clean : (o : Option (List ℕ)) → Clean o → clean (or_empty o) ≡ true
-or-clean none h = refl
-or-clean (some v) h = h
+or-clean None h = refl
+or-clean (Some v) h = h
 
 attr_at-clean : (k : List ℕ) (o : Option Member) → MaybeClean o → Clean (attr_at k o)
-attr_at-clean k none h = tt
-attr_at-clean k (some m) h = lookup-clean k m.attributes h.attributes
+attr_at-clean k None h = tt
+attr_at-clean k (Some m) h = lookup-clean k m.attributes h.attributes
 
 first-clean : (a b : Option (List ℕ)) → Clean a → Clean b → Clean (first_of a b)
-first-clean none b h k = k
-first-clean (some v) b h k = h
+first-clean None b h k = k
+first-clean (Some v) b h k = h
 
 digit_clean : (n : ℕ) → not (eqb (48 + n) 0) ≡ true
 digit_clean n = ap not (ne_eqb (48 + n) 0 (λ e. omega arith))

@@ -4,7 +4,7 @@ use Prim.Native.Nat.{ℕ, ◌-◌, ◌≤◌}
 use mathlib.Core.Path.{◌≡◌, sym, subst}
 use mathlib.Core.Bool.{true}
 use mathlib.Core.List.{List}
-use mathlib.Core.Option.{some}
+use Rattle.std.specs.Prelude.{Some}
 use native.Mathlib.Omega.{arith}
 use lib.Dec.{leb}
 use lib.ListN.{length, take, replicate}
@@ -50,11 +50,11 @@ module _ (dev out : List ℕ) (room : ℕ) (by : Bytes out) where
   unfolding newer_checked decode_old_for older older_checked decode_for
   newer-back =
       holds-seq (λ (_ : Unit {0}). leb fullest_outcome room ≡ true) BackOld (require (leb fullest_outcome room) (line 0 target_short)) _ (holds-require (leb fullest_outcome room) (line 0 target_short))
-      (λ _ full. holds-bind (λ (d : Device). D.decode dev ≡ some d) BackOld (found (D.decode dev) (line 0 device_bad)) _ (holds-found (D.decode dev) (line 0 device_bad))
-      (λ d is. holds-bind (λ (s : State). decode_old (length (chain d)) out ≡ some s) BackOld (found (decode_old (length (chain d)) out) (line 0 outcome_bad)) _ (holds-found (decode_old (length (chain d)) out) (line 0 outcome_bad))
+      (λ _ full. holds-bind (λ (d : Device). D.decode dev ≡ Some d) BackOld (found (D.decode dev) (line 0 device_bad)) _ (holds-found (D.decode dev) (line 0 device_bad))
+      (λ d is. holds-bind (λ (s : State). decode_old (length (chain d)) out ≡ Some s) BackOld (found (decode_old (length (chain d)) out) (line 0 outcome_bad)) _ (holds-found (decode_old (length (chain d)) out) (line 0 outcome_bad))
       (λ s at. answers d is s at)))
     where
-      answers : (d : Device) → D.decode dev ≡ some d → (s : State) → decode_old (length (chain d)) out ≡ some s → BackOld (O.encode s)
+      answers : (d : Device) → D.decode dev ≡ Some d → (s : State) → decode_old (length (chain d)) out ≡ Some s → BackOld (O.encode s)
       answers d is s at r h =
           let k = back_old (length (chain d)) out s by at in
           rw (le-leb fullest_old r h, is, there (length (chain d)) s k.good, k.plain-state, k.packs)
@@ -63,12 +63,12 @@ module _ (dev out : List ℕ) (room : ℕ) (by : Bytes out) where
   unfolding older_checked decode_for newer newer_checked decode_old_for
   older-back =
       holds-seq (λ (_ : Unit {0}). leb fullest_old room ≡ true) BackNew (require (leb fullest_old room) (line 0 target_short)) _ (holds-require (leb fullest_old room) (line 0 target_short))
-      (λ _ full. holds-bind (λ (d : Device). D.decode dev ≡ some d) BackNew (found (D.decode dev) (line 0 device_bad)) _ (holds-found (D.decode dev) (line 0 device_bad))
-      (λ d is. holds-bind (λ (s : State). O.decode (length (chain d)) out ≡ some s) BackNew (found (O.decode (length (chain d)) out) (line 0 outcome_bad)) _ (holds-found (O.decode (length (chain d)) out) (line 0 outcome_bad))
+      (λ _ full. holds-bind (λ (d : Device). D.decode dev ≡ Some d) BackNew (found (D.decode dev) (line 0 device_bad)) _ (holds-found (D.decode dev) (line 0 device_bad))
+      (λ d is. holds-bind (λ (s : State). O.decode (length (chain d)) out ≡ Some s) BackNew (found (O.decode (length (chain d)) out) (line 0 outcome_bad)) _ (holds-found (O.decode (length (chain d)) out) (line 0 outcome_bad))
       (λ s at. holds-seq (λ (_ : Unit {0}). plain s ≡ true) BackNew (require (plain s) (line 0 too_new)) _ (holds-require (plain s) (line 0 too_new))
       (λ _ p. answers d is s at p))))
     where
-      answers : (d : Device) → D.decode dev ≡ some d → (s : State) → O.decode (length (chain d)) out ≡ some s → plain s ≡ true → BackNew (encode_old s)
+      answers : (d : Device) → D.decode dev ≡ Some d → (s : State) → O.decode (length (chain d)) out ≡ Some s → plain s ≡ true → BackNew (encode_old s)
       answers d is s at p r h =
           rw (le-leb fullest_outcome r h, is, there_old (length (chain d)) out s by at p, (back (length (chain d)) out s by at).0)
 
@@ -89,8 +89,8 @@ module _ (dev out : List ℕ) (room : ℕ) (by : Bytes out) where
   newer-fits =
       let Q : List ℕ → Type 0 = λ made. length made ≤ room in
       holds-seq (λ (_ : Unit {0}). leb fullest_outcome room ≡ true) Q (require (leb fullest_outcome room) (line 0 target_short)) _ (holds-require (leb fullest_outcome room) (line 0 target_short))
-      (λ _ full. holds-bind (λ (d : Device). D.decode dev ≡ some d) Q (found (D.decode dev) (line 0 device_bad)) _ (holds-found (D.decode dev) (line 0 device_bad))
-      (λ d is. holds-bind (λ (s : State). decode_old (length (chain d)) out ≡ some s) Q (found (decode_old (length (chain d)) out) (line 0 outcome_bad)) _ (holds-found (decode_old (length (chain d)) out) (line 0 outcome_bad))
+      (λ _ full. holds-bind (λ (d : Device). D.decode dev ≡ Some d) Q (found (D.decode dev) (line 0 device_bad)) _ (holds-found (D.decode dev) (line 0 device_bad))
+      (λ d is. holds-bind (λ (s : State). decode_old (length (chain d)) out ≡ Some s) Q (found (decode_old (length (chain d)) out) (line 0 outcome_bad)) _ (holds-found (decode_old (length (chain d)) out) (line 0 outcome_bad))
       (λ s at. omega (arith, fits (length (chain d)) s (back_old (length (chain d)) out s by at).good, leb-true fullest_outcome room full))))
 
   pub newer-length : length (newer dev out room).bytes ≡ room
@@ -102,8 +102,8 @@ module _ (dev out : List ℕ) (room : ℕ) (by : Bytes out) where
   older-fits =
       let Q : List ℕ → Type 0 = λ made. length made ≤ room in
       holds-seq (λ (_ : Unit {0}). leb fullest_old room ≡ true) Q (require (leb fullest_old room) (line 0 target_short)) _ (holds-require (leb fullest_old room) (line 0 target_short))
-      (λ _ full. holds-bind (λ (d : Device). D.decode dev ≡ some d) Q (found (D.decode dev) (line 0 device_bad)) _ (holds-found (D.decode dev) (line 0 device_bad))
-      (λ d is. holds-bind (λ (s : State). O.decode (length (chain d)) out ≡ some s) Q (found (O.decode (length (chain d)) out) (line 0 outcome_bad)) _ (holds-found (O.decode (length (chain d)) out) (line 0 outcome_bad))
+      (λ _ full. holds-bind (λ (d : Device). D.decode dev ≡ Some d) Q (found (D.decode dev) (line 0 device_bad)) _ (holds-found (D.decode dev) (line 0 device_bad))
+      (λ d is. holds-bind (λ (s : State). O.decode (length (chain d)) out ≡ Some s) Q (found (O.decode (length (chain d)) out) (line 0 outcome_bad)) _ (holds-found (O.decode (length (chain d)) out) (line 0 outcome_bad))
       (λ s at. holds-seq (λ (_ : Unit {0}). plain s ≡ true) Q (require (plain s) (line 0 too_new)) _ (holds-require (plain s) (line 0 too_new))
       (λ _ p. omega (arith, old_size (length (chain d)) out s by at p, leb-true fullest_old room full)))))
 

@@ -4,7 +4,7 @@ use Prim.Native.Nat.{ℕ, suc, ◌+◌, ◌-◌, ◌≤◌, ◌<◌}
 use mathlib.Core.Path.{◌≡◌, refl, sym, ap, subst}
 use mathlib.Core.Bool.{Bool, true, false, not, ◌&&◌}
 use mathlib.Core.List.{List, [], ◌∷◌, map}
-use mathlib.Core.Option.{Option, none, some}
+use Rattle.std.specs.Prelude.{Option, None, Some}
 use native.Mathlib.Omega.{arith}
 use lib.ListN.{length, length-map}
 use lib.Dec.{leb, eqb}
@@ -315,12 +315,12 @@ module _ (d : Device) (dg : Sound d) where
     leaves_good w (ok s) h = h
 
     set_good : (o : Option Setting) (w : Work) → Range o → Good size w.state → Good size (set_by o w).state
-    set_good none w r g = g
-    set_good (some escape_none) w r g = g
-    set_good (some escape_replace) w r g = g
-    set_good (some watched) w r g = watch_good size w.state g 1 (omega arith)
-    set_good (some unwatched) w r g = watch_good size w.state g 2 (omega arith)
-    set_good (some (priority z)) w r g = priority_good size w.state g (from_signed z) (priority_small z r)
+    set_good None w r g = g
+    set_good (Some escape_none) w r g = g
+    set_good (Some escape_replace) w r g = g
+    set_good (Some watched) w r g = watch_good size w.state g 1 (omega arith)
+    set_good (Some unwatched) w r g = watch_good size w.state g 2 (omega arith)
+    set_good (Some (priority z)) w r g = priority_good size w.state g (from_signed z) (priority_small z r)
 
     -- a closed key is skipped
     skipped : (shut : Bool) (w : Work) (c : Checked Refusal Work) → GoodWork w → Holds GoodWork c → Holds {R = Refusal} GoodWork (elim shut [ true ↦ ok w | false ↦ c ])
@@ -370,8 +370,8 @@ module _ (d : Device) (dg : Sound d) where
   -- ---- the matched place is within the chain
 
   abbrev Near : ℕ → Option ℕ → Type 0
-  Near most none = Unit {0}
-  Near most (some n) = n ≤ most
+  Near most None = Unit {0}
+  Near most (Some n) = n ≤ most
 
   nearest_near : (n : ℕ) (ms : List Member) (r : Rule) (most : ℕ) → n + length ms ≤ suc most → Near most (nearest n ms r)
   unfolding nearest
@@ -426,21 +426,21 @@ module _ (d : Device) (dg : Sound d) where
       at true e = rw (e, stored) (output_good size s g (chomp r.output) okay)
       at false e = rw (e, stored) g
 
-  reply_okay : (c : List ℕ) (a : Sheet) → all ok_reply a ≡ true → (r : Reply) → reply_to c a ≡ some r → ok_reply r ≡ true
+  reply_okay : (c : List ℕ) (a : Sheet) → all ok_reply a ≡ true → (r : Reply) → reply_to c a ≡ Some r → ok_reply r ≡ true
   unfolding reply_to
   reply_okay c [] h r e = let z : ◌≡◌ {A = ℕ} 0 1 = cc in absurd (omega arith)
   reply_okay c (q ∷ a) h r e = at (same_bytes q.command c) refl (λ f. reply_okay c a (and_both (ok_reply q) (all ok_reply a) h).1 r f)
     where
-      at : (t : Bool) → same_bytes q.command c ≡ t → (reply_to c a ≡ some r → ok_reply r ≡ true) → ok_reply r ≡ true
-      at true f ih = let k : some q ≡ some r = rw f at e in let w : q ≡ r = cc in subst (λ (x : Reply). ok_reply x ≡ true) w (and_both (ok_reply q) (all ok_reply a) h).0
-      at false f ih = let k : reply_to c a ≡ some r = rw f at e in ih k
+      at : (t : Bool) → same_bytes q.command c ≡ t → (reply_to c a ≡ Some r → ok_reply r ≡ true) → ok_reply r ≡ true
+      at true f ih = let k : Some q ≡ Some r = rw f at e in let w : q ≡ r = cc in subst (λ (x : Reply). ok_reply x ≡ true) w (and_both (ok_reply q) (all ok_reply a) h).0
+      at false f ih = let k : reply_to c a ≡ Some r = rw f at e in ih k
 
   module _ (a : Sheet) (sound : all ok_reply a ≡ true) where
     asked-went : (place : ℕ) (p : Pair) → SoundPair p → (s : State) → Good size s → Went (asked a d place p s)
     unfolding asked
     asked-went place p sp s g =
         holds-bind (λ (t : List ℕ). clean t ≡ true) WentGood (filled false (source_of d place s) p.value) _ (filled-clean false place s p.value sp.value g)
-        (λ t _. holds-bind (λ (r : Reply). reply_to t a ≡ some r) WentGood (found (reply_to t a) command_missing) _ (holds-found (reply_to t a) command_missing)
+        (λ t _. holds-bind (λ (r : Reply). reply_to t a ≡ Some r) WentGood (found (reply_to t a) command_missing) _ (holds-found (reply_to t a) command_missing)
         (λ r e. stored_good r s (reply_okay t a sound r e) g))
 
     pair_went : (place : ℕ) (p : Pair) → SoundPair p → (s : State) → Good size s → Went (ask_pair a d place p s)
@@ -472,8 +472,8 @@ module _ (d : Device) (dg : Sound d) where
 
     step_at-went : (o : Option ℕ) (r : Rule) (s : State) → Near size o → SoundRule r → Good size s → Went (step_at o a d r s)
     unfolding step_at
-    step_at-went none r s near h g = g
-    step_at-went (some place) r s near h g =
+    step_at-went None r s near h g = g
+    step_at-went (Some place) r s near h g =
         holds-bind WentGood WentGood (ask_all a d place r s) (λ x. asked_then x (finished d place r)) (all-went place r h s g)
         (λ x k. then-went x (finished d place r) k (λ s' g'. finished-went place r near h s' g'))
 

@@ -4,7 +4,7 @@ use Prim.Native.Nat.{ℕ, ◌≤◌}
 use mathlib.Core.Path.{◌≡◌, refl}
 use mathlib.Core.Bool.{Bool}
 use mathlib.Core.List.{List, []}
-use mathlib.Core.Option.{some}
+use Rattle.std.specs.Prelude.{Some}
 use lib.ListN.{length}
 use Rattle.lists.specs.Bytes.{Bytes}
 use Rattle.lists.specs.Runs.{span}
@@ -41,7 +41,7 @@ empty_skipped : read_line [] ≡ skip
 unfolding read_line span
 empty_skipped = refl
 
-starts : (d : Device) (dev out : List ℕ) (s : State) → Bytes out → D.decode dev ≡ some d → decode_for d out ≡ some s → Fine d s
+starts : (d : Device) (dev out : List ℕ) (s : State) → Bytes out → D.decode dev ≡ Some d → decode_for d out ≡ Some s → Fine d s
 unfolding decode_for
 starts d dev out s by is at = (device.device_sound dev d is, (back (length (chain d)) out s by at).1)
 
@@ -49,7 +49,7 @@ keeps : (a : Sheet) → Sheets.Good a → (d : Device) (l : List ℕ) (r : Rule)
 keeps a ag d l r s s' held e (dg, g) w =
     (dg, step_good d dg a ag.each r s s' held (rule-sound l r e) g w)
 
-again : (d : Device) (s : State) → Fine d s → decode_for d (O.encode s) ≡ some s
+again : (d : Device) (s : State) → Fine d s → decode_for d (O.encode s) ≡ Some s
 unfolding decode_for
 again d s (dg, g) = there (length (chain d)) s g
 
@@ -84,7 +84,7 @@ ran-answer a room (refused f) = refl
 ran-answer a room (ok h) = refl
 
 -- with a sound sheet the public run is the run that the demand speaks of
-pub run_is : (text dev out sheet : List ℕ) (room : ℕ) (a : Sheet) → Sheets.decode sheet ≡ some a → run text dev out sheet room ≡ generic.run (engine a) text dev out room
+pub run_is : (text dev out sheet : List ℕ) (room : ℕ) (a : Sheet) → Sheets.decode sheet ≡ Some a → run text dev out sheet room ≡ generic.run (engine a) text dev out room
 unfolding run run_checked generic.run generic.run_checked
 run_is text dev out sheet room a e = rw e (ran-answer a room (generic.run_checked (engine a) text dev out room))
 
@@ -94,7 +94,7 @@ pub record OneSheet (sheet : List ℕ) : Type 1 where
   pub demand : Demand3 (engine answers)
   pub same : (text dev out : List ℕ) (room : ℕ) → run text dev out sheet room ≡ generic.run (engine answers) text dev out room
 
-pub one_sheet : (sheet : List ℕ) (a : Sheet) → Bytes sheet → Sheets.decode sheet ≡ some a → OneSheet sheet
+pub one_sheet : (sheet : List ℕ) (a : Sheet) → Bytes sheet → Sheets.decode sheet ≡ Some a → OneSheet sheet
 one_sheet sheet a by e =
     record {
       answers = a;

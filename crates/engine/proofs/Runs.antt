@@ -3,7 +3,7 @@
 use Prim.Native.Nat.{ℕ}
 use mathlib.Core.Path.{◌≡◌, refl, ap, ◌∙◌}
 use mathlib.Core.List.{List}
-use mathlib.Core.Option.{Option, none, some}
+use Rattle.std.specs.Prelude.{Option, None, Some}
 use lib.Dec.{leb}
 use lib.ListN.{length, length-replicate}
 use Rattle.lists.specs.Bytes.{Bytes}
@@ -35,7 +35,7 @@ module _ (text dev out sheet : List ℕ) (room : ℕ) where
   Never h = ⊥
 
   -- a faulty sheet refuses whatever is lent beside it
-  faulty-refused : Sheets.decode sheet ≡ none → Holds Never (run_checked text dev out sheet room)
+  faulty-refused : Sheets.decode sheet ≡ None → Holds Never (run_checked text dev out sheet room)
   unfolding run_checked
   faulty-refused e =
       holds-seq (λ (_ : Unit {0}). Unit {0}) Never (require (leb fullest_outcome room) (line 0 target_short)) _ (trivial (require (leb fullest_outcome room) (line 0 target_short)))
@@ -54,7 +54,7 @@ module _ (text dev out sheet : List ℕ) (room : ℕ) where
   run_length by bs = at (Sheets.decode sheet) refl
     where
       at : (o : Option Sheet) → Sheets.decode sheet ≡ o → length (run text dev out sheet room).bytes ≡ room
-      at none e = refused-length (run_checked text dev out sheet room) (faulty-refused e)
-      at (some a) e =
+      at None e = refused-length (run_checked text dev out sheet room) (faulty-refused e)
+      at (Some a) e =
           ap (λ (x : Answer). length x.bytes) (run_is text dev out sheet room a e)
           ∙ sanity.run_length (engine a) (engine-laws a (sheets.back sheet a bs e).good) text dev out room by

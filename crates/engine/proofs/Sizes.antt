@@ -4,7 +4,7 @@ use Prim.Native.Nat.{ℕ, suc, ◌-◌, ◌≤◌}
 use mathlib.Core.Path.{◌≡◌, refl, ap, ◌∙◌}
 use mathlib.Core.Bool.{Bool, true, false}
 use mathlib.Core.List.{List, [], ◌∷◌}
-use mathlib.Core.Option.{some}
+use Rattle.std.specs.Prelude.{Some}
 use native.Mathlib.Omega.{arith}
 use lib.Dec.{leb}
 use lib.ListN.{length, replicate, length-append, length-replicate}
@@ -42,7 +42,7 @@ unfolding fresh_checked
 fresh-fits dev room =
     let Q : List ℕ → Type 0 = λ made. length made ≤ room in
     holds-seq (λ (_ : Unit {0}). leb fullest_outcome room ≡ true) Q (require (leb fullest_outcome room) (line 0 target_short)) _ (holds-require (leb fullest_outcome room) (line 0 target_short))
-    (λ _ full. holds-bind (λ (d : Device). D.decode dev ≡ some d) Q (found (D.decode dev) (line 0 device_bad)) _ (holds-found (D.decode dev) (line 0 device_bad))
+    (λ _ full. holds-bind (λ (d : Device). D.decode dev ≡ Some d) Q (found (D.decode dev) (line 0 device_bad)) _ (holds-found (D.decode dev) (line 0 device_bad))
     (λ d is. omega (arith, fits (length (chain d)) (O.fresh d) (fresh_good dev d is), leb-true fullest_outcome room full)))
 
 pub fresh-length : (dev : List ℕ) (room : ℕ) → length (fresh dev room).bytes ≡ room
@@ -94,8 +94,8 @@ unfolding close_checked decode_for
 close-fits dev out room by =
     let Q : List ℕ → Type 0 = λ made. length made ≤ room in
     holds-seq (λ (_ : Unit {0}). leb fullest_run_list room ≡ true) Q (require (leb fullest_run_list room) (line 0 target_short)) _ (holds-require (leb fullest_run_list room) (line 0 target_short))
-    (λ _ full. holds-bind (λ (d : Device). D.decode dev ≡ some d) Q (found (D.decode dev) (line 0 device_bad)) _ (holds-found (D.decode dev) (line 0 device_bad))
-    (λ d is. holds-bind (λ (s : State). O.decode (length (chain d)) out ≡ some s) Q (found (O.decode (length (chain d)) out) (line 0 outcome_bad)) _ (holds-found (O.decode (length (chain d)) out) (line 0 outcome_bad))
+    (λ _ full. holds-bind (λ (d : Device). D.decode dev ≡ Some d) Q (found (D.decode dev) (line 0 device_bad)) _ (holds-found (D.decode dev) (line 0 device_bad))
+    (λ d is. holds-bind (λ (s : State). O.decode (length (chain d)) out ≡ Some s) Q (found (O.decode (length (chain d)) out) (line 0 outcome_bad)) _ (holds-found (O.decode (length (chain d)) out) (line 0 outcome_bad))
     (λ s at. holds-bind (Made (length s.runs)) Q (on_line 0 (commands d s.properties s.output s.runs)) _
     (holds-on_line (Made (length s.runs)) 0 (commands d s.properties s.output s.runs) (commands-made d s.properties s.output s.runs))
     (λ cs m. omega (arith, list_size (length s.runs) cs m (back (length (chain d)) out s by at).1.runs.few, leb-true fullest_run_list room full)))))

@@ -5,7 +5,7 @@ use Prim.Native.Nat.{ℕ, suc, ◌+◌, ◌*◌, ◌≤◌, zero-le}
 use mathlib.Core.Path.{◌≡◌, refl, sym, ap, ◌∙◌, subst}
 use mathlib.Core.Bool.{Bool, true, false, ◌&&◌}
 use mathlib.Core.List.{List, [], ◌∷◌}
-use mathlib.Core.Option.{none, some}
+use Rattle.std.specs.Prelude.{None, Some}
 use native.Mathlib.Omega.{arith}
 use lib.Dec.{leb}
 use lib.ListN.{length}
@@ -45,16 +45,16 @@ tried_small d r s = at (all_hold d s r && has_parents r) refl
     at false e = rw (e, tried) zero-le
 
 -- a rule that matches adds the place of its device, which is 0 where it has no parent keys
-pub tried-matched : (d : Device) (r : Rule) (s : State) (place : ℕ) → matched d s r ≡ some place → tried d r s ≡ place
+pub tried-matched : (d : Device) (r : Rule) (s : State) (place : ℕ) → matched d s r ≡ Some place → tried d r s ≡ place
 unfolding tried matched place_of
 tried-matched d r s place e = at (all_hold d s r) refl (has_parents r) refl
   where
     at : (t : Bool) → all_hold d s r ≡ t → (u : Bool) → has_parents r ≡ u → tried d r s ≡ place
     at true q true p =
-        let f : nearest 1 (chain d) r ≡ some place = rw (q, p, matched, place_of) at e in
+        let f : nearest 1 (chain d) r ≡ Some place = rw (q, p, matched, place_of) at e in
         rw (q, p, tried) (ap (place_or (length (chain d))) f)
-    at true q false p = let f : some 0 ≡ some place = rw (q, p, matched, place_of) at e in rw (q, p, tried) cc
-    at false q u p = let f : none ≡ some place = rw (q, matched) at e in let z : ◌≡◌ {A = ℕ} 0 1 = cc in absurd (omega arith)
+    at true q false p = let f : Some 0 ≡ Some place = rw (q, p, matched, place_of) at e in rw (q, p, tried) cc
+    at false q u p = let f : None ≡ Some place = rw (q, matched) at e in let z : ◌≡◌ {A = ℕ} 0 1 = cc in absurd (omega arith)
 
 -- ---- a run
 
@@ -70,9 +70,9 @@ unfolding ran
 ran_bounded n room (refused (line k f)) h = zero-le
 ran_bounded n room (ok a) h = h
 
-module _ (text dev out sheet : List ℕ) (room : ℕ) (d : Device) (is : D.decode dev ≡ some d) where
-  same : (e : Device) → D.decode dev ≡ some e → d ≡ e
-  same e at = let q : some d ≡ some e = sym is ∙ at in cc
+module _ (text dev out sheet : List ℕ) (room : ℕ) (d : Device) (is : D.decode dev ≡ Some d) where
+  same : (e : Device) → D.decode dev ≡ Some e → d ≡ e
+  same e at = let q : Some d ≡ Some e = sym is ∙ at in cc
 
   bounded : (a : Sheet) (e : Device) → d ≡ e → (s : State) (rs : List (Placed Rule)) → Holds (Bounded d) (run_from (engine a) e next s rs)
   bounded a e q s rs = subst (λ (x : Device). Holds (Bounded d) (run_from (engine a) x next s rs)) q (tried-within (engine a) d (length (chain d)) (tried_small d) rs next s)
@@ -82,7 +82,7 @@ module _ (text dev out sheet : List ℕ) (room : ℕ) (d : Device) (is : D.decod
   run_bounded =
       holds-seq (λ (_ : Unit {0}). Unit {0}) (Bounded d) (require (leb fullest_outcome room) (line 0 target_short)) _ (trivial (require (leb fullest_outcome room) (line 0 target_short)))
       (λ _ _. holds-bind (λ (_ : List (Placed Rule)). Unit {0}) (Bounded d) (read_text reader text) _ (trivial (read_text reader text))
-      (λ rs _. holds-bind (λ (e : Device). D.decode dev ≡ some e) (Bounded d) (found (D.decode dev) (line 0 device_bad)) _ (holds-found (D.decode dev) (line 0 device_bad))
+      (λ rs _. holds-bind (λ (e : Device). D.decode dev ≡ Some e) (Bounded d) (found (D.decode dev) (line 0 device_bad)) _ (holds-found (D.decode dev) (line 0 device_bad))
       (λ e at. holds-bind (λ (_ : State). Unit {0}) (Bounded d) (found (decode_for e out) (line 0 outcome_bad)) _ (trivial (found (decode_for e out) (line 0 outcome_bad)))
       (λ s _. holds-bind (λ (_ : Sheet). Unit {0}) (Bounded d) (found (Sheets.decode sheet) (line 0 sheet_bad)) _ (trivial (found (Sheets.decode sheet) (line 0 sheet_bad)))
       (λ a _. bounded a e (same e at) s rs)))))

@@ -1,7 +1,7 @@
 -- Document 01, Running: what an assignment does to the outcome, or why it is refused (30 to 36).
 -- Assumes nothing.
 use Rattle.std.specs.Prelude.{ℕ, Bool, true, false, not, ◌&&◌, ◌||◌, List, [], ◌∷◌, map, leb, length}
-use Rattle.std.proofs.Math.Option.{Option, none, some}
+use Rattle.std.specs.Prelude.{Option, None, Some}
 use Rattle.lists.specs.Lists.{pick, is_empty, reject}
 use Rattle.lists.specs.Bytes.{is_digit, holds, is_letter}
 use Rattle.lists.specs.Runs.{split_at}
@@ -184,13 +184,13 @@ valued e p s = do
 -- ---- OPTIONS
 
 abbrev pub set_by : Option Setting → Work → Work
-set_by none w = w
-set_by (some escape_none) w = record { state = w.state; escape = as_is }
-set_by (some escape_replace) w = record { state = w.state; escape = replaced }
+set_by None w = w
+set_by (Some escape_none) w = record { state = w.state; escape = as_is }
+set_by (Some escape_replace) w = record { state = w.state; escape = replaced }
 -- document 02, Item 5: it stays in the record, and the latest counts
-set_by (some watched) w = left w (with_watch w.state 1)
-set_by (some unwatched) w = left w (with_watch w.state 2)
-set_by (some (priority z)) w = left w (with_priority w.state (from_signed z))
+set_by (Some watched) w = left w (with_watch w.state 1)
+set_by (Some unwatched) w = left w (with_watch w.state 2)
+set_by (Some (priority z)) w = left w (with_priority w.state (from_signed z))
 
 -- ---- any key
 

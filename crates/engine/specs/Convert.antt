@@ -1,7 +1,7 @@
 -- Document 02, Item 5: the converters between the editions of the outcome record, as full answers; all refusals have line 0.
 -- Assumes nothing.
 use Rattle.std.specs.Prelude.{ℕ, List, leb, length}
-use Rattle.std.proofs.Math.Option.{Option}
+use Rattle.std.specs.Prelude.{Option}
 use Rattle.lists.specs.Checked.{Checked, ◌>>=◌, ◌>>◌, ok, require, found, Placed, line}
 use Rattle.lists.specs.Refusal.{Refusal, target_short, device_bad, outcome_bad, too_new}
 use Rattle.lists.specs.Sizes.{fullest_outcome, fullest_old}

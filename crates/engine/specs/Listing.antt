@@ -1,7 +1,7 @@
 -- Document 01, Examples: the listing of a run and its close, as bytes.
 -- Assumes nothing.
 use Rattle.std.specs.Prelude.{ℕ, suc, ◌+◌, ◌/◌, ◌%◌, not, ◌&&◌, List, [], ◌∷◌, ◌++◌, eqb, ltb, ℤ, pos, negsuc}
-use Rattle.std.proofs.Math.Option.{Option, none, some}
+use Rattle.std.specs.Prelude.{Option, None, Some}
 use Rattle.lists.specs.Lists.{pick, is_empty, cat}
 use Rattle.lists.specs.Bytes.{between}
 use Rattle.lists.specs.Checked.{Checked, refused, ok, ◌>>=◌, found, Placed, line, on_line}
@@ -42,8 +42,8 @@ line_of word text = word ++ (32 ∷ (text ++ (10 ∷ [])))
 
 abbrev pub mode_line : Option ℕ → List ℕ
 unfolding bytes
-mode_line none = []
-mode_line (some m) = line_of (bytes "mode") (four_octal m)
+mode_line None = []
+mode_line (Some m) = line_of (bytes "mode") (four_octal m)
 
 -- document 02, Item 5
 abbrev pub watch_line : ℕ → List ℕ
@@ -80,8 +80,8 @@ listing_of visited tried s cs =
 
 -- the record that a run starts from where none is given: the device's fresh one
 abbrev pub fresh_or : Option D.Device → List ℕ
-fresh_or none = []
-fresh_or (some d) = O.encode (O.fresh d)
+fresh_or None = []
+fresh_or (Some d) = O.encode (O.fresh d)
 
 -- a run from a record, then a close of what it left
 unfoldable pub listed : List ℕ → List ℕ → List ℕ → List ℕ → Checked (Placed Refusal) (List ℕ)

@@ -1,7 +1,7 @@
 -- Document 01, Running: when the match keys of a rule hold, and at which device of the chain its parent keys do.
 -- Assumes nothing.
 use Rattle.std.specs.Prelude.{ℕ, suc, Bool, true, false, not, ◌&&◌, List, [], ◌∷◌, length}
-use Rattle.std.proofs.Math.Option.{Option, none, some}
+use Rattle.std.specs.Prelude.{Option, None, Some}
 use Rattle.lists.specs.Lists.{pick, all, any}
 use Rattle.lists.specs.Runs.{trim, ends_in_space}
 use Rattle.entries.specs.Entry.{lookup, or_empty}
@@ -42,8 +42,8 @@ absent_holds p = judged p.op false
 
 -- Item 4: an attribute that may be absent; one of no bytes is present
 abbrev pub attr_judged : Pair → Option (List ℕ) → Bool
-attr_judged p none = absent_holds p
-attr_judged p (some a) = value_holds p (seen_by p.value a)
+attr_judged p None = absent_holds p
+attr_judged p (Some a) = value_holds p (seen_by p.value a)
 
 -- ATTR and ATTRS at one device
 unfoldable pub attr_holds : Pair → Member → Bool
@@ -148,23 +148,23 @@ parents_hold m r = all (λ p. parent_holds p.key m p) r
 
 -- the place, from n on, of the nearest device at which all of them hold
 unfoldable pub nearest : ℕ → List Member → Rule → Option ℕ
-nearest n [] r = none
-nearest n (m ∷ ms) r = elim (parents_hold m r) [ true ↦ some n | false ↦ nearest (suc n) ms r ]
+nearest n [] r = None
+nearest n (m ∷ ms) r = elim (parents_hold m r) [ true ↦ Some n | false ↦ nearest (suc n) ms r ]
 
 -- the place of the matched device: 0 for a rule with no parent keys, none if no device satisfies them
 unfoldable pub place_of : Device → Rule → Option ℕ
-place_of d r = elim (has_parents r) [ true ↦ nearest 1 (chain d) r | false ↦ some 0 ]
+place_of d r = elim (has_parents r) [ true ↦ nearest 1 (chain d) r | false ↦ Some 0 ]
 
 -- none if a key other than PROGRAM and RESULT does not hold; else the place of the matched device
 unfoldable pub matched : Device → State → Rule → Option ℕ
-matched d s r = elim (all_hold d s r) [ true ↦ place_of d r | false ↦ none ]
+matched d s r = elim (all_hold d s r) [ true ↦ place_of d r | false ↦ None ]
 
 -- ---- document 02, Item 9: the devices tried
 
 -- the place that a search found, or how many devices it went through in vain
 abbrev pub place_or : ℕ → Option ℕ → ℕ
-place_or n none = n
-place_or n (some place) = place
+place_or n None = n
+place_or n (Some place) = place
 
 -- for a rule with parent keys whose other keys hold; nothing for any other rule
 unfoldable pub tried : Device → Rule → State → ℕ

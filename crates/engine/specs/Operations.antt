@@ -1,7 +1,7 @@
 -- Document 01, Numbers given back: the public operations as full answers: a fresh record, a run, a close.
 -- Assumes nothing.
 use Rattle.std.specs.Prelude.{ℕ, Bool, false, List, [], ◌∷◌, ◌++◌, leb, length}
-use Rattle.std.proofs.Math.Option.{Option}
+use Rattle.std.specs.Prelude.{Option}
 use Rattle.lists.specs.Lists.{cat}
 use Rattle.lists.specs.Checked.{Checked, refused, ok, ◌>>=◌, ◌>>◌, require, found, Placed, line, on_line}
 use Rattle.lists.specs.Refusal.{Refusal, target_short, device_bad, outcome_bad, sheet_bad}

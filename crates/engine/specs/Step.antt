@@ -1,7 +1,7 @@
 -- Document 01, Running, and document 02, Item 6: one rule.
 -- Assumes nothing.
 use Rattle.std.specs.Prelude.{ℕ, true, false}
-use Rattle.std.proofs.Math.Option.{Option, none, some}
+use Rattle.std.specs.Prelude.{Option, None, Some}
 use Rattle.lists.specs.Checked.{Checked, refused, ok, ◌>>=◌}
 use Rattle.lists.specs.Refusal.{Refusal}
 use Rattle.rules.specs.Pair.{Rule}
@@ -27,8 +27,8 @@ finished d place r s = elim (results_hold s r) [ true ↦ ended (assign_all d pl
 
 -- all other keys first, then the programs
 unfoldable pub step_at : Option ℕ → Sheet → Device → Rule → State → Checked Refusal (Stepped State)
-step_at none a d r s = ok (went s false)
-step_at (some place) a d r s = ask_all a d place r s >>= λ x. asked_then x (finished d place r)
+step_at None a d r s = ok (went s false)
+step_at (Some place) a d r s = ask_all a d place r s >>= λ x. asked_then x (finished d place r)
 
 unfoldable pub step : Sheet → Device → Rule → State → Checked Refusal (Stepped State)
 step a d r s = step_at (matched d s r) a d r s

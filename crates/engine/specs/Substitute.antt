@@ -1,7 +1,7 @@
 -- Document 01, Patterns and templates: what each piece of a template inserts, and the substituted text.
 -- Assumes nothing.
 use Rattle.std.specs.Prelude.{ℕ, Bool, true, false, List, [], ◌∷◌, ◌++◌, map, leb, length}
-use Rattle.std.proofs.Math.Option.{Option, none, some}
+use Rattle.std.specs.Prelude.{Option, None, Some}
 use Rattle.lists.specs.Bytes.{no_space}
 use Rattle.lists.specs.Runs.{trim, end_digits}
 use Rattle.lists.specs.Checked.{Checked, refused, ok}
@@ -15,17 +15,17 @@ use Rattle.device.specs.Device.{Member, Device, name_of, attr_of, member_at}
 
 -- of the device at the matched place, if there is one
 abbrev pub of_matched : Option Member → (Member → List ℕ) → List ℕ
-of_matched none f = []
-of_matched (some m) f = f m
+of_matched None f = []
+of_matched (Some m) f = f m
 
 abbrev pub attr_at : List ℕ → Option Member → Option (List ℕ)
-attr_at k none = none
-attr_at k (some m) = attr_of k m
+attr_at k None = None
+attr_at k (Some m) = attr_of k m
 
 -- the event device's attribute if it is present, else the matched device's
 abbrev pub first_of : Option (List ℕ) → Option (List ℕ) → Option (List ℕ)
-first_of none b = b
-first_of (some v) b = some v
+first_of None b = b
+first_of (Some v) b = Some v
 
 -- where substitutions come from: the device, the matched place, the properties at that moment, the output stored by then (document 02, Item 6)
 pub record Source : Type 0 where
@@ -76,8 +76,8 @@ text_of spaceless c [] = []
 text_of spaceless c (p ∷ ps) = piece_text spaceless c p ++ text_of spaceless c ps
 
 abbrev pub pieces_of : Option (List Piece) → List Piece
-pieces_of none = []
-pieces_of (some ps) = ps
+pieces_of None = []
+pieces_of (Some ps) = ps
 
 unfoldable pub substituted : Bool → Source → List ℕ → List ℕ
 substituted spaceless c template = text_of spaceless c (pieces_of (pieces template))

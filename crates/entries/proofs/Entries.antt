@@ -4,7 +4,7 @@ use Prim.Native.Nat.{ℕ, suc, ◌+◌, ◌*◌, ◌≤◌}
 use mathlib.Core.Path.{◌≡◌, refl, sym, ap, ap₂, ◌∙◌, subst}
 use mathlib.Core.Bool.{Bool, true, false, ◌&&◌}
 use mathlib.Core.List.{List, [], ◌∷◌, ◌++◌, append_assoc}
-use mathlib.Core.Option.{Option, none, some}
+use Rattle.std.specs.Prelude.{Option, None, Some}
 use native.Mathlib.Omega.{arith}
 use lib.ListN.{length, take, drop, length-append, length-drop, take-append-drop}
 use lib.Seq.{take-append_seam, drop-append_seam, length-take-le, drop-drop, drop_at}
@@ -147,8 +147,8 @@ prop_value p h =
 
 -- a value that was found is one of the properties'
 abbrev pub Clean : Option (List ℕ) → Type 0
-Clean none = Unit {0}
-Clean (some v) = clean v ≡ true
+Clean None = Unit {0}
+Clean (Some v) = clean v ≡ true
 
 pick-clean : (t : Bool) (a b : Option (List ℕ)) → Clean a → Clean b → Clean (pick t a b)
 pick-clean true a b h k = h
@@ -158,7 +158,7 @@ pub lookup-clean : (k : List ℕ) (ps : List Property) → all ok_prop ps ≡ tr
 lookup-clean k [] h = tt
 lookup-clean k (p ∷ ps) h =
     let (a, b) = and_both (ok_prop p) (all ok_prop ps) h in
-    pick-clean (same_bytes p.key k) (some p.value) (lookup k ps) (prop_value p a) (lookup-clean k ps b)
+    pick-clean (same_bytes p.key k) (Some p.value) (lookup k ps) (prop_value p a) (lookup-clean k ps b)
 
 -- ---- sizes
 

@@ -1,7 +1,7 @@
 -- Document 01, Packed records: entries that records and sets hold, a text behind its length and a property.
 -- Assumes nothing.
 use Rattle.std.specs.Prelude.{ℕ, ◌+◌, Bool, true, false, ◌&&◌, List, [], ◌∷◌, ◌++◌, map, length, take, drop, leb}
-use Rattle.std.proofs.Math.Option.{Option, none, some}
+use Rattle.std.specs.Prelude.{Option, None, Some}
 use Rattle.lists.specs.Lists.{pick}
 use Rattle.lists.specs.Bytes.{same_bytes, clean, ok_text}
 use Rattle.lists.specs.Sizes.{most_key, most_value}
@@ -55,10 +55,10 @@ keys ps = map (λ (p : Property). p.key) ps
 
 -- the value under a key: absent and empty stay apart
 abbrev pub lookup : List ℕ → List Property → Option (List ℕ)
-lookup k [] = none
-lookup k (p ∷ ps) = pick (same_bytes p.key k) (some p.value) (lookup k ps)
+lookup k [] = None
+lookup k (p ∷ ps) = pick (same_bytes p.key k) (Some p.value) (lookup k ps)
 
 -- what is missing reads as the empty value
 abbrev pub or_empty : Option (List ℕ) → List ℕ
-or_empty none = []
-or_empty (some v) = v
+or_empty None = []
+or_empty (Some v) = v

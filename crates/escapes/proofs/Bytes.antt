@@ -3,16 +3,12 @@
 use Prim.Native.Nat.{ℕ, ◌+◌, ◌-◌, ◌<◌}
 use mathlib.Core.Path.{◌≡◌, refl, sym, ap, ◌∙◌}
 use mathlib.Core.List.{List}
-use mathlib.Core.Option.{none, some}
 use native.Mathlib.Omega.{arith}
-use borrow.Author.Tests.{eq-eqb, ne_eqb}
+use borrow.Author.Tests.{ne_eqb}
 use lib.ListN.{get_or, drop}
 use lib.Seq.{get_or-drop}
-use Rattle.lists.specs.Items.{Item}
 use Rattle.lists.proofs.Moves.{ap_at}
 use Rattle.rules.specs.Coded.{escapes, escape_in, hex_digit, hex_byte, taking, escaped}
-use Rattle.escapes.specs.declared.Taken.{Taken}
-use Rattle.escapes.specs.Answers.{taken_by}
 
 module _ (s : List ℕ) (at : ℕ) where
   behind : (k : ℕ) → get_or (drop (at + 1) s) k 0 ≡ get_or s (at + 1 + k) 0
@@ -29,10 +25,3 @@ module _ (s : List ℕ) (at : ℕ) where
 
   pub escape_letter : (get_or s (at + 1) 0 ≡ 120 → ⊥) → escaped (drop (at + 1) s) ≡ taking 1 (escape_in escapes (get_or s (at + 1) 0))
   escape_letter n = rw (letter, ne_eqb (get_or s (at + 1) 0) 120 n)
-
--- nothing is taken
-pub taken_none : (t : Taken) → t.width ≡ 0 → taken_by t ≡ none
-taken_none t e = rw (eq-eqb t.width 0 e)
-
-pub taken_some : (t : Taken) → (t.width ≡ 0 → ⊥) → taken_by t ≡ some (record { value = t.byte; more = t.width - 1 })
-taken_some t n = rw (ne_eqb t.width 0 n)

@@ -3,7 +3,7 @@
 use Prim.Native.Nat.{ℕ, ◌+◌, ◌-◌, ◌≤◌, ◌<◌}
 use mathlib.Core.Path.{◌≡◌, refl, sym, ap, ◌∙◌}
 use mathlib.Core.List.{List, [], ◌∷◌, ◌++◌, append_assoc, append-nil}
-use mathlib.Core.Option.{Option, none, some}
+use Rattle.std.specs.Prelude.{Option, None, Some}
 use native.Mathlib.Numerals.{add-one}
 use native.Mathlib.Omega.{arith}
 use borrow.Author.Tests.{eq-eqb, ne_eqb}
@@ -18,29 +18,28 @@ use Rattle.rules.proofs.Coded.{coded-close, coded_at, coded-bad}
 use Rattle.escapes.specs.declared.Taken.{Taken}
 use Rattle.escapes.specs.Values.{decoded, Written, PutAt}
 use Rattle.escapes.specs.Answers.{taken_by}
-use Rattle.escapes.proofs.Bytes.{taken_none, taken_some}
 use Rattle.escapes.proofs.Values.{decoded-is, written_is}
 
 -- a value whose first bytes are known
 abbrev after : List ℕ → Option (Part (List ℕ)) → Option (Part (List ℕ))
-after vs none = none
-after vs (some p) = some (record { value = vs ++ p.value; rest = p.rest })
+after vs None = None
+after vs (Some p) = Some (record { value = vs ++ p.value; rest = p.rest })
 
 after_none : (o : Option (Part (List ℕ))) → after [] o ≡ o
-after_none none = refl
-after_none (some p) = refl
+after_none None = refl
+after_none (Some p) = refl
 
 after-put : (vs : List ℕ) (b : ℕ) (o : Option (Part (List ℕ))) → after vs (put b o) ≡ after (vs ++ (b ∷ [])) o
-after-put vs b none = refl
-after-put vs b (some p) = ap (λ (v : List ℕ). some (record { value = v; rest = p.rest })) (sym (append_assoc vs (b ∷ []) p.value))
+after-put vs b None = refl
+after-put vs b (Some p) = ap (λ (v : List ℕ). Some (record { value = v; rest = p.rest })) (sym (append_assoc vs (b ∷ []) p.value))
 
 -- what is taken at a place, and where it goes on
-taken_at : (s : List ℕ) (i : ℕ) (t : Taken) → i < length s → (get_or s i 0 ≡ 34 → ⊥) → taken_by t ≡ coded_byte (get_or s i 0) (drop (i + 1) s) → (t.width ≡ 0 → ⊥)
-    → coded 0 (drop i s) ≡ put t.byte (coded 0 (drop (i + t.width) s))
-taken_at s i t h m e n =
-    let c = coded_at (get_or s i 0) (drop (i + 1) s) (record { value = t.byte; more = t.width - 1 }) (ne_eqb (get_or s i 0) 34 m) (sym e ∙ taken_some t n) in
+taken_at : (s : List ℕ) (i : ℕ) (t : Taken) → i < length s → (get_or s i 0 ≡ 34 → ⊥) → taken_by (Some t) ≡ coded_byte (get_or s i 0) (drop (i + 1) s)
+    → coded 0 (drop i s) ≡ put t.byte (coded 0 (drop (i + (1 + t.more)) s))
+taken_at s i t h m e =
+    let c = coded_at (get_or s i 0) (drop (i + 1) s) (record { value = t.byte; more = t.more }) (ne_eqb (get_or s i 0) 34 m) (sym e) in
     ap (coded 0) (rest_at s i h) ∙ c
-    ∙ ap (λ (l : List ℕ). put t.byte (coded 0 l)) (drop-drop (t.width - 1) (i + 1) s ∙ ap_at (λ k. drop k s) (i + 1 + (t.width - 1)) (i + t.width) (omega arith))
+    ∙ ap (λ (l : List ℕ). put t.byte (coded 0 l)) (drop-drop t.more (i + 1) s ∙ ap_at (λ k. drop k s) (i + 1 + t.more) (i + (1 + t.more)) (omega arith))
 
 -- a value that starts at a place is not closed before i, and n of its bytes are passed and put
 pub record Scans (s : List ℕ) (start : ℕ) (out₀ out : List ℕ) (i n : ℕ) : Type 0 where
@@ -67,34 +66,29 @@ module _ (s : List ℕ) (start : ℕ) (out₀ : List ℕ) where
   module _ (out : List ℕ) (i n : ℕ) (c : Scans s start out₀ out i n) where
     pub scan_closed : i < length s → get_or s i 0 ≡ 34 → Written s start i × (n ≡ length (decoded (part s start i))) × (n ≤ length out₀ → take n out ≡ decoded (part s start i))
     scan_closed h m =
-        let x : coded 0 (drop start s) ≡ some (record { value = c.values ++ []; rest = drop (i + 1) s }) =
+        let x : coded 0 (drop start s) ≡ Some (record { value = c.values ++ []; rest = drop (i + 1) s }) =
         c.whole ∙ ap (after c.values) (ap (coded 0) (rest_at s i h) ∙ coded-close (get_or s i 0) (drop (i + 1) s) (eq-eqb (get_or s i 0) 34 m)) in
         let v = decoded-is s start i (c.values ++ []) x c.from h ∙ append-nil c.values in
         (written_is s start i (c.values ++ []) x c.from h, c.size ∙ sym (ap length v), λ r. c.put r ∙ sym v)
 
-    pub scan_out : length s ≤ i → coded 0 (drop start s) ≡ none
+    pub scan_out : length s ≤ i → coded 0 (drop start s) ≡ None
     unfolding coded
     scan_out h = c.whole ∙ rw (drop_of_length-le s h)
 
-    module _ (t : Taken) (h : i < length s) (m : get_or s i 0 ≡ 34 → ⊥) (e : taken_by t ≡ coded_byte (get_or s i 0) (drop (i + 1) s)) where
-      pub scan_bad : t.width ≡ 0 → coded 0 (drop start s) ≡ none
-      scan_bad z =
-          c.whole ∙ ap (after c.values) (ap (coded 0) (rest_at s i h) ∙ coded-bad (get_or s i 0) (drop (i + 1) s) (ne_eqb (get_or s i 0) 34 m) (sym e ∙ taken_none t z))
+    module _ (h : i < length s) (m : get_or s i 0 ≡ 34 → ⊥) where
+      pub scan_bad : None ≡ coded_byte (get_or s i 0) (drop (i + 1) s) → coded 0 (drop start s) ≡ None
+      scan_bad e =
+          c.whole ∙ ap (after c.values) (ap (coded 0) (rest_at s i h) ∙ coded-bad (get_or s i 0) (drop (i + 1) s) (ne_eqb (get_or s i 0) 34 m) (sym e))
 
-      pub scan_next : (t.width ≡ 0 → ⊥) → (out' : List ℕ) → PutAt n t.byte out out' → Scans s start out₀ out' (i + t.width) (n + 1)
-      scan_next z out' p =
-          let w : 0 < t.width = positive t.width z in
-          record {
-            from = omega (arith, c.from);
-            counted = omega (arith, c.counted);
-            values = c.values ++ (t.byte ∷ []);
-            size = omega (arith, c.size, length-append c.values (t.byte ∷ []));
-            whole = c.whole ∙ ap (after c.values) (taken_at s i t h m e z) ∙ after-put c.values t.byte (coded 0 (drop (i + t.width) s));
-            kept = p.size ∙ c.kept;
-            put = λ r.
-                let k : n < length out = omega (arith, c.kept) in
-                ap (take (n + 1)) (p.is k) ∙ rw (add-one n, take-suc-set out n t.byte k) (ap (λ (l : List ℕ). l ++ (t.byte ∷ [])) (c.put (omega arith)));
-          }
-        where
-          positive : (k : ℕ) → (k ≡ 0 → ⊥) → 0 < k
-          positive k f = omega arith
+      pub scan_next : (t : Taken) → taken_by (Some t) ≡ coded_byte (get_or s i 0) (drop (i + 1) s) → (out' : List ℕ) → PutAt n t.byte out out' → Scans s start out₀ out' (i + (1 + t.more)) (n + 1)
+      scan_next t e out' p = record {
+        from = omega (arith, c.from);
+        counted = omega (arith, c.counted);
+        values = c.values ++ (t.byte ∷ []);
+        size = omega (arith, c.size, length-append c.values (t.byte ∷ []));
+        whole = c.whole ∙ ap (after c.values) (taken_at s i t h m e) ∙ after-put c.values t.byte (coded 0 (drop (i + (1 + t.more)) s));
+        kept = p.size ∙ c.kept;
+        put = λ r.
+            let k : n < length out = omega (arith, c.kept) in
+            ap (take (n + 1)) (p.is k) ∙ rw (add-one n, take-suc-set out n t.byte k) (ap (λ (l : List ℕ). l ++ (t.byte ∷ [])) (c.put (omega arith)));
+      }

@@ -3,7 +3,7 @@
 use Prim.Native.Nat.{ℕ, ◌+◌, ◌-◌, ◌≤◌, ◌<◌}
 use mathlib.Core.Path.{◌≡◌, refl, sym, ap, ◌∙◌}
 use mathlib.Core.List.{List, [], ◌∷◌, ◌++◌}
-use mathlib.Core.Option.{some}
+use Rattle.std.specs.Prelude.{Some}
 use native.Mathlib.Omega.{arith}
 use lib.ListN.{length, take, drop, length-drop, length-append}
 use lib.Seq.{take_at}
@@ -13,7 +13,7 @@ use Rattle.rules.specs.Coded.{coded}
 use Rattle.rules.proofs.Coded.{coded-written}
 use Rattle.escapes.specs.Values.{value_or, decoded, Written}
 
-module _ (line : List ℕ) (s e : ℕ) (v : List ℕ) (h : coded 0 (drop s line) ≡ some (record { value = v; rest = drop (e + 1) line })) (from : s ≤ e) (within : e < length line) where
+module _ (line : List ℕ) (s e : ℕ) (v : List ℕ) (h : coded 0 (drop s line) ≡ Some (record { value = v; rest = drop (e + 1) line })) (from : s ≤ e) (within : e < length line) where
   abbrev here : Part (List ℕ)
   here = record { value = v; rest = drop (e + 1) line }
 

@@ -1,17 +1,21 @@
 -- How a name ends, and which of two comes first.
 -- Assumes nothing.
-use Prim.Native.Nat.{ℕ, suc, ◌+◌, ◌-◌, ◌≤◌, ◌<◌}
-use mathlib.Core.Path.{◌≡◌, refl, ap, ap₂, ◌∙◌}
+use Prim.Native.Nat.{ℕ, suc, ◌-◌, ◌≤◌, ◌<◌}
+use mathlib.Core.Path.{◌≡◌, refl, sym, ap, ap₂, ◌∙◌}
 use mathlib.Core.Bool.{Bool, true, false, ◌&&◌, ◌||◌}
 use mathlib.Core.List.{List, [], ◌∷◌}
 use native.Mathlib.Omega.{arith}
-use borrow.Author.Tests.{lt-ltb, le-ltb, ltb-true, ltb-false, eq-eqb, ne_eqb, eqb-true, eqb-false}
-use lib.Dec.{eqb, ltb}
-use lib.ListN.{length, drop, get_or, drop_of_length-le}
+use borrow.Author.Tests.{leb-true, leb-false, eqb-true, eqb-false}
+use lib.Dec.{eqb, leb, ltb}
+use lib.ListN.{length, drop}
 use Rattle.lists.specs.Bytes.{same_bytes}
 use Rattle.lists.proofs.Moves.{ap_at}
-use Rattle.lists.proofs.Rest.{rest_at}
 use Rattle.scan.proofs.Equality.{same-unequal}
+use Rattle.std.specs.Cmp.Lexicographic.{slice_cmp}
+use Rattle.std.specs.Ordering.{is_lt, ordering_then, nat_cmp}
+use Rattle.std.specs.declared.cmp.Ordering.{Ordering}
+use Rattle.std.specs.declared.cmp.Ordering.TheVariants.{Less, Equal, Greater}
+use Rattle.std.specs.Prelude.{cond}
 use Rattle.files.specs.Files.{ends_in, before}
 
 pub and-true : (t : Bool) → (t && true) ≡ t
@@ -48,36 +52,27 @@ ends-long e (b ∷ bs) h = ends-cons e b bs ∙ at (eqb (length e) (suc (length 
         ap (λ (t : Bool). t || ends_in e bs) (same-unequal e (b ∷ bs) other) ∙ ih (omega arith)
         ∙ ap_at (λ k. same_bytes e (drop k (b ∷ bs))) (suc (length bs - length e)) (suc (length bs) - length e) (omega arith)
 
--- ---- one name before another, from byte i on
+pub ends-with : (e bs : List ℕ) → same_bytes e (drop (length bs - length e) bs) ≡ ends_in e bs
+ends-with e bs = at (leb (length e) (length bs)) refl
+  where
+    at : (t : Bool) → leb (length e) (length bs) ≡ t → same_bytes e (drop (length bs - length e) bs) ≡ ends_in e bs
+    at true h = sym (ends-long e bs (leb-true (length e) (length bs) h))
+    at false h =
+        let short = leb-false (length e) (length bs) h in
+        ap_at (λ k. same_bytes e (drop k bs)) (length bs - length e) 0 (omega arith)
+        ∙ same-unequal e bs (λ q. absurd (omega arith))
+        ∙ sym (ends_short e bs (omega arith))
 
-module _ (a b : List ℕ) (i : ℕ) where
-  pub before_out : i < length a → length b ≤ i → before (drop i a) (drop i b) ≡ false
-  unfolding before
-  before_out h k = rw (rest_at a i h, drop_of_length-le b k)
+-- ---- one name before another
 
-  pub before-end : length a ≤ i → before (drop i a) (drop i b) ≡ ltb i (length b)
-  before-end h = ap (λ (x : List ℕ). before x (drop i b)) (drop_of_length-le a h) ∙ at (ltb i (length b)) refl
-    where
-      at : (t : Bool) → ltb i (length b) ≡ t → before [] (drop i b) ≡ ltb i (length b)
-      at true e = unfold before in rw (rest_at b i (ltb-true i (length b) e), e)
-      at false e = unfold before in rw (drop_of_length-le b (ltb-false i (length b) e), e)
+lt-then : (t u : Bool) (o : Ordering) → is_lt (ordering_then (cond t Less (cond u Equal Greater)) o) ≡ (t || (u && is_lt o))
+lt-then true u o = refl
+lt-then false true o = refl
+lt-then false false o = refl
 
-  module _ (h : i < length a) (k : i < length b) where
-    abbrev x : ℕ
-    x = get_or a i 0
-
-    abbrev y : ℕ
-    y = get_or b i 0
-
-    by_bytes : before (drop i a) (drop i b) ≡ (ltb x y || (eqb x y && before (drop (i + 1) a) (drop (i + 1) b)))
-    unfolding before
-    by_bytes = rw (rest_at a i h, rest_at b i k)
-
-    pub before_less : x < y → before (drop i a) (drop i b) ≡ true
-    before_less l = by_bytes ∙ rw (lt-ltb x y l)
-
-    pub before_more : y < x → before (drop i a) (drop i b) ≡ false
-    before_more l = by_bytes ∙ rw (le-ltb x y (omega arith), ne_eqb x y (λ (e : x ≡ y). absurd (omega arith)))
-
-    pub before_on : y ≤ x → x ≤ y → before (drop i a) (drop i b) ≡ before (drop (i + 1) a) (drop (i + 1) b)
-    before_on l m = by_bytes ∙ rw (le-ltb x y l, eq-eqb x y (omega arith))
+pub before-cmp : (a b : List ℕ) → is_lt (slice_cmp nat_cmp a b) ≡ before a b
+unfolding before
+before-cmp [] [] = refl
+before-cmp [] (y ∷ ys) = refl
+before-cmp (x ∷ xs) [] = refl
+before-cmp (x ∷ xs) (y ∷ ys) = lt-then (ltb x y) (eqb x y) (slice_cmp nat_cmp xs ys) ∙ ap (λ (t : Bool). ltb x y || (eqb x y && t)) (before-cmp xs ys)

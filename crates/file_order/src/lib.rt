@@ -16,10 +16,8 @@ fn same_file(set: &[u8], p: usize, q: usize) -> bool
     requires { Stands set.now p × Stands set.now q }
     ensures { result ≡ same_file (file_at set.now p) (file_at set.now q) }
 {
-    if file_rows::rank_of(set, p) != file_rows::rank_of(set, q) {
-        return false;
-    }
-    scan::same(file_rows::name_of(set, p), file_rows::name_of(set, q))
+    file_rows::rank_of(set, p) == file_rows::rank_of(set, q)
+        && file_rows::name_of(set, p) == file_rows::name_of(set, q)
 }
 
 // File i comes again behind it.
@@ -28,12 +26,10 @@ fn comes_again(set: &[u8], starts: &[usize], n: usize, i: usize) -> bool
     ensures { result ≡ any (same_file (file_at set.now (get_or starts.now i 0))) (drop (i + 1) (files_at set.now starts.now n)) }
 {
     let p = starts[i];
-    let mut j = i + 1;
-    while j < n {
+    for j in i + 1..n {
         if same_file(set, p, starts[j]) {
             return true;
         }
-        j += 1;
     }
     false
 }
@@ -43,12 +39,10 @@ pub fn doubled(set: &[u8], starts: &[usize], n: usize) -> bool
     requires { Lies set.now starts.now n }
     ensures { result ≡ twice (files_at set.now starts.now n) }
 {
-    let mut i: usize = 0;
-    while i < n {
+    for i in 0..n {
         if comes_again(set, starts, n, i) {
             return true;
         }
-        i += 1;
     }
     false
 }
@@ -58,11 +52,7 @@ pub fn doubled(set: &[u8], starts: &[usize], n: usize) -> bool
 fn is_rules(name: &[u8]) -> bool
     ensures { result ≡ ends_in (bytes ".rules") name.now }
 {
-    let end = name.len();
-    if end < 6 {
-        return false;
-    }
-    scan::same(b".rules", &name[end - 6..])
+    name.ends_with(b".rules")
 }
 
 // The second file has the name of the first and a higher rank.
@@ -70,22 +60,18 @@ fn is_above(set: &[u8], p: usize, q: usize) -> bool
     requires { Stands set.now p × Stands set.now q }
     ensures { result ≡ above (file_at set.now p) (file_at set.now q) }
 {
-    if file_rows::rank_of(set, p) <= file_rows::rank_of(set, q) {
-        return false;
-    }
-    scan::same(file_rows::name_of(set, q), file_rows::name_of(set, p))
+    file_rows::rank_of(set, q) < file_rows::rank_of(set, p)
+        && file_rows::name_of(set, q) == file_rows::name_of(set, p)
 }
 
 fn any_above(set: &[u8], starts: &[usize], n: usize, p: usize) -> bool
     requires { Lies set.now starts.now n × Stands set.now p }
     ensures { result ≡ any (above (file_at set.now p)) (files_at set.now starts.now n) }
 {
-    let mut j: usize = 0;
-    while j < n {
+    for j in 0..n {
         if is_above(set, p, starts[j]) {
             return true;
         }
-        j += 1;
     }
     false
 }
@@ -94,10 +80,7 @@ fn loses(set: &[u8], starts: &[usize], n: usize, p: usize) -> bool
     requires { Lies set.now starts.now n × Stands set.now p }
     ensures { result ≡ loses_among (files_at set.now starts.now n) (file_at set.now p) }
 {
-    if !is_rules(file_rows::name_of(set, p)) {
-        return true;
-    }
-    any_above(set, starts, n, p)
+    !is_rules(file_rows::name_of(set, p)) || any_above(set, starts, n, p)
 }
 
 // ---- their order
@@ -105,20 +88,7 @@ fn loses(set: &[u8], starts: &[usize], n: usize, p: usize) -> bool
 fn comes_before(a: &[u8], b: &[u8]) -> bool
     ensures { result ≡ before a.now b.now }
 {
-    let mut i: usize = 0;
-    while i < a.len() {
-        if b.len() <= i {
-            return false;
-        }
-        if a[i] < b[i] {
-            return true;
-        }
-        if b[i] < a[i] {
-            return false;
-        }
-        i += 1;
-    }
-    i < b.len()
+    a.iter().cmp(b.iter()).is_lt()
 }
 
 // Where a file belongs among k files that are in order.
@@ -127,15 +97,13 @@ fn place_of(set: &[u8], starts: &[usize], n: usize, order: &[u8], k: usize, p: u
     ensures { (result ≡ place_in (file_at set.now p) (chosen set.now starts.now order.now k)) × (result ≤ k) }
 {
     let name = file_rows::name_of(set, p);
-    let mut j: usize = 0;
-    while j < k {
-        let i = scan::wide(order[j]);
+    for j in 0..k {
+        let i = usize::from(order[j]);
         if comes_before(name, file_rows::name_of(set, starts[i])) {
             return j;
         }
-        j += 1;
     }
-    j
+    k
 }
 
 fn byte(n: usize) -> u8
@@ -155,20 +123,18 @@ fn take_file(set: &[u8], starts: &[usize], n: usize, order: &mut [u8], k: usize,
         return k;
     }
     let at = place_of(set, starts, n, order, k, p);
-    let number = [byte(i)];
-    splice::insert(order, at, k, &number);
+    splice::insert(order, at, k, &[byte(i)]);
     k + 1
 }
 
 // The numbers of the files that count, in the order of their names; and how many they are.
+// By hand, since the library's sort asks for an order of any two numbers, and only those of files have names.
 pub fn winners(set: &[u8], starts: &[usize], n: usize, order: &mut [u8]) -> usize
     requires { Lies set.now starts.now n × (n < 256) × (n ≤ length order.old) }
     ensures { WinnersAre set.now starts.now n order.new result }
 {
-    let mut k: usize = 0;
-    let mut i = n;
-    while 0 < i {
-        i -= 1;
+    let mut k = 0;
+    for i in (0..n).rev() {
         k = take_file(set, starts, n, order, k, i);
     }
     k

@@ -4,7 +4,7 @@ use Prim.Native.Nat.{ℕ, ◌+◌, ◌-◌, ◌≤◌, ◌<◌}
 use mathlib.Core.Path.{◌≡◌, refl, sym, ap, ◌∙◌, subst}
 use mathlib.Core.Bool.{Bool, true, false}
 use mathlib.Core.List.{List, [], ◌∷◌, ◌++◌, map, append_assoc, append-nil}
-use mathlib.Core.Option.{none, some}
+use Rattle.std.specs.Prelude.{None, Some}
 use native.Mathlib.Omega.{arith}
 use native.Mathlib.Numerals.{add-one}
 use borrow.Author.Tests.{ltb-true, ltb-false, eq-eqb, ne_eqb}
@@ -28,7 +28,7 @@ pub record Found (bytes starts : List ℕ) (p i n : ℕ) : Type 0 where
   pub room : length starts ≡ most_files
   pub stand : AllStand bytes starts i
   pub whole : is_whole one_file (n - i) (drop p bytes) ≡ is_some (decode_files bytes)
-  pub left : (fs : List File) → decode_files bytes ≡ some fs → (gs : List File) × (fs ≡ files_at bytes starts i ++ gs) × (many one_file (n - i) (drop p bytes) ≡ got gs [])
+  pub left : (fs : List File) → decode_files bytes ≡ Some fs → (gs : List File) × (fs ≡ files_at bytes starts i ++ gs) × (many one_file (n - i) (drop p bytes) ≡ got gs [])
 
 pub found_first : (bytes starts : List ℕ) (n : ℕ) → 1 ≤ length bytes → n ≡ get_or bytes 0 0 → n ≤ most_files → length starts ≡ most_files → Found bytes starts 1 0 n
 found_first bytes starts n h e m r =
@@ -43,7 +43,7 @@ found_first bytes starts n h e m r =
     }
 
 module _ (bytes starts : List ℕ) (p i n : ℕ) (w : Found bytes starts p i n) (more : i < n) where
-  pub found-bad : one_file (drop p bytes) ≡ bad → decode_files bytes ≡ none
+  pub found-bad : one_file (drop p bytes) ≡ bad → decode_files bytes ≡ None
   found-bad e = is_none (decode_files bytes) (sym w.whole ∙ walk.turn-bad one_file (n - i) (drop p bytes) (omega arith) e)
 
   module _ (q : ℕ) (is : FileIs bytes p q) where
@@ -97,7 +97,7 @@ module _ (bytes starts : List ℕ) (p i n : ℕ) (w : Found bytes starts p i n) 
   ended : p ≡ length bytes → is_some (decode_files bytes) ≡ true
   ended e = sym w.whole ∙ walk.end_whole one_file bytes p (n - i) (omega arith) w.within ∙ eq-eqb p (length bytes) e
 
-  pub found-behind : (p ≡ length bytes → ⊥) → decode_files bytes ≡ none
+  pub found-behind : (p ≡ length bytes → ⊥) → decode_files bytes ≡ None
   found-behind e = is_none (decode_files bytes) (sym w.whole ∙ walk.end_whole one_file bytes p (n - i) (omega arith) w.within ∙ ne_eqb p (length bytes) e)
 
   pub found_all : p ≡ length bytes → FilesIn bytes starts n
@@ -110,5 +110,5 @@ module _ (bytes starts : List ℕ) (p i n : ℕ) (w : Found bytes starts p i n) 
       record {
         few = w.most;
         stand = λ k l. w.stand k (omega arith);
-        files = d ∙ ap some (f ∙ ap (λ (x : List File). files_at bytes starts i ++ x) (sym empty) ∙ append-nil (files_at bytes starts i) ∙ ap (files_at bytes starts) same);
+        files = d ∙ ap Some (f ∙ ap (λ (x : List File). files_at bytes starts i ++ x) (sym empty) ∙ append-nil (files_at bytes starts i) ∙ ap (files_at bytes starts) same);
       }

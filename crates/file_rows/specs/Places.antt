@@ -1,18 +1,12 @@
 -- Where the files of a lent set stand, as code reads them.
 -- Assumes nothing.
 use Rattle.std.specs.Prelude.{ℕ, ◌+◌, ◌≤◌, ◌<◌, ◌≡◌, List, [], map, length, take, drop, get_or}
-use Rattle.std.proofs.Math.Option.{none, some}
+use Rattle.std.specs.Prelude.{Option, None, Some}
 use Rattle.entries.specs.Parse.{Parse, got, bad}
 use Rattle.entries.specs.Entry.{one_text}
 use Rattle.files.specs.Files.{File, most_files, ok_name, file_of, one_file, decode_files}
 use Rattle.set_rows.specs.Places.{bytes_in, Inside}
 use Rattle.set_rows.specs.declared.Part.{Part}
-use Rattle.set_rows.specs.declared.PartRead.{PartRead}
-use Rattle.set_rows.specs.declared.PartRead.TheVariants as part
-use Rattle.file_rows.specs.declared.FileRead.{FileRead}
-use Rattle.file_rows.specs.declared.FileRead.TheVariants as file
-use Rattle.file_rows.specs.declared.FilesFound.{FilesFound}
-use Rattle.file_rows.specs.declared.FilesFound.TheVariants as found
 
 -- ---- a name
 
@@ -29,9 +23,9 @@ pub record NameIs (set : List ℕ) (p : ℕ) (r : Part) : Type 0 where
   pub inside : Inside set r
   pub read : one_text ok_name (drop p set) ≡ got (bytes_in set r) (drop r.end set)
 
-abbrev pub NameReads : List ℕ → ℕ → PartRead → Type 0
-NameReads set p (part.Inside r) = NameIs set p r
-NameReads set p part.Outside = one_text ok_name (drop p set) ≡ bad
+abbrev pub NameReads : List ℕ → ℕ → Option Part → Type 0
+NameReads set p (Some r) = NameIs set p r
+NameReads set p None = one_text ok_name (drop p set) ≡ bad
 
 -- ---- a file
 
@@ -55,9 +49,9 @@ pub record FileIs (set : List ℕ) (p q : ℕ) : Type 0 where
   pub stands : Stands set p
   pub read : one_file (drop p set) ≡ got (file_at set p) (drop q set)
 
-abbrev pub FileReads : List ℕ → ℕ → FileRead → Type 0
-FileReads set p (file.Inside q) = FileIs set p q
-FileReads set p file.Outside = one_file (drop p set) ≡ bad
+abbrev pub FileReads : List ℕ → ℕ → Option ℕ → Type 0
+FileReads set p (Some q) = FileIs set p q
+FileReads set p None = one_file (drop p set) ≡ bad
 
 -- ---- the set
 
@@ -73,8 +67,8 @@ AllStand set starts n = (i : ℕ) → i < n → Stands set (get_or starts i 0)
 pub record FilesIn (set starts : List ℕ) (n : ℕ) : Type 0 where
   pub few : n ≤ most_files
   pub stand : AllStand set starts n
-  pub files : decode_files set ≡ some (files_at set starts n)
+  pub files : decode_files set ≡ Some (files_at set starts n)
 
-abbrev pub FilesAre : List ℕ → List ℕ → FilesFound → Type 0
-FilesAre set starts (found.Files n) = FilesIn set starts n
-FilesAre set starts found.Outside = decode_files set ≡ none
+abbrev pub FilesAre : List ℕ → List ℕ → Option ℕ → Type 0
+FilesAre set starts (Some n) = FilesIn set starts n
+FilesAre set starts None = decode_files set ≡ None

@@ -6,7 +6,7 @@ ghost use Rattle.std.specs.Prelude.{◌≡◌, ◌≤◌, ◌<◌, length};
 ghost use Rattle.files.specs.Files.{most_files};
 ghost use Rattle.file_rows.specs.Places.{file_at, Stands, NameFrom, NameIs, NameReads, FileReads, FilesAre};
 
-use set_rows::{Part, PartRead};
+use set_rows::Part;
 
 pub const MOST_FILES: usize = 32;
 
@@ -24,31 +24,25 @@ fn name_in(set: &[u8], p: usize) -> Part
     let start = p + 1;
     Part {
         start,
-        end: start + scan::wide(set[p]),
+        end: start + usize::from(set[p]),
     }
 }
 
 // The one at any place, of 1 to 64 bytes, if the set reaches so far.
-fn name_at(set: &[u8], p: usize) -> PartRead
+fn name_at(set: &[u8], p: usize) -> Option<Part>
     requires { p ≤ length set.now }
     ensures { NameReads set.now p result }
 {
     let room = set.len() - p;
     if room < 1 {
-        return PartRead::Outside;
+        return None;
     }
-    let len = scan::wide(set[p]);
-    if room - 1 < len {
-        return PartRead::Outside;
-    }
-    if len < 1 {
-        return PartRead::Outside;
-    }
-    if MOST_NAME < len {
-        return PartRead::Outside;
+    let len = usize::from(set[p]);
+    if room - 1 < len || len < 1 || MOST_NAME < len {
+        return None;
     }
     let start = p + 1;
-    PartRead::Inside(Part {
+    Some(Part {
         start,
         end: start + len,
     })
@@ -56,31 +50,20 @@ fn name_at(set: &[u8], p: usize) -> PartRead
 
 // ---- a file
 
-// Where the next file begins.
-#[derive(Drop)]
-pub enum FileRead {
-    Inside(usize),
-    Outside,
-}
-
-// The file at any place, if the set reaches so far.
-fn file_at(set: &[u8], p: usize) -> FileRead
+// Where the file at any place ends, if the set reaches so far.
+fn file_at(set: &[u8], p: usize) -> Option<usize>
     requires { p ≤ length set.now }
     ensures { FileReads set.now p result }
 {
     if set.len() <= p {
-        return FileRead::Outside;
+        return None;
     }
-    let PartRead::Inside(name) = name_at(set, p + 1) else {
-        return FileRead::Outside;
-    };
-    let PartRead::Inside(text) = set_rows::long_at(set, name.end) else {
-        return FileRead::Outside;
-    };
-    if LAST_RANK < scan::wide(set[p]) {
-        return FileRead::Outside;
+    let name = name_at(set, p + 1)?;
+    let text = set_rows::long_at(set, name.end)?;
+    if LAST_RANK < usize::from(set[p]) {
+        return None;
     }
-    FileRead::Inside(text.end)
+    Some(text.end)
 }
 
 // Of the file that is known to stand at a place.
@@ -88,7 +71,7 @@ pub fn rank_of(set: &[u8], p: usize) -> usize
     requires { Stands set.now p }
     ensures { result ≡ (file_at set.now p).rank }
 {
-    scan::wide(set[p])
+    usize::from(set[p])
 }
 
 pub fn name_of<'a>(set: &'a [u8], p: usize) -> &'a [u8]
@@ -108,37 +91,22 @@ pub fn text_of<'a>(set: &'a [u8], p: usize) -> &'a [u8]
 
 // ---- the set
 
-#[derive(Drop)]
-pub enum FilesFound {
-    // so many
-    Files(usize),
-    Outside,
-}
-
-// Where each file of a set begins, or the bytes are no set of files (refusal 7).
-pub fn find_files(set: &[u8], starts: &mut [usize]) -> FilesFound
+// How many files a set has, and where each begins; or the bytes are no set of files (refusal 7).
+pub fn find_files(set: &[u8], starts: &mut [usize]) -> Option<usize>
     requires { length starts.old ≡ most_files }
     ensures { FilesAre set.now starts.new result }
 {
-    if set.len() < 1 {
-        return FilesFound::Outside;
+    if set.is_empty() {
+        return None;
     }
     let count = set_rows::count_of(set);
     if MOST_FILES < count {
-        return FilesFound::Outside;
+        return None;
     }
-    let mut p: usize = 1;
-    let mut i: usize = 0;
-    while i < count {
-        let FileRead::Inside(end) = file_at(set, p) else {
-            return FilesFound::Outside;
-        };
+    let mut p = 1;
+    for i in 0..count {
         starts[i] = p;
-        p = end;
-        i += 1;
+        p = file_at(set, p)?;
     }
-    if p != set.len() {
-        return FilesFound::Outside;
-    }
-    FilesFound::Files(count)
+    if p == set.len() { Some(count) } else { None }
 }

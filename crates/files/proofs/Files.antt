@@ -4,7 +4,7 @@ use Prim.Native.Nat.{ℕ, ◌+◌, ◌-◌, ◌≤◌}
 use mathlib.Core.Path.{◌≡◌, refl, sym, ap, ◌∙◌}
 use mathlib.Core.Bool.{Bool, true, false}
 use mathlib.Core.List.{List, [], ◌∷◌, map}
-use mathlib.Core.Option.{none, some}
+use Rattle.std.specs.Prelude.{None, Some}
 use lib.ListN.{length, replicate}
 use lib.Seq.{take-append_seam}
 use borrow.Author.Tests.{le-leb}
@@ -42,7 +42,7 @@ use Rattle.files.proofs.Winners.{winners_reordered, doubled_reordered}
 
 abbrev pub given : Checked FileFault Left → Given
 given (refused f) = record { number = number f.why; line = f.line; file = name_of f.file; visited = 0; tried = 0; left = [] }
-given (ok l) = record { number = 0; line = 0; file = none; visited = l.visited; tried = l.tried; left = O.encode l.state }
+given (ok l) = record { number = 0; line = 0; file = None; visited = l.visited; tried = l.tried; left = O.encode l.state }
 
 -- ---- any order
 
@@ -74,18 +74,18 @@ module _ (a : Sheet) where
   loads [] h = refl
   loads (f ∷ fs) (h, hs) = rw (read_ok (engine a) f.text h, loads fs hs)
 
-  module _ (ag : Sheets.Good a) (sheet : List ℕ) (ss : Sheets.decode sheet ≡ some a) (dev : List ℕ) (d : Device) (is : D.decode dev ≡ some d) (room : ℕ) (full : fullest_outcome ≤ room) where
+  module _ (ag : Sheets.Good a) (sheet : List ℕ) (ss : Sheets.decode sheet ≡ Some a) (dev : List ℕ) (d : Device) (is : D.decode dev ≡ Some d) (room : ℕ) (full : fullest_outcome ≤ room) where
     L : Laws (engine a)
     L = engine-laws a ag
 
     -- of an accepted text and record
-    run_of : (t out : List ℕ) (s : State) → Parts (engine a) t → decode_for d out ≡ some s → run t dev out sheet room ≡ generic.answer (engine a) room (run_from (engine a) d next s (rules_of reader t))
+    run_of : (t out : List ℕ) (s : State) → Parts (engine a) t → decode_for d out ≡ Some s → run t dev out sheet room ≡ generic.answer (engine a) room (run_from (engine a) d next s (rules_of reader t))
     unfolding generic.run generic.run_checked
     run_of t out s h at = run_is t dev out sheet room a ss ∙ rw (le-leb fullest_outcome room full, read_ok (engine a) t h, is, at)
 
     module _ (f : File) (fs : List File) (v w : ℕ) (out : List ℕ) where
       turn-refused : (n : ℕ) (x : Refusal) → run f.text dev out sheet room ≡ generic.answer (engine a) room (refused (line n x))
-          → in_turn dev sheet room v w out (f ∷ fs) ≡ record { number = number x; line = n; file = some f.name; visited = 0; tried = 0; left = [] }
+          → in_turn dev sheet room v w out (f ∷ fs) ≡ record { number = number x; line = n; file = Some f.name; visited = 0; tried = 0; left = [] }
       unfolding in_turn generic.answer
       turn-refused n x e = rw (e, (refusal-number x).1)
 
@@ -94,17 +94,17 @@ module _ (a : Sheet) where
       unfolding in_turn generic.answer
       turn-ok h e = rw (e, take-append_seam (O.encode h.state) (replicate (room - length (O.encode h.state)) 0))
 
-    turns : (fs : List File) → All (λ (f : File). Parts (engine a) f.text) fs → (v w : ℕ) (out : List ℕ) (s : State) → decode_for d out ≡ some s → L.Good d s → O.encode s ≡ out
+    turns : (fs : List File) → All (λ (f : File). Parts (engine a) f.text) fs → (v w : ℕ) (out : List ℕ) (s : State) → decode_for d out ≡ Some s → L.Good d s → O.encode s ≡ out
         → given (run_loaded a d s v w (map load fs)) ≡ in_turn dev sheet room v w out fs
     unfolding run_loaded
-    turns [] h v w out s at g e = unfold in_turn in ap (λ (o : List ℕ). record { number = 0; line = 0; file = none; visited = v; tried = w; left = o }) e
+    turns [] h v w out s at g e = unfold in_turn in ap (λ (o : List ℕ). record { number = 0; line = 0; file = None; visited = v; tried = w; left = o }) e
     turns (f ∷ fs) (h, hs) v w out s at g e =
         go (run_from (engine a) d next s (rules_of reader f.text)) refl
         (unfold rules_of in run_sound (engine a) L d (rules_of reader f.text) next s tt h.settled (lines_read (engine a) (lines f.text)) g)
         (λ v' w' out' s' at' g' e'. turns fs hs v' w' out' s' at' g' e')
       where
         go : (c : Ran State) → run_from (engine a) d next s (rules_of reader f.text) ≡ c → Holds (Sound (engine a) L d) c
-            → ((v w : ℕ) (out : List ℕ) (s : State) → decode_for d out ≡ some s → L.Good d s → O.encode s ≡ out → given (run_loaded a d s v w (map load fs)) ≡ in_turn dev sheet room v w out fs)
+            → ((v w : ℕ) (out : List ℕ) (s : State) → decode_for d out ≡ Some s → L.Good d s → O.encode s ≡ out → given (run_loaded a d s v w (map load fs)) ≡ in_turn dev sheet room v w out fs)
             → given (in_file f (run_from (engine a) d next s (rules_of reader f.text)) >>= λ h. run_loaded a d h.state (v + h.visited) (w + h.tried) (map load fs)) ≡ in_turn dev sheet room v w out (f ∷ fs)
         go (refused (line n x)) q k ih = rw q (sym (turn-refused f fs v w out n x (run_of f.text out s h at ∙ ap (generic.answer (engine a) room) q)))
         go (ok r) q k ih =
@@ -113,7 +113,7 @@ module _ (a : Sheet) where
             ∙ sym (turn-ok f fs v w out r (run_of f.text out s h at ∙ ap (generic.answer (engine a) room) q)))
 
     one-after_another : (fs : List File) (out : List ℕ) (s : State) → doubled fs ≡ false → All (λ (f : File). Parts (engine a) f.text) (winners fs)
-        → decode_for d out ≡ some s → L.Good d s → O.encode s ≡ out → given (run_files fs dev out sheet) ≡ in_turn dev sheet room 0 0 out (winners fs)
+        → decode_for d out ≡ Some s → L.Good d s → O.encode s ≡ out → given (run_files fs dev out sheet) ≡ in_turn dev sheet room 0 0 out (winners fs)
     unfolding run_files
     one-after_another fs out s n h at g e = rw (n, loads (winners fs) h, is, at, ss) (turns (winners fs) h 0 0 out s at g e)
 
@@ -122,7 +122,7 @@ module _ (a : Sheet) where
   All-parts (f ∷ fs) (h, hs) = (to-parts (engine a) f.text h, All-parts fs hs)
 
 pub in_turn_lem : (fs : List File) (dev out sheet : List ℕ) {d : Device} {s : State} {a : Sheet} (room : ℕ) → doubled fs ≡ false → All Accepted (winners fs)
-    → Bytes out → Bytes sheet → D.decode dev ≡ some d → decode_for d out ≡ some s → Sheets.decode sheet ≡ some a → fullest_outcome ≤ room
+    → Bytes out → Bytes sheet → D.decode dev ≡ Some d → decode_for d out ≡ Some s → Sheets.decode sheet ≡ Some a → fullest_outcome ≤ room
     → given (run_files fs dev out sheet) ≡ in_turn dev sheet room 0 0 out (winners fs)
 unfolding decode_for L
 in_turn_lem fs dev out sheet {d} {s} {a} room n h by bs is at ss full =

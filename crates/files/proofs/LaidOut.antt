@@ -4,7 +4,7 @@ use Prim.Native.Nat.{ℕ, suc, ◌+◌, ◌≤◌}
 use mathlib.Core.Path.{◌≡◌, refl, sym, ap, ◌∙◌, subst}
 use mathlib.Core.Bool.{Bool, true, false, ◌&&◌, ◌||◌}
 use mathlib.Core.List.{List, [], ◌∷◌, ◌++◌, append_assoc}
-use mathlib.Core.Option.{some}
+use Rattle.std.specs.Prelude.{Some}
 use native.Mathlib.Omega.{arith}
 use lib.Dec.{leb}
 use lib.ListN.{length}
@@ -48,10 +48,10 @@ pub file-laws : Laws File enc_file ok_file one_file
 file-laws = record { there = file_there; back = file-back }
 
 -- to 32 files, whatever their texts, to 65,535 bytes each
-pub laid_out : (fs : List File) → length fs ≤ most_files → all ok_file fs ≡ true → decode_files (encode_files fs) ≡ some fs
+pub laid_out : (fs : List File) → length fs ≤ most_files → all ok_file fs ≡ true → decode_files (encode_files fs) ≡ Some fs
 laid_out fs m h = set_there file-laws 0 most_files fs (omega arith) m h
 
-pub laid_back : (bs : List ℕ) (fs : List File) → Bytes bs → decode_files bs ≡ some fs
+pub laid_back : (bs : List ℕ) (fs : List File) → Bytes bs → decode_files bs ≡ Some fs
     → (bs ≡ encode_files fs) × (all ok_file fs ≡ true) × (0 ≤ length fs) × (length fs ≤ most_files)
 laid_back bs fs h e = set_back file-laws 0 most_files bs fs h e
 
@@ -62,13 +62,13 @@ files_laid_out = set_laid_out file-laws 0 most_files
 
 -- the file at a position has the name and rank of the one that is meant
 pub position_there : (n : ℕ) (f : File) (fs : List File) → any (same_file f) fs ≡ true
-    → (k : ℕ) × (g : File) × (position_from n f fs ≡ n + k) × (nth k fs ≡ some g) × (same_file f g ≡ true)
+    → (k : ℕ) × (g : File) × (position_from n f fs ≡ n + k) × (nth k fs ≡ Some g) × (same_file f g ≡ true)
 unfolding position_from
 position_there n f [] h = let z : ◌≡◌ {A = ℕ} 0 1 = cc in absurd (omega arith)
 position_there n f (g ∷ gs) h = at (same_file f g) refl h (position_there (suc n) f gs)
   where
     at : (t : Bool) → same_file f g ≡ t → (t || any (same_file f) gs) ≡ true
-        → (any (same_file f) gs ≡ true → (k : ℕ) × (h : File) × (position_from (suc n) f gs ≡ suc n + k) × (nth k gs ≡ some h) × (same_file f h ≡ true))
-        → (k : ℕ) × (h : File) × (pick t n (position_from (suc n) f gs) ≡ n + k) × (nth k (g ∷ gs) ≡ some h) × (same_file f h ≡ true)
+        → (any (same_file f) gs ≡ true → (k : ℕ) × (h : File) × (position_from (suc n) f gs ≡ suc n + k) × (nth k gs ≡ Some h) × (same_file f h ≡ true))
+        → (k : ℕ) × (h : File) × (pick t n (position_from (suc n) f gs) ≡ n + k) × (nth k (g ∷ gs) ≡ Some h) × (same_file f h ≡ true)
     at true e h ih = (0, g, omega arith, refl, e)
     at false e h ih = let (k, x, p, q, r) = ih h in (suc k, x, p ∙ omega arith, q, r)

@@ -4,7 +4,7 @@ use Prim.Native.Nat.{ℕ, ◌+◌}
 use mathlib.Core.Path.{◌≡◌, refl, ap, ◌∙◌, subst}
 use mathlib.Core.Bool.{Bool, true, false, not, ◌||◌}
 use mathlib.Core.List.{List, [], ◌∷◌}
-use mathlib.Core.Option.{Option, none, some}
+use Rattle.std.specs.Prelude.{Option, None, Some}
 use lib.Dec.{eqb}
 use borrow.Author.Tests.{eq-eqb}
 use Rattle.lists.specs.Lists.{any, reject, All}
@@ -56,8 +56,8 @@ winners_of fs = order_All (Of fs) (reject (loses fs) fs) (reject-All (Of fs) (lo
 -- ---- refusals
 
 abbrev pub About : (File → Type 0) → Option File → Type 0
-About P none = Unit {0}
-About P (some f) = P f
+About P None = Unit {0}
+About P (Some f) = P f
 
 -- a refusal, if there is one, is about such a file or none; and what is given otherwise
 abbrev Fine : {A : Type 0} → (File → Type 0) → (A → Type 0) → Checked FileFault A → Type 0
@@ -75,8 +75,8 @@ module _ (P : File → Type 0) where
   fine_file f (ok a) h = tt
 
   fine_found : {A : Type 0} (o : Option A) (w : Refusal) → Fine P (λ (_ : A). Unit {0}) (found o (of_none w))
-  fine_found none w = tt
-  fine_found (some a) w = tt
+  fine_found None w = tt
+  fine_found (Some a) w = tt
 
   fine_load : (fs : List File) → All P fs → Fine P (All (λ (l : Loaded). P l.file)) (load_all fs)
   unfolding load_all

@@ -4,7 +4,7 @@ use Prim.Native.Nat.{ℕ, suc, ◌-◌}
 use mathlib.Core.Path.{◌≡◌, refl, sym, ap, ◌∙◌}
 use mathlib.Core.Bool.{Bool, true, false}
 use mathlib.Core.List.{List, []}
-use mathlib.Core.Option.{Option, none, some}
+use Rattle.std.specs.Prelude.{Option, None, Some}
 use native.Mathlib.Omega.{arith}
 use borrow.Author.Tests.{le-leb}
 use lib.Dec.{leb}
@@ -26,20 +26,20 @@ use Rattle.files.proofs.Files.{given, reordered_run, in_turn_lem}
 
 -- the position of a file of the set leads to its name
 named : (fs : List File) (o : Option File) → About (Of fs) o → name_at (position_of fs o) fs ≡ name_of o
-named fs none h = refl
-named fs (some f) h =
+named fs None h = refl
+named fs (Some f) h =
     let (k, g, p, q, r) = position_there 1 f fs h in
     let name : f.name ≡ g.name = same-eq f.name g.name (and_both (same_name f g) _ r).0 in
     let at : position_from 1 f fs ≡ suc k = p ∙ omega arith in
-    ap (λ (n : ℕ). name_at n fs) at ∙ ap name_of q ∙ ap some (sym name)
+    ap (λ (n : ℕ). name_at n fs) at ∙ ap name_of q ∙ ap Some (sym name)
 
 answer-told : (room : ℕ) (fs : List File) (dev out sheet : List ℕ) (c : Checked FileFault Left) → run_files fs dev out sheet ≡ c → told fs (files_answer room fs c) ≡ given c
 answer-told room fs dev out sheet (refused f) e =
     ap (λ (o : Option (List ℕ)). record { number = number f.why; line = f.line; file = o; visited = 0; tried = 0; left = [] }) (named fs f.file (fault_of_lem fs dev out sheet f e))
 answer-told room fs dev out sheet (ok l) e =
-    ap (λ (x : List ℕ). record { number = 0; line = 0; file = none; visited = l.visited; tried = l.tried; left = x }) (take-append_seam (O.encode l.state) (replicate (room - length (O.encode l.state)) 0))
+    ap (λ (x : List ℕ). record { number = 0; line = 0; file = None; visited = l.visited; tried = l.tried; left = x }) (take-append_seam (O.encode l.state) (replicate (room - length (O.encode l.state)) 0))
 
-module _ (set : List ℕ) (fs : List File) (e : decode_files set ≡ some fs) (dev out sheet : List ℕ) (room : ℕ) where
+module _ (set : List ℕ) (fs : List File) (e : decode_files set ≡ Some fs) (dev out sheet : List ℕ) (room : ℕ) where
   -- a target that is too short
   short_told : leb fullest_outcome room ≡ false → files set dev out sheet room ≡ refusal room (of_set target_short)
   unfolding files
@@ -58,7 +58,7 @@ files_in_turn =
       any_order = λ set set' fs gs e e' r dev out sheet room. same set set' fs gs e e' r dev out sheet room (leb fullest_outcome room) refl;
     }
   where
-    same : (set set' : List ℕ) (fs gs : List File) → decode_files set ≡ some fs → decode_files set' ≡ some gs → Reordered fs gs
+    same : (set set' : List ℕ) (fs gs : List File) → decode_files set ≡ Some fs → decode_files set' ≡ Some gs → Reordered fs gs
         → (dev out sheet : List ℕ) (room : ℕ) (t : Bool) → leb fullest_outcome room ≡ t → told fs (files set dev out sheet room) ≡ told gs (files set' dev out sheet room)
     same set set' fs gs e e' r dev out sheet room true f =
         full_told set fs e dev out sheet room f ∙ ap given (reordered_run fs gs r dev out sheet) ∙ sym (full_told set' gs e' dev out sheet room f)

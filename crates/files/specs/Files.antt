@@ -1,7 +1,7 @@
 -- Document 02, Item 11: a set of rules files, those of them that count, and their order.
 -- Assumes nothing.
 use Rattle.std.specs.Prelude.{ℕ, suc, Bool, true, false, not, ◌&&◌, ◌||◌, List, [], ◌∷◌, ◌++◌, eqb, leb, ltb, length}
-use Rattle.std.proofs.Math.Option.{Option}
+use Rattle.std.specs.Prelude.{Option}
 use Rattle.lists.specs.Lists.{pick, any, reject}
 use Rattle.lists.specs.Bytes.{same_bytes}
 use Rattle.lists.specs.Quoted.{bytes}

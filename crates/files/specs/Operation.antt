@@ -1,7 +1,7 @@
 -- Document 02, Item 11: what a set of files gives: 1, 7, 21, then the texts of the files that count, 3, 4, 6, and the runs of those files.
 -- Assumes nothing.
 use Rattle.std.specs.Prelude.{ℕ, ◌+◌, true, false, not, List, [], ◌∷◌, leb}
-use Rattle.std.proofs.Math.Option.{Option, none, some}
+use Rattle.std.specs.Prelude.{Option, None, Some}
 use Rattle.lists.specs.Checked.{Checked, refused, ok, ◌>>=◌, ◌>>◌, require, found, Placed, line}
 use Rattle.lists.specs.Refusal.{Refusal, target_short, set_bad, file_twice, device_bad, outcome_bad, sheet_bad}
 use Rattle.lists.specs.Sizes.{fullest_outcome}
@@ -26,11 +26,11 @@ pub record FileFault : Type 0 where
   pub file : Option File
 
 abbrev pub of_none : Refusal → FileFault
-of_none f = record { why = f; line = 0; file = none }
+of_none f = record { why = f; line = 0; file = None }
 
 -- a refusal within a file is one of that file
 abbrev pub in_file : {A : Type 0} → File → Checked (Placed Refusal) A → Checked FileFault A
-in_file f (refused (line n w)) = refused (record { why = w; line = n; file = some f })
+in_file f (refused (line n w)) = refused (record { why = w; line = n; file = Some f })
 in_file f (ok a) = ok a
 
 -- a file whose text was read
@@ -70,16 +70,16 @@ run_files fs dev out sheet = do
 
 -- where a file stands in the lent order, from 1; 0 for none
 abbrev pub position_of : List File → Option File → ℕ
-position_of fs none = 0
-position_of fs (some f) = position_from 1 f fs
+position_of fs None = 0
+position_of fs (Some f) = position_from 1 f fs
 
 abbrev pub files_answer : ℕ → List File → Checked FileFault Left → Answer
 files_answer room fs (refused f) = refusal room (record { why = f.why; position = position_of fs f.file; line = f.line })
 files_answer room fs (ok l) = acceptance room l.visited l.tried 0 (O.encode l.state)
 
 abbrev pub decoded : ℕ → List ℕ → List ℕ → List ℕ → Option (List File) → Answer
-decoded room dev out sheet none = refusal room (of_set set_bad)
-decoded room dev out sheet (some fs) = files_answer room fs (run_files fs dev out sheet)
+decoded room dev out sheet None = refusal room (of_set set_bad)
+decoded room dev out sheet (Some fs) = files_answer room fs (run_files fs dev out sheet)
 
 -- the operation: 1, then 7
 unfoldable pub files : List ℕ → List ℕ → List ℕ → List ℕ → ℕ → Answer

@@ -1,7 +1,7 @@
 -- Document 02, Item 11: what is wanted of a set of files.
 -- Assumes nothing.
 use Rattle.std.specs.Prelude.{ℕ, zero, suc, ◌+◌, ◌≤◌, ◌≡◌, false, List, [], ◌∷◌, take}
-use Rattle.std.proofs.Math.Option.{Option, none, some}
+use Rattle.std.specs.Prelude.{Option, None, Some}
 use Rattle.lists.specs.Lists.{nth, All}
 use Rattle.lists.specs.Bytes.{Bytes}
 use Rattle.lists.specs.Checked.{ok, Placed}
@@ -41,12 +41,12 @@ pub record Given : Type 0 where
   pub left : List ℕ
 
 abbrev pub name_of : Option File → Option (List ℕ)
-name_of none = none
-name_of (some f) = some f.name
+name_of None = None
+name_of (Some f) = Some f.name
 
 -- the name that stands at a position of the lent order, from 1; 0 is no file
 abbrev pub name_at : ℕ → List File → Option (List ℕ)
-name_at zero fs = none
+name_at zero fs = None
 name_at (suc k) fs = name_of (nth k fs)
 
 -- an answer about these files
@@ -67,11 +67,11 @@ onward (suc k) others last = last
 -- runs of the texts of files one after another with one sheet, as `spillfinch_run` has them, each from the record that the one before left
 -- and up to the first refusal; v rules were visited and w devices tried before
 unfoldable pub in_turn : List ℕ → List ℕ → ℕ → ℕ → ℕ → List ℕ → List File → Given
-in_turn dev sheet room v w out [] = record { number = 0; line = 0; file = none; visited = v; tried = w; left = out }
+in_turn dev sheet room v w out [] = record { number = 0; line = 0; file = None; visited = v; tried = w; left = out }
 in_turn dev sheet room v w out (f ∷ fs) =
     let a = run f.text dev out sheet room in
     onward a.number (in_turn dev sheet room (v + a.visited) (w + a.tried) (take a.used a.bytes) fs)
-    (record { number = a.number; line = a.line; file = some f.name; visited = 0; tried = 0; left = [] })
+    (record { number = a.number; line = a.line; file = Some f.name; visited = 0; tried = 0; left = [] })
 
 -- its text is accepted
 abbrev pub Accepted : File → Type 0
@@ -79,9 +79,9 @@ Accepted f = (rs : List (Placed Rule)) × (read_text reader f.text ≡ ok rs)
 
 pub record FilesInTurn : Type 0 where
   -- where the texts of all files that count are accepted, the set gives what they give one after another
-  pub one_by_one : (set : List ℕ) (fs : List File) → decode_files set ≡ some fs → doubled fs ≡ false → All Accepted (winners fs)
-      → (dev out sheet : List ℕ) {d : Device} {s : State} {a : Sheet} → Bytes out → Bytes sheet → D.decode dev ≡ some d → decode_for d out ≡ some s → Sheets.decode sheet ≡ some a
+  pub one_by_one : (set : List ℕ) (fs : List File) → decode_files set ≡ Some fs → doubled fs ≡ false → All Accepted (winners fs)
+      → (dev out sheet : List ℕ) {d : Device} {s : State} {a : Sheet} → Bytes out → Bytes sheet → D.decode dev ≡ Some d → decode_for d out ≡ Some s → Sheets.decode sheet ≡ Some a
       → (room : ℕ) → fullest_outcome ≤ room → told fs (files set dev out sheet room) ≡ in_turn dev sheet room 0 0 out (winners fs)
   -- the same files lent in another order give the same record, the same counts and the same refusal, of the file of the same name
-  pub any_order : (set set' : List ℕ) (fs gs : List File) → decode_files set ≡ some fs → decode_files set' ≡ some gs → Reordered fs gs
+  pub any_order : (set set' : List ℕ) (fs gs : List File) → decode_files set ≡ Some fs → decode_files set' ≡ Some gs → Reordered fs gs
       → (dev out sheet : List ℕ) (room : ℕ) → told fs (files set dev out sheet room) ≡ told gs (files set' dev out sheet room)

@@ -9,7 +9,6 @@ ghost use Rattle.records.specs.Records.{Ready};
 ghost use Rattle.filling.specs.Filling.{FilledBeside};
 
 use device_lookup::Chain;
-use insertion::Put;
 use outcome_target::{Layout, Section};
 
 pub fn fill(
@@ -21,7 +20,7 @@ pub fn fill(
     layout: Layout,
     spaceless: bool,
     out: &mut [u8],
-) -> Put
+) -> Option<usize>
     requires { (well_formed template.now ≡ true) × Ready dev.now chain t.now layout × (place ≤ chain.len) × (length out.old ≡ most_substituted) }
     ensures { FilledBeside template.now dev.now chain place t.now layout spaceless out.old result out.new }
 {

@@ -4,7 +4,7 @@ use Prim.Native.Nat.{ℕ, ◌+◌, ◌-◌, ◌≤◌, ◌<◌}
 use mathlib.Core.Path.{◌≡◌, refl, sym, ap, ◌∙◌}
 use mathlib.Core.Bool.{false}
 use mathlib.Core.List.{List, [], ◌++◌, append-nil}
-use mathlib.Core.Option.{some}
+use Rattle.std.specs.Prelude.{Some}
 use native.Mathlib.Omega.{arith}
 use borrow.Author.Tests.{le-leb, lt-leb}
 use lib.ListN.{length, replicate, replicate-append-replicate}
@@ -84,11 +84,11 @@ unfolding encode fresh
 made-length d x g = ap (λ (z : List ℕ). header_size + length z) g ∙ sym (encode-size (fresh d) ∙ omega arith)
 
 -- a record of 18,125 bytes at most
-pub made-fits : (bs : List ℕ) (d : Device) → device.decode bs ≡ some d → length (encode (fresh d)) ≤ fullest_outcome
+pub made-fits : (bs : List ℕ) (d : Device) → device.decode bs ≡ Some d → length (encode (fresh d)) ≤ fullest_outcome
 made-fits bs d e = fits (length (chain d)) (fresh d) (fresh_good bs d e)
 
 -- how many properties the header says
-pub head_count : (l : List ℕ) (d : Device) (r : read.Head) → Bytes l → device.decode l ≡ some d → 7 ≤ length l → HeadRead l r → r.properties ≡ length d.properties
+pub head_count : (l : List ℕ) (d : Device) (r : read.Head) → Bytes l → device.decode l ≡ Some d → 7 ≤ length l → HeadRead l r → r.properties ≡ length d.properties
 head_count l d r b e k h = ap (λ (x : head.Head). x.properties) h.is ∙ number-first l 7 44 6 k (omega arith) ∙ count-is l d b e
 
 -- ---- what is given back
@@ -102,6 +102,6 @@ module _ (dev : List ℕ) (room : ℕ) where
   unfolding operations.fresh operations.fresh_checked
   given-faulty h k = rw (le-leb fullest_outcome room h, is_none (device.decode dev) k)
 
-  pub given_made : fullest_outcome ≤ room → (d : Device) → device.decode dev ≡ some d → operations.fresh dev room ≡ acceptance room 0 0 (encode (fresh d))
+  pub given_made : fullest_outcome ≤ room → (d : Device) → device.decode dev ≡ Some d → operations.fresh dev room ≡ acceptance room 0 0 (encode (fresh d))
   unfolding operations.fresh operations.fresh_checked
   given_made h d e = rw (le-leb fullest_outcome room h, e)

@@ -4,7 +4,7 @@ use Prim.Native.Nat.{ℕ, ◌+◌, ◌≤◌, ◌<◌}
 use mathlib.Core.Path.{◌≡◌, refl, sym, ◌∙◌}
 use mathlib.Core.Bool.{Bool, true, false}
 use mathlib.Core.List.{List, ◌∷◌}
-use mathlib.Core.Option.{Option, none, some}
+use Rattle.std.specs.Prelude.{Option, None, Some}
 use native.Mathlib.Omega.{arith}
 use native.Mathlib.Decide.{ℕ_discrete}
 use borrow.Author.Tests.{ne_eqb}
@@ -22,7 +22,6 @@ use Rattle.pattern.proofs.Elements.{elements_at, elements-bad}
 use Rattle.glob.specs.Place.{alternative_at, matches_from, NotBar}
 use Rattle.glob.specs.Sets.{set_read}
 use Rattle.glob.specs.declared.SetRead.{SetRead}
-use Rattle.glob.specs.declared.SetRead.TheVariants.{Takes, Leaves, Fault}
 use Rattle.glob.proofs.Place.{alternative_on, rest-on, further}
 use Rattle.glob.proofs.Sets.{set-whole}
 
@@ -64,7 +63,7 @@ module _ (s : List ℕ) (p : ℕ) where
 
   -- one element, which takes n bytes beyond its first
   sound_element : NotBar s p → (e : Element) (n q : ℕ) → q ≡ p + 1 + n → n ≤ length (alternative_at s (p + 1)) → p + 1 ≤ length s
-      → element_at (get_or s p 124) (alternative_at s (p + 1)) ≡ some (record { value = e; more = n }) → sound_from s p ≡ sound_from s q
+      → element_at (get_or s p 124) (alternative_at s (p + 1)) ≡ Some (record { value = e; more = n }) → sound_from s p ≡ sound_from s q
   sound_element b e n q z k i h =
       let f = further s (p + 1) n q z i k in
       let o : is_some (elements (alternative_at s p)) ≡ is_some (elements (alternative_at s q))
@@ -78,7 +77,7 @@ module _ (s : List ℕ) (p : ℕ) where
       g : get_or s p 0 ≡ get_or s p 124
       g = get_d_any s p 0 124 h
 
-      by : (e : Element) → NotBar s p → element_at (get_or s p 124) (alternative_at s (p + 1)) ≡ some (record { value = e; more = 0 }) → sound_from s p ≡ sound_from s (p + 1)
+      by : (e : Element) → NotBar s p → element_at (get_or s p 124) (alternative_at s (p + 1)) ≡ Some (record { value = e; more = 0 }) → sound_from s p ≡ sound_from s (p + 1)
       by e b k = sound_element b e 0 (p + 1) (omega arith) (omega arith) (omega arith) k
 
       sign : (t u : Bool) → eqb (get_or s p 124) 42 ≡ t → eqb (get_or s p 124) 63 ≡ u → NotBar s p → sound_from s p ≡ sound_from s (p + 1)
@@ -96,10 +95,9 @@ pub record SoundOn (s : List ℕ) (p q : ℕ) : Type 0 where
   pub inside : q ≤ length s
   pub same : sound_from s p ≡ sound_from s q
 
-abbrev pub SoundIs : SetRead → List ℕ → ℕ → Type 0
-SoundIs (Takes q) s p = SoundOn s p q
-SoundIs (Leaves q) s p = SoundOn s p q
-SoundIs Fault s p = sound_from s p ≡ false
+abbrev pub SoundIs : Option SetRead → List ℕ → ℕ → Type 0
+SoundIs (Some r) s p = SoundOn s p r.next
+SoundIs None s p = sound_from s p ≡ false
 
 pub sound-set : (s : List ℕ) (p x : ℕ) → p < length s → get_or s p 0 ≡ 91 → SoundIs (set_read (set_at (alternative_at s (p + 1))) x (p + 1)) s p
 sound-set s p x h b = go (set_at (alternative_at s (p + 1))) refl
@@ -110,19 +108,15 @@ sound-set s p x h b = go (set_at (alternative_at s (p + 1))) refl
     n : NotBar s p
     n z = absurd (omega (arith, here))
 
-    taken : (t : Bool) (q : ℕ) → SoundOn s p q → SoundIs (pick t (Takes q) (Leaves q)) s p
-    taken true q w = w
-    taken false q w = w
-
     go : (o : Option (Item Element)) → set_at (alternative_at s (p + 1)) ≡ o → SoundIs (set_read o x (p + 1)) s p
-    go none e =
-        let k : element_at (get_or s p 124) (alternative_at s (p + 1)) ≡ none = rw here e in
+    go None e =
+        let k : element_at (get_or s p 124) (alternative_at s (p + 1)) ≡ None = rw here e in
         rw (parts s p, alternative_on s p n, elements-bad (get_or s p 124) (alternative_at s (p + 1)) k)
-    go (some i) e =
-        let k : element_at (get_or s p 124) (alternative_at s (p + 1)) ≡ some i = rw here e in
+    go (Some i) e =
+        let k : element_at (get_or s p 124) (alternative_at s (p + 1)) ≡ Some i = rw here e in
         let m = (set-whole (alternative_at s (p + 1)) i e).inside in
-        taken (takes i.value x) (p + 1 + i.more) (record {
+        record {
           forward = omega arith;
           inside = (further s (p + 1) i.more (p + 1 + i.more) refl (omega arith) m).inside;
           same = sound_element s p n i.value i.more (p + 1 + i.more) refl m (omega arith) k;
-        })
+        }

@@ -16,8 +16,7 @@ use Rattle.lists.specs.Bytes.{between}
 use Rattle.pattern.specs.Pattern.{single, member_at, is_inside, body_of, set_at}
 use Rattle.glob.specs.Place.{alternative_at, NotBar, range_at}
 use Rattle.glob.specs.Sets.{set_read, answered, member_start, ReadOn, MemberIs}
-use Rattle.glob.specs.declared.SetRead.TheVariants.{Fault}
-use Rattle.glob.specs.declared.Member.TheVariants.{Range, Falling}
+use Rattle.std.specs.Prelude.{Some, None}
 use Rattle.glob.proofs.Place.{not_bar_in, alternative_on, alternative_ends}
 use Rattle.glob.proofs.Sets.{set_unclosed, set_closes, set-goes-on, member-single, member_range, member_falls, set-start}
 
@@ -73,7 +72,7 @@ module _ (s : List ℕ) (i : ℕ) where
     low_byte : get_or s i 0 ≡ get_or s i 124
     low_byte = get_d_any s i 0 124 (not_bar_in s i n)
 
-    pub member-alone : range_at s i ≡ false → MemberIs (Range (get_or s i 0) (get_or s i 0) (i + 1)) s i
+    pub member-alone : range_at s i ≡ false → MemberIs (Some (record { low = get_or s i 0; high = get_or s i 0; next = i + 1 })) s i
     member-alone h = record {
       forward = omega arith;
       inside = omega (arith, not_bar_in s i n);
@@ -91,11 +90,11 @@ module _ (s : List ℕ) (i : ℕ) where
           let z : i + 2 + 1 ≡ i + 3 = omega arith in
           rw (alternative_on s i n, alternative_on s (i + 1) k, two_on, alternative_on s (i + 2) m, d, z)
 
-      pub member_falling : get_or s (i + 2) 0 < get_or s i 0 → MemberIs Falling s i
+      pub member_falling : get_or s (i + 2) 0 < get_or s i 0 → MemberIs None s i
       member_falling k opposite found x =
           rw range_opens (member_falls opposite found x i (get_or s i 124) (get_or s (i + 2) 124) (alternative_at s (i + 3)) (range_bytes h).1 (omega (arith, low_byte, high_byte)))
 
-      pub member-rising : get_or s i 0 ≤ get_or s (i + 2) 0 → MemberIs (Range (get_or s i 0) (get_or s (i + 2) 0) (i + 3)) s i
+      pub member-rising : get_or s i 0 ≤ get_or s (i + 2) 0 → MemberIs (Some (record { low = get_or s i 0; high = get_or s (i + 2) 0; next = i + 3 })) s i
       member-rising k = record {
         forward = omega arith;
         inside = omega (arith, range_in h);
@@ -112,7 +111,7 @@ module _ (s : List ℕ) (i low high next : ℕ) (r : ReadOn s i low high next) (
       let n : NotBar s next = λ z. absurd (omega arith) in
       r.on opposite found x ∙ rw (alternative_on s next n, e) (set_closes opposite (found || between low high x) x next (alternative_at s (next + 1)))
 
-  pub read_ends : get_or s next 124 ≡ 124 → member_start opposite found x i (alternative_at s i) ≡ Fault
+  pub read_ends : get_or s next 124 ≡ 124 → member_start opposite found x i (alternative_at s i) ≡ None
   read_ends e = r.on opposite found x ∙ rw (alternative_ends s next e) (set_unclosed opposite (found || between low high x) x next)
 
   pub read_on : NotBar s next → (get_or s next 124 ≡ 93 → ⊥)
@@ -122,7 +121,7 @@ module _ (s : List ℕ) (i low high next : ℕ) (r : ReadOn s i low high next) (
 -- ---- a set by place, behind its opening bracket
 
 module _ (s : List ℕ) (p x : ℕ) where
-  pub set_short : get_or s p 124 ≡ 124 → set_read (set_at (alternative_at s p)) x p ≡ Fault
+  pub set_short : get_or s p 124 ≡ 124 → set_read (set_at (alternative_at s p)) x p ≡ None
   set_short e = rw (alternative_ends s p e)
 
   pub set-plain : NotBar s p → (get_or s p 124 ≡ 33 → ⊥) → set_read (set_at (alternative_at s p)) x p ≡ member_start false false x p (alternative_at s p)
@@ -134,7 +133,7 @@ module _ (s : List ℕ) (p x : ℕ) where
     opposite_on : alternative_at s p ≡ 33 ∷ alternative_at s (p + 1)
     opposite_on = rw (alternative_on s p (λ z. absurd (omega arith)), e)
 
-    pub set_opposite_short : get_or s (p + 1) 124 ≡ 124 → set_read (set_at (alternative_at s p)) x p ≡ Fault
+    pub set_opposite_short : get_or s (p + 1) 124 ≡ 124 → set_read (set_at (alternative_at s p)) x p ≡ None
     unfolding body_of
     set_opposite_short f = rw (opposite_on, alternative_ends s (p + 1) f)
 

@@ -4,7 +4,7 @@ use Prim.Native.Nat.{ℕ, suc, ◌+◌, ◌≤◌, ◌<◌}
 use mathlib.Core.Path.{◌≡◌, refl, sym, ap}
 use mathlib.Core.Bool.{Bool, true, false, ◌||◌, or-false, or_assoc}
 use mathlib.Core.List.{List, [], ◌∷◌}
-use mathlib.Core.Option.{Option, none, some}
+use Rattle.std.specs.Prelude.{Option, None, Some}
 use native.Mathlib.Omega.{arith}
 use borrow.Author.Tests.{ne_eqb, le-leb, lt-leb}
 use lib.Dec.{eqb}
@@ -18,18 +18,17 @@ use Rattle.lists.proofs.Scan.{span-length}
 use Rattle.pattern.specs.Pattern.{Range, Element, set, single, member_at, members, is_inside, closed, body_of, set_of, set_with, set_by, set_at, within}
 use Rattle.pattern.proofs.Elements.{Single}
 use Rattle.glob.specs.Sets.{set_read, answered, members_read, body_read, member_start, behind_member}
-use Rattle.glob.specs.declared.SetRead.TheVariants.{Fault}
 
 module _ (opposite found : Bool) (x : ℕ) where
   -- a member that was read counts among those found
   found_first : (next : ℕ) (r : Range) (o : Option (List Range))
       → members_read opposite found x next (before r o) ≡ members_read opposite (found || between r.low r.high x) x next o
-  found_first next r none = refl
-  found_first next r (some rs) = ap (λ (t : Bool). answered opposite t next) (sym (or_assoc found (between r.low r.high x) (within rs x)))
+  found_first next r None = refl
+  found_first next r (Some rs) = ap (λ (t : Bool). answered opposite t next) (sym (or_assoc found (between r.low r.high x) (within rs x)))
 
   -- ---- behind a member
 
-  pub set_unclosed : (i : ℕ) → behind_member opposite found x i [] ≡ Fault
+  pub set_unclosed : (i : ℕ) → behind_member opposite found x i [] ≡ None
   unfolding span
   set_unclosed i = refl
 
@@ -76,17 +75,17 @@ module _ (opposite found : Bool) (x : ℕ) where
         let v = (span is_inside bs).value in
         let r : Range = record { low = b; high = y } in
         let z : i + suc (suc (length v)) + 2 ≡ i + 3 + length v + 1 = omega arith in
-        let e : member_at b (45 ∷ y ∷ v) ≡ some (record { value = r; more = 2 }) = rw (le-leb b y h) in
+        let e : member_at b (45 ∷ y ∷ v) ≡ Some (record { value = r; more = 2 }) = rw (le-leb b y h) in
         rw (range_body, z) (first_read (i + 3 + length v + 1) r (b ∷ 45 ∷ y ∷ v) v (span is_inside bs).rest (items_at member_at b (45 ∷ y ∷ v) (record { value = r; more = 2 }) e))
 
-    pub member_falls : y < b → member_start opposite found x i (b ∷ 45 ∷ y ∷ bs) ≡ Fault
+    pub member_falls : y < b → member_start opposite found x i (b ∷ 45 ∷ y ∷ bs) ≡ None
     unfolding members
     member_falls h =
         let v = (span is_inside bs).value in
-        let e : member_at b (45 ∷ y ∷ v) ≡ none = rw (lt-leb b y h) in
+        let e : member_at b (45 ∷ y ∷ v) ≡ None = rw (lt-leb b y h) in
         rw range_body (go (span is_inside bs).rest (i + suc (suc (length v)) + 2) v (items-bad member_at b (45 ∷ y ∷ v) e))
       where
-        go : (rest : List ℕ) (next : ℕ) (v : List ℕ) → members (b ∷ 45 ∷ y ∷ v) ≡ none → body_read opposite found x next (b ∷ 45 ∷ y ∷ v) rest ≡ Fault
+        go : (rest : List ℕ) (next : ℕ) (v : List ℕ) → members (b ∷ 45 ∷ y ∷ v) ≡ None → body_read opposite found x next (b ∷ 45 ∷ y ∷ v) rest ≡ None
         go [] next v e = refl
         go (c ∷ rest) next v e = rw e
 
@@ -98,8 +97,8 @@ unfolding body_of
 set-start opposite x p n b bs = go (span is_inside bs).value (span is_inside bs).rest
   where
     read : (v : List ℕ) (o : Option (List Range)) → set_read (set_of opposite (n + length (b ∷ v) + 1) o) x p ≡ members_read opposite false x (p + n + length v + 2) o
-    read v none = refl
-    read v (some rs) =
+    read v None = refl
+    read v (Some rs) =
         let z : p + (n + suc (length v) + 1) ≡ p + n + length v + 2 = omega arith in
         ap (λ (q : ℕ). answered opposite (within rs x) q) z
 
@@ -112,34 +111,34 @@ pub record Whole (bs : List ℕ) (i : Item Element) : Type 0 where
   pub single : Single i.value
   pub inside : i.more ≤ length bs
 
-body-inside : (bs body : List ℕ) → body_of bs ≡ some body → length body + 1 ≤ length bs
+body-inside : (bs body : List ℕ) → body_of bs ≡ Some body → length body + 1 ≤ length bs
 unfolding body_of
 body-inside [] body e = let z : ◌≡◌ {A = ℕ} 0 1 = cc in absurd (omega arith)
 body-inside (b ∷ bs) body e = go (span is_inside bs).value (span is_inside bs).rest (span-length is_inside bs) e
   where
-    go : (v rest : List ℕ) → length v + length rest ≡ length bs → closed (b ∷ v) rest ≡ some body → length body + 1 ≤ length (b ∷ bs)
+    go : (v rest : List ℕ) → length v + length rest ≡ length bs → closed (b ∷ v) rest ≡ Some body → length body + 1 ≤ length (b ∷ bs)
     go v [] h k = let z : ◌≡◌ {A = ℕ} 0 1 = cc in absurd (omega arith)
     go v (c ∷ rest) h k =
         let q : b ∷ v ≡ body = cc in
         rw (← q) (omega arith)
 
-with_whole : (opposite : Bool) (n : ℕ) (bs all : List ℕ) (i : Item Element) → n + length bs ≤ length all → set_with opposite n (body_of bs) ≡ some i → Whole all i
+with_whole : (opposite : Bool) (n : ℕ) (bs all : List ℕ) (i : Item Element) → n + length bs ≤ length all → set_with opposite n (body_of bs) ≡ Some i → Whole all i
 with_whole opposite n bs all i h e = go (body_of bs) refl e
   where
-    last : (body : List ℕ) (o : Option (List Range)) → length body + 1 ≤ length bs → set_of opposite (n + length body + 1) o ≡ some i → Whole all i
-    last body none k e = let z : ◌≡◌ {A = ℕ} 0 1 = cc in absurd (omega arith)
-    last body (some rs) k e =
+    last : (body : List ℕ) (o : Option (List Range)) → length body + 1 ≤ length bs → set_of opposite (n + length body + 1) o ≡ Some i → Whole all i
+    last body None k e = let z : ◌≡◌ {A = ℕ} 0 1 = cc in absurd (omega arith)
+    last body (Some rs) k e =
         let q : record { value = set opposite rs; more = n + length body + 1 } ≡ i = cc in
         rw (← q) (record { single = tt; inside = omega arith })
 
-    go : (o : Option (List ℕ)) → body_of bs ≡ o → set_with opposite n o ≡ some i → Whole all i
-    go none b e = let z : ◌≡◌ {A = ℕ} 0 1 = cc in absurd (omega arith)
-    go (some body) b e = last body (members body) (body-inside bs body b) e
+    go : (o : Option (List ℕ)) → body_of bs ≡ o → set_with opposite n o ≡ Some i → Whole all i
+    go None b e = let z : ◌≡◌ {A = ℕ} 0 1 = cc in absurd (omega arith)
+    go (Some body) b e = last body (members body) (body-inside bs body b) e
 
-pub set-whole : (bs : List ℕ) (i : Item Element) → set_at bs ≡ some i → Whole bs i
+pub set-whole : (bs : List ℕ) (i : Item Element) → set_at bs ≡ Some i → Whole bs i
 set-whole [] i e = let z : ◌≡◌ {A = ℕ} 0 1 = cc in absurd (omega arith)
 set-whole (b ∷ bs) i e = go (eqb b 33) e
   where
-    go : (t : Bool) → set_by t b bs ≡ some i → Whole (b ∷ bs) i
+    go : (t : Bool) → set_by t b bs ≡ Some i → Whole (b ∷ bs) i
     go true e = with_whole true 1 bs (b ∷ bs) i (omega arith) e
     go false e = with_whole false 0 (b ∷ bs) (b ∷ bs) i (omega arith) e

@@ -4,7 +4,7 @@ use Prim.Native.Nat.{ℕ, ◌+◌, ◌≤◌, ◌<◌}
 use mathlib.Core.Path.{◌≡◌, refl, sym, ap, ◌∙◌}
 use mathlib.Core.Bool.{Bool, true, false}
 use mathlib.Core.List.{List, [], ◌∷◌}
-use mathlib.Core.Option.{Option, none, some}
+use Rattle.std.specs.Prelude.{Option, None, Some}
 use native.Mathlib.Omega.{arith}
 use borrow.Author.Tests.{eq-eqb, ne_eqb, leb-true, leb-false}
 use lib.Dec.{eqb, leb}
@@ -18,7 +18,6 @@ use Rattle.pattern.proofs.Stars.{eaten, star-ends}
 use Rattle.glob.specs.Place.{alternative_at, matches_from, NotBar}
 use Rattle.glob.specs.Sets.{set_read}
 use Rattle.glob.specs.Step.{set_step, byte_step, StepIs}
-use Rattle.glob.specs.declared.SetRead.TheVariants.{Takes, Leaves}
 use Rattle.glob.specs.declared.Step.TheVariants.{Done, Star, Eat, Miss, Stop}
 use Rattle.glob.proofs.Place.{not_bar_in, alternative_on, alternative_ends, Further, further}
 use Rattle.glob.proofs.Sets.{set-whole}
@@ -75,7 +74,7 @@ module _ (s : List ℕ) (p : ℕ) (v : List ℕ) (t : ℕ) where
     forward_in : p + 1 ≤ length s
     forward_in = omega (arith, not_bar_in s p (not_bar s p b here n))
 
-    goes_one : (e : Element) → Single e → ((bs : List ℕ) → element_at b bs ≡ some (record { value = e; more = 0 })) → (ys : List ℕ) → matches_from s p ys ≡ eats (takes e) (matches_from s (p + 1)) ys
+    goes_one : (e : Element) → Single e → ((bs : List ℕ) → element_at b bs ≡ Some (record { value = e; more = 0 })) → (ys : List ℕ) → matches_from s p ys ≡ eats (takes e) (matches_from s (p + 1)) ys
     goes_one e k h ys = rw open_at (match_single b (alternative_at s (p + 1)) e 0 (h (alternative_at s (p + 1))) k ys)
 
   -- ---- `?`
@@ -110,10 +109,10 @@ module _ (s : List ℕ) (p : ℕ) (v : List ℕ) (t : ℕ) where
     set_opens : alternative_at s p ≡ 91 ∷ alternative_at s (p + 1)
     set_opens = open_at 91 here (λ z. absurd (omega arith))
 
-    set-faulty : set_at (alternative_at s (p + 1)) ≡ none → (ys : List ℕ) → matches_from s p ys ≡ false
+    set-faulty : set_at (alternative_at s (p + 1)) ≡ None → (ys : List ℕ) → matches_from s p ys ≡ false
     set-faulty e ys = rw set_opens (match_fault 91 (alternative_at s (p + 1)) e ys)
 
-    module _ (i : Item Element) (e : set_at (alternative_at s (p + 1)) ≡ some i) where
+    module _ (i : Item Element) (e : set_at (alternative_at s (p + 1)) ≡ Some i) where
       set_further : Further s (p + 1) i.more (p + 1 + i.more)
       set_further = further s (p + 1) i.more (p + 1 + i.more) refl (forward_in 91 here (λ z. absurd (omega arith))) (set-whole (alternative_at s (p + 1)) i e).inside
 
@@ -127,17 +126,17 @@ module _ (s : List ℕ) (p : ℕ) (v : List ℕ) (t : ℕ) where
     step-set_short h = go (set_at (alternative_at s (p + 1))) refl
       where
         go : (o : Option (Item Element)) → set_at (alternative_at s (p + 1)) ≡ o → StepIs Stop s p v t
-        go none e = λ ys k. set-faulty e ys
-        go (some i) e = single_short i.value (p + 1 + i.more) (omega arith) (set_further i e).inside (set-goes i e) h
+        go None e = λ ys k. set-faulty e ys
+        go (Some i) e = single_short i.value (p + 1 + i.more) (omega arith) (set_further i e).inside (set-goes i e) h
 
     pub step_set : t < length v → StepIs (set_step (set_read (set_at (alternative_at s (p + 1))) (get_or v t 0) (p + 1))) s p v t
     step_set h = go (set_at (alternative_at s (p + 1))) refl
       where
-        taken : (i : Item Element) → set_at (alternative_at s (p + 1)) ≡ some i → (w : Bool) → takes i.value (get_or v t 0) ≡ w
-            → StepIs (set_step (pick w (Takes (p + 1 + i.more)) (Leaves (p + 1 + i.more)))) s p v t
+        taken : (i : Item Element) → set_at (alternative_at s (p + 1)) ≡ Some i → (w : Bool) → takes i.value (get_or v t 0) ≡ w
+            → StepIs (pick w (Eat (p + 1 + i.more)) Miss) s p v t
         taken i e true k = single-eats i.value (p + 1 + i.more) (omega arith) (set_further i e).inside (set-goes i e) h k
         taken i e false k = single_misses i.value (p + 1 + i.more) (omega arith) (set_further i e).inside (set-goes i e) h k
 
         go : (o : Option (Item Element)) → set_at (alternative_at s (p + 1)) ≡ o → StepIs (set_step (set_read o (get_or v t 0) (p + 1))) s p v t
-        go none e = λ ys k. set-faulty e ys
-        go (some i) e = taken i e (takes i.value (get_or v t 0)) refl
+        go None e = λ ys k. set-faulty e ys
+        go (Some i) e = taken i e (takes i.value (get_or v t 0)) refl

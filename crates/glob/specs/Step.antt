@@ -1,19 +1,17 @@
 -- What a step of the matcher says of the places that it looked at.
 -- Assumes nothing.
-use Rattle.std.specs.Prelude.{ℕ, ◌+◌, ◌-◌, ◌≤◌, ◌<◌, ◌≡◌, true, false, List, eqb, leb, length, get_or, drop}
+use Rattle.std.specs.Prelude.{ℕ, ◌+◌, ◌-◌, ◌≤◌, ◌<◌, ◌≡◌, true, false, List, eqb, leb, length, get_or, drop, Option, Some, None}
 use Rattle.lists.specs.Lists.{pick}
 use Rattle.pattern.specs.Pattern.{any_suffix}
 use Rattle.glob.specs.Place.{matches_from}
 use Rattle.glob.specs.declared.SetRead.{SetRead}
-use Rattle.glob.specs.declared.SetRead.TheVariants.{Takes, Leaves, Fault}
 use Rattle.glob.specs.declared.Step.{Step}
 use Rattle.glob.specs.declared.Step.TheVariants.{Done, Star, Eat, Miss, Stop}
 
 -- the step that follows from what a set says
-abbrev pub set_step : SetRead → Step
-set_step (Takes next) = Eat next
-set_step (Leaves next) = Miss
-set_step Fault = Stop
+abbrev pub set_step : Option SetRead → Step
+set_step (Some r) = pick r.taken (Eat r.next) Miss
+set_step None = Stop
 
 -- the step of a byte that stands for itself
 abbrev pub byte_step : ℕ → ℕ → List ℕ → ℕ → Step

@@ -10,6 +10,8 @@ ghost use Rattle.glob.specs.Sets.{MemberIs, member_start, answered, set_read};
 ghost use Rattle.glob.specs.Step.{set_step, byte_step, StepIs, StartIs};
 ghost use Rattle.glob.specs.Plain.{GroupIs, FormIs};
 
+use scan::Not;
+
 // ---- bytes
 
 // The byte at a place; past the end a bar, which ends an alternative too.
@@ -19,15 +21,11 @@ fn byte_or_bar(pattern: &[u8], i: usize) -> u8
     if i < pattern.len() { pattern[i] } else { b'|' }
 }
 
-// Whether a byte stands for itself: letters and digits do, and all others but four.
+// Whether a byte stands for itself, as all but four do.
 fn is_plain(b: u8) -> bool
     ensures { result ≡ not (is_special b) }
 {
-    match b {
-        b'a'..=b'z' | b'A'..=b'Z' | b'0'..=b'9' => true,
-        b'*' | b'?' | b'[' | b'|' => false,
-        _ => true,
-    }
+    !matches!(b, b'*' | b'?' | b'[' | b'|')
 }
 
 // ---- plain patterns
@@ -56,12 +54,10 @@ fn special_in_group(pattern: &[u8], at: usize, n: usize) -> bool
 fn few_plain(pattern: &[u8]) -> bool
     ensures { result ≡ is_plain pattern.now }
 {
-    let mut i: usize = 0;
-    while i < pattern.len() {
-        if !is_plain(pattern[i]) {
+    for b in pattern {
+        if !is_plain(*b) {
             return false;
         }
-        i += 1;
     }
     true
 }
@@ -84,6 +80,7 @@ fn all_plain(pattern: &[u8]) -> bool
     if special_in_group(pattern, last, 8) {
         return false;
     }
+    // By hand, since the index moves on by whole groups.
     let mut i: usize = 0;
     while i < last {
         if special_in_group(pattern, i, 8) {
@@ -97,18 +94,18 @@ fn all_plain(pattern: &[u8]) -> bool
 // ---- sets
 
 // A member of a set, the bytes from low to high, and the place behind it.
-#[derive(Drop)]
-pub enum Member {
-    Range { low: u8, high: u8, next: usize },
-    Falling,
+#[derive(Clone, Copy)]
+pub struct Member {
+    pub low: u8,
+    pub high: u8,
+    pub next: usize,
 }
 
-// What a set says of a byte, and the place behind the set.
-#[derive(Drop)]
-pub enum SetRead {
-    Takes(usize),
-    Leaves(usize),
-    Fault,
+// Whether a set takes a byte, and the place behind the set.
+#[derive(Clone, Copy)]
+pub struct SetRead {
+    pub taken: bool,
+    pub next: usize,
 }
 
 // Whether a dash and one more byte of the set stand behind a place.
@@ -128,54 +125,48 @@ fn is_range(pattern: &[u8], i: usize) -> bool
     }
 }
 
-fn member_at(pattern: &[u8], i: usize) -> Member
+// None where the range falls.
+fn member_at(pattern: &[u8], i: usize) -> Option<Member>
     requires { NotBar pattern.now i }
     ensures { MemberIs result pattern.now i }
 {
     let low = pattern[i];
     if !is_range(pattern, i) {
-        return Member::Range {
+        return Some(Member {
             low,
             high: low,
             next: i + 1,
-        };
+        });
     }
     let high = pattern[i + 2];
     if high < low {
-        return Member::Falling;
+        return None;
     }
-    Member::Range {
+    Some(Member {
         low,
         high,
         next: i + 3,
-    }
+    })
 }
 
 // Whether x was found before or lies from low to high.
 fn found_in(found: bool, low: u8, high: u8, x: u8) -> bool
     ensures { result ≡ (found || between low high x) }
 {
-    if found {
-        return true;
-    }
-    if x < low {
-        return false;
-    }
-    x <= high
+    found || (low <= x && x <= high)
 }
 
-fn answer(opposite: bool, found: bool, next: usize) -> SetRead
+fn answer(opposite: bool, found: bool, next: usize) -> Option<SetRead>
     ensures { result ≡ answered opposite found next }
 {
-    if found == opposite {
-        SetRead::Leaves(next)
-    } else {
-        SetRead::Takes(next)
-    }
+    Some(SetRead {
+        taken: found != opposite,
+        next,
+    })
 }
 
-// A set from its first member on.
-fn set_from(pattern: &[u8], first: usize, opposite: bool, x: u8) -> SetRead
+// A set from its first member on; None where it is unclosed or a range falls.
+fn set_from(pattern: &[u8], first: usize, opposite: bool, x: u8) -> Option<SetRead>
     requires { NotBar pattern.now first }
     ensures { result ≡ member_start opposite false x first (alternative_at pattern.now first) }
 {
@@ -183,39 +174,39 @@ fn set_from(pattern: &[u8], first: usize, opposite: bool, x: u8) -> SetRead
     let mut found = false;
     loop {
         match member_at(pattern, i) {
-            Member::Range { low, high, next } => {
-                found = found_in(found, low, high, x);
-                match byte_or_bar(pattern, next) {
+            Some(member) => {
+                found = found_in(found, member.low, member.high, x);
+                match byte_or_bar(pattern, member.next) {
                     b']' => {
-                        return answer(opposite, found, next + 1);
+                        return answer(opposite, found, member.next + 1);
                     }
                     b'|' => {
-                        return SetRead::Fault;
+                        return None;
                     }
                     _ => {
-                        i = next;
+                        i = member.next;
                     }
                 }
             }
-            Member::Falling => {
-                return SetRead::Fault;
+            None => {
+                return None;
             }
         }
     }
 }
 
 // A set behind its opening bracket.
-fn set_at(pattern: &[u8], p: usize, x: u8) -> SetRead
+fn set_at(pattern: &[u8], p: usize, x: u8) -> Option<SetRead>
     requires { p ≤ length pattern.now }
     ensures { result ≡ set_read (set_at (alternative_at pattern.now p)) x p }
 {
     match byte_or_bar(pattern, p) {
         b'!' => if byte_or_bar(pattern, p + 1) == b'|' {
-            SetRead::Fault
+            None
         } else {
             set_from(pattern, p + 1, true, x)
         },
-        b'|' => SetRead::Fault,
+        b'|' => None,
         _ => set_from(pattern, p, false, x),
     }
 }
@@ -228,13 +219,10 @@ pub fn well_formed(pattern: &[u8]) -> bool
     while p < pattern.len() {
         match pattern[p] {
             b'[' => match set_at(pattern, p + 1, 0) {
-                SetRead::Takes(next) => {
-                    p = next;
+                Some(set) => {
+                    p = set.next;
                 }
-                SetRead::Leaves(next) => {
-                    p = next;
-                }
-                SetRead::Fault => {
+                None => {
                     return false;
                 }
             },
@@ -291,9 +279,9 @@ fn set_step(pattern: &[u8], p: usize, x: u8) -> Step
     ensures { result ≡ set_step (set_read (set_at (alternative_at pattern.now p)) x p) }
 {
     match set_at(pattern, p, x) {
-        SetRead::Takes(next) => Step::Eat(next),
-        SetRead::Leaves(_) => Step::Miss,
-        SetRead::Fault => Step::Stop,
+        Some(SetRead { taken: true, next }) => Step::Eat(next),
+        Some(_) => Step::Miss,
+        None => Step::Stop,
     }
 }
 
@@ -348,7 +336,7 @@ fn next_start(pattern: &[u8], star: usize, value: &[u8], from: usize) -> usize
 {
     let b = byte_or_bar(pattern, star);
     if is_plain(b) {
-        scan::byte_end(value, from, b)
+        scan::run_end(value, from, Not(b))
     } else {
         from
     }
@@ -408,10 +396,7 @@ fn matches_from(pattern: &[u8], at: usize, value: &[u8], from: usize) -> bool
                 p = next;
                 t += 1;
             }
-            Step::Miss => {
-                return false;
-            }
-            Step::Stop => {
+            Step::Miss | Step::Stop => {
                 return false;
             }
         }

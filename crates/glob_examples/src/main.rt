@@ -2,6 +2,7 @@
 
 #![tactic(auto)]
 
+use scan::Not;
 use std::io;
 use std::io::{Read, Stdout};
 
@@ -19,7 +20,7 @@ fn judge(stdout: Stdout, pattern: &[u8], value: &[u8]) {
 
 fn show(stdout: Stdout, line: &[u8]) {
     let _ = stdout.write_all(line);
-    let tab = scan::byte_end(line, 0, b'\t');
+    let tab = scan::run_end(line, 0, Not(b'\t'));
     if tab < line.len() {
         judge(stdout, &line[0..tab], &line[tab + 1..]);
     } else {
@@ -30,7 +31,7 @@ fn show(stdout: Stdout, line: &[u8]) {
 fn show_all(stdout: Stdout, table: &[u8]) {
     let mut at: usize = 0;
     while at < table.len() {
-        let end = scan::byte_end(table, at, b'\n');
+        let end = scan::run_end(table, at, Not(b'\n'));
         show(stdout, &table[at..end]);
         at = end + 1;
     }

@@ -9,7 +9,7 @@ ghost use Rattle.set_answers.specs.Answers.{answered};
 ghost use Rattle.contest.specs.Operation.{enc_listed, contest_answer};
 ghost use Rattle.holders.specs.Lists.{row_of, row_by, Naming, Going, Listing};
 
-use claims::{Claimant, Judged};
+use claims::Claimant;
 use refusals::Refusal;
 use rows::Kind;
 use set_answers::Given;
@@ -25,13 +25,11 @@ fn put_others(t: &mut [u8], at: usize, list: &[u8], holder: u8) -> usize
     ensures { (t.new ≡ stored t.old at (reject (λ p. eqb p holder) list.now)) × (result ≡ at + length (reject (λ p. eqb p holder) list.now)) }
 {
     let mut end = at;
-    let mut k: usize = 0;
-    while k < list.len() {
-        if list[k] != holder {
-            t[end] = list[k];
+    for position in list {
+        if *position != holder {
+            t[end] = *position;
             end += 1;
         }
-        k += 1;
     }
     end
 }
@@ -65,8 +63,13 @@ fn put_name(
 {
     let mut list = [0u8; 64];
     let holding = claims::claimants(set, p, n, name, first, &mut list);
-    let count = holding.count;
-    put_row(t, at, name, &list[..count], claims::byte(holding.holder))
+    put_row(
+        t,
+        at,
+        name,
+        &list[..holding.count],
+        claims::byte(holding.holder),
+    )
 }
 
 // ---- the list
@@ -85,35 +88,29 @@ fn list_record(t: &mut [u8], set: &[u8], n: usize, done: Progress) -> Progress
     requires { Going t.old set.now n × Listing set.now t.old done × (done.records < n) }
     ensures { Listing set.now t.new result × (result.records ≡ done.records + 1) }
 {
-    let i = done.records;
-    let place = set_rows::lent_in(set, done.next);
-    let outcome = place.outcome;
-    let next = outcome.end;
+    let outcome = set_rows::lent_in(set, done.next).outcome;
     let rec = set_rows::bytes_of(set, outcome);
     let row = claims::claims_in(rec);
     let first = Claimant {
-        position: i + 1,
+        position: done.records + 1,
         priority: row.priority,
     };
-    let mut end = done.end;
+    let mut used = done.end;
     let mut names = done.names;
     let mut q = row.links;
-    let mut left = row.count;
-    while 0 < left {
+    for _ in 0..row.count {
         let entry = rows::parts_at(rec, q, Kind::Text);
-        let start = entry.name;
-        let stop = entry.rest;
-        if !claims::claimed_before(set, i, &rec[start..stop]) {
-            end = put_name(t, end, set, next, n, &rec[start..stop], first);
+        let name = &rec[entry.name..entry.rest];
+        if !claims::claimed_before(set, done.records, name) {
+            used = put_name(t, used, set, outcome.end, n, name, first);
             names += 1;
         }
         q = entry.end;
-        left -= 1;
     }
     Progress {
-        next,
-        records: i + 1,
-        end,
+        next: outcome.end,
+        records: done.records + 1,
+        end: used,
         names,
     }
 }
@@ -129,7 +126,7 @@ fn list(t: &mut [u8], set: &[u8], n: usize) -> Progress
         end: 0,
         names: 0,
     };
-    while done.records < n {
+    for _ in 0..n {
         done = list_record(t, set, n, done);
     }
     done
@@ -143,10 +140,10 @@ pub fn contest(set: &[u8], target: &mut [u8]) -> Given
         return set_answers::refused(Refusal::TargetShort, 0, 0);
     }
     match claims::judge(set) {
-        Judged::Sound => {
+        Ok(()) => {
             let listed = list(target, set, set_rows::count_of(set));
             set_answers::accepted(0, 0, listed.end, listed.names)
         }
-        Judged::Refused(why, position) => set_answers::refused(why, position, 0),
+        Err(fault) => set_answers::refused(fault.refusal, fault.position, fault.line),
     }
 }

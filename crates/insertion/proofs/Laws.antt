@@ -10,13 +10,12 @@ use Rattle.lists.proofs.Moves.{ap_at}
 use Rattle.lists.specs.Bytes.{no_space}
 use Rattle.splice.specs.Moves.{stored}
 use Rattle.splice.proofs.Laws.{length-stored, stored-stored}
+use Rattle.std.specs.Prelude.{Option, Some, None}
 use Rattle.insertion.specs.Append.{asked, Placed, Appended}
-use Rattle.insertion.specs.declared.Put.{Put}
-use Rattle.insertion.specs.declared.Put.TheVariants.{Done, Full}
 
 -- ---- one text behind the other
 
-pub appended_none : (l : List ℕ) (used : ℕ) → used ≤ length l → Appended [] l used (Done used) l
+pub appended_none : (l : List ℕ) (used : ℕ) → used ≤ length l → Appended [] l used (Some used) l
 appended_none l used h =
     record {
       end = omega arith;
@@ -26,8 +25,8 @@ appended_none l used h =
 
 module _ (x y l : List ℕ) (used k : ℕ) (l₁ : List ℕ) where
   -- the first had room
-  pub appended_both : Appended x l used (Done k) l₁ → (r : Put) (l₂ : List ℕ) → Appended y l₁ k r l₂ → Appended (x ++ y) l used r l₂
-  appended_both p (Done n) l₂ q =
+  pub appended_both : Appended x l used (Some k) l₁ → (r : Option ℕ) (l₂ : List ℕ) → Appended y l₁ k r l₂ → Appended (x ++ y) l used r l₂
+  appended_both p (Some n) l₂ q =
       let h : used + length x ≤ length l = omega (arith, p.end, p.room) in
       let s : length l₁ ≡ length l = ap length p.bytes ∙ length-stored l used x h in
       let m : used + length x + length y ≤ length l = omega (arith, p.end, q.end, q.room, s) in
@@ -40,13 +39,13 @@ module _ (x y l : List ℕ) (used k : ℕ) (l₁ : List ℕ) where
             ∙ ap (λ (i : ℕ). stored (stored l used x) i y) p.end
             ∙ stored-stored l used x y m;
       }
-  appended_both p Full l₂ q =
+  appended_both p None l₂ q =
       let h : used + length x ≤ length l = omega (arith, p.end, p.room) in
       let s : length l₁ ≡ length l = ap length p.bytes ∙ length-stored l used x h in
       omega (arith, p.end, s, length-append x y)
 
   -- the first had none
-  pub appended_full : Appended x l used Full l₁ → Appended (x ++ y) l used Full l₁
+  pub appended_full : Appended x l used None l₁ → Appended (x ++ y) l used None l₁
   appended_full p = omega (arith, length-append x y)
 
 -- ---- whitespace made `_`

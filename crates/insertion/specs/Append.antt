@@ -1,10 +1,9 @@
 -- What insertion leaves: the text behind what was there so far, or that there is no room for it.
 -- Assumes nothing.
+use Rattle.std.specs.Prelude.{Option, Some, None}
 use Rattle.std.specs.Prelude.{ℕ, ◌+◌, ◌≤◌, ◌<◌, ◌≡◌, Bool, true, false, List, map, length}
 use Rattle.lists.specs.Bytes.{no_space}
 use Rattle.splice.specs.Moves.{stored}
-use Rattle.insertion.specs.declared.Put.{Put}
-use Rattle.insertion.specs.declared.Put.TheVariants.{Done, Full}
 
 -- a text with its whitespace made `_` where that is asked
 abbrev pub asked : Bool → List ℕ → List ℕ
@@ -16,6 +15,6 @@ pub record Placed (x l : List ℕ) (used k : ℕ) (l' : List ℕ) : Type 0 where
   pub room : k ≤ length l
   pub bytes : l' ≡ stored l used x
 
-abbrev pub Appended : List ℕ → List ℕ → ℕ → Put → List ℕ → Type 0
-Appended x l used (Done k) l' = Placed x l used k l'
-Appended x l used Full l' = length l < used + length x
+abbrev pub Appended : List ℕ → List ℕ → ℕ → Option ℕ → List ℕ → Type 0
+Appended x l used (Some k) l' = Placed x l used k l'
+Appended x l used None l' = length l < used + length x

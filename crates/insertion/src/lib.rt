@@ -7,13 +7,6 @@ ghost use Rattle.lists.specs.Bytes.{no_space};
 ghost use Rattle.splice.specs.Moves.{stored};
 ghost use Rattle.insertion.specs.Append.{asked, Appended};
 
-// Where the bytes in use end now; or there is no room for all that was to come.
-#[derive(Drop)]
-pub enum Put {
-    Done(usize),
-    Full,
-}
-
 fn no_space(b: u8) -> u8
     ensures { result ≡ no_space b }
 {
@@ -25,38 +18,35 @@ fn store_spaceless(t: &mut [u8], at: usize, src: &[u8])
     requires { at + length src.now ≤ length t.old }
     ensures { t.new ≡ stored t.old at (map no_space src.now) }
 {
-    let mut i = 0;
-    while i < src.len() {
+    for i in 0..src.len() {
         t[at + i] = no_space(src[i]);
-        i += 1;
     }
 }
 
-// `src` comes behind the first `used` bytes.
-pub fn put_text(out: &mut [u8], used: usize, src: &[u8], spaceless: bool) -> Put
+// `src` comes behind the first `used` bytes: where it ends, or there is no room for all of it.
+pub fn put_text(out: &mut [u8], used: usize, src: &[u8], spaceless: bool) -> Option<usize>
     requires { used ≤ length out.old }
     ensures { Appended (asked spaceless src.now) out.old used result out.new }
 {
     if out.len() - used < src.len() {
-        return Put::Full;
+        return None;
     }
     if spaceless {
         store_spaceless(out, used, src);
-        Put::Done(used + src.len())
     } else {
         splice::store(out, used, src);
-        Put::Done(used + src.len())
     }
+    Some(used + src.len())
 }
 
-// One byte comes behind the first `used`.
-pub fn put_byte(out: &mut [u8], used: usize, b: u8) -> Put
+// The same of one byte.
+pub fn put_byte(out: &mut [u8], used: usize, b: u8) -> Option<usize>
     requires { used ≤ length out.old }
     ensures { Appended (b ∷ []) out.old used result out.new }
 {
     if out.len() == used {
-        return Put::Full;
+        return None;
     }
     out[used] = b;
-    Put::Done(used + 1)
+    Some(used + 1)
 }

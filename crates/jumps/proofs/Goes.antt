@@ -4,7 +4,7 @@ use Prim.Native.Nat.{ℕ, zero, suc, ◌+◌, ◌-◌, ◌*◌, ◌≤◌, ◌<�
 use mathlib.Core.Path.{◌≡◌, refl, sym, ap, ◌∙◌}
 use mathlib.Core.Bool.{Bool, true, false}
 use mathlib.Core.List.{List, ◌∷◌}
-use mathlib.Core.Option.{none, some}
+use Rattle.std.specs.Prelude.{None, Some}
 use native.Mathlib.Omega.{arith}
 use borrow.Author.Tests.{eq-eqb, ltb-true, ltb-false}
 use lib.Dec.{ltb}
@@ -21,7 +21,7 @@ use Rattle.jumps.specs.Jumps.{labelled, NoneTo, Goes}
 -- ---- one rule
 
 module _ (g : List ℕ) (n : ℕ) (p : Rule) (ps : List (Placed Rule)) where
-  goes-here : has_label g (label_of p) ≡ true → goes_to reader g (line n p ∷ ps) ≡ some n
+  goes-here : has_label g (label_of p) ≡ true → goes_to reader g (line n p ∷ ps) ≡ Some n
   unfolding goes_to
   goes-here h = rw h
 
@@ -35,7 +35,7 @@ module _ (v r t g : List ℕ) (n : ℕ) where
   abbrev from : ℕ → List (Placed Rule)
   from i = rules_from v r t i (n - i)
 
-  goes_by : (k i j : ℕ) → i + k ≡ j → Goes v r t g i n j → goes_to reader g (from i) ≡ some (get_or t (j * 4) 0)
+  goes_by : (k i j : ℕ) → i + k ≡ j → Goes v r t g i n j → goes_to reader g (from i) ≡ Some (get_or t (j * 4) 0)
   goes_by zero i j e w =
       let q : i ≡ j = omega arith in
       rw q (ap (goes_to reader g) (rules-step v r t j n w.within) ∙ goes-here g (get_or t (j * 4) 0) (pairs_of v r t j) (rules_from v r t (j + 1) (n - (j + 1))) w.has)
@@ -45,10 +45,10 @@ module _ (v r t g : List ℕ) (n : ℕ) where
       ∙ goes_by k (i + 1) j (omega arith) (record { from = omega arith; within = w.within; has = w.has; others = λ m a b. w.others m (omega arith) b })
 
   -- 19 is not given, and the line of the jump is that of the rule
-  pub goes_to_lem : (i j : ℕ) → Goes v r t g i n j → goes_to reader g (from i) ≡ some (get_or t (j * 4) 0)
+  pub goes_to_lem : (i j : ℕ) → Goes v r t g i n j → goes_to reader g (from i) ≡ Some (get_or t (j * 4) 0)
   goes_to_lem i j w = goes_by (j - i) i j (omega (arith, w.from)) w
 
-  nowhere_by : (k i : ℕ) → i + k ≡ n → NoneTo v r t g i n → goes_to reader g (from i) ≡ none
+  nowhere_by : (k i : ℕ) → i + k ≡ n → NoneTo v r t g i n → goes_to reader g (from i) ≡ None
   unfolding goes_to
   nowhere_by zero i e w = ap (goes_to reader g) (rules-end v r t i n (omega arith))
   nowhere_by (suc k) i e w =
@@ -56,7 +56,7 @@ module _ (v r t g : List ℕ) (n : ℕ) where
       ∙ goes_on g (get_or t (i * 4) 0) (pairs_of v r t i) (rules_from v r t (i + 1) (n - (i + 1))) (w i (omega arith) (omega arith))
       ∙ nowhere_by k (i + 1) (omega arith) (λ m a b. w m (omega arith) b)
 
-  pub goes_nowhere : (i : ℕ) → i ≤ n → NoneTo v r t g i n → goes_to reader g (from i) ≡ none
+  pub goes_nowhere : (i : ℕ) → i ≤ n → NoneTo v r t g i n → goes_to reader g (from i) ≡ None
   goes_nowhere i h w = nowhere_by (n - i) i (omega arith) w
 
 -- ---- a label by its row
@@ -64,8 +64,8 @@ module _ (v r t g : List ℕ) (n : ℕ) where
 module _ (v r t l : List ℕ) (m used count i : ℕ) (w : Rules v r t l m used count) (h : i < count) (g : List ℕ) where
   pub label-none : get_or l i 0 ≡ 0 → false ≡ labelled v r t g i
   label-none z =
-      let q : value_in v r (get_or l i 0) ≡ none = rw (eq-eqb (get_or l i 0) 0 z) in
-      let o : label_of (pairs_of v r t i) ≡ none = sym (w.rules i h).label ∙ q in
+      let q : value_in v r (get_or l i 0) ≡ None = rw (eq-eqb (get_or l i 0) 0 z) in
+      let o : label_of (pairs_of v r t i) ≡ None = sym (w.rules i h).label ∙ q in
       rw o
 
 -- ---- one rule more without it

@@ -4,7 +4,7 @@ use Prim.Native.Nat.{ℕ, ◌+◌, ◌-◌, ◌*◌, ◌%◌, ◌≤◌, ◌<◌
 use mathlib.Core.Path.{◌≡◌, refl, sym, ap, ◌∙◌}
 use mathlib.Core.Bool.{Bool, true, false}
 use mathlib.Core.List.{List}
-use mathlib.Core.Option.{some}
+use Rattle.std.specs.Prelude.{Some}
 use native.Mathlib.Omega.{arith}
 use borrow.Author.Tests.{eqb-true, eqb-false, ne_eqb, ltb-true, ltb-false}
 use lib.Dec.{eqb, ltb}
@@ -16,8 +16,10 @@ use Rattle.lists.specs.Sizes.{most_rules}
 use Rattle.lists.proofs.Bytes.{same-eq}
 use Rattle.lists.proofs.Rest.{rest_at}
 use Rattle.rules.specs.Pair.{label_of}
+use Rattle.table.specs.Table.{pair_at}
 use Rattle.table.specs.Rules.{value_in, pairs_of, Rules}
-use Rattle.jumps.specs.Jumps.{labelled, NoneTo, FoundIs}
+use Rattle.table.proofs.Rules.{row-places}
+use Rattle.jumps.specs.Jumps.{labelled, NoneTo, Goes}
 use Rattle.jumps.specs.Labels.{mixed, hash_from, hash_of, name_at, InList, NoneIn, First, NextIs, Labels}
 use Rattle.jumps.proofs.Goes.{label-none, none_more}
 
@@ -36,8 +38,8 @@ hash_end name i h l = rw (drop_of_length-le name l)
 module _ (v r t l : List ℕ) (m used n i : ℕ) (w : Rules v r t l m used n) (h : i < n) (g : List ℕ) where
   pub label_same : 0 < get_or l i 0 → same_bytes g (name_at v r l i) ≡ labelled v r t g i
   label_same z =
-      let q : value_in v r (get_or l i 0) ≡ some (name_at v r l i) = rw (ne_eqb (get_or l i 0) 0 (λ e. absurd (omega arith))) in
-      let o : label_of (pairs_of v r t i) ≡ some (name_at v r l i) = sym (w.rules i h).label ∙ q in
+      let q : value_in v r (get_or l i 0) ≡ Some (name_at v r l i) = rw (ne_eqb (get_or l i 0) 0 (λ e. absurd (omega arith))) in
+      let o : label_of (pairs_of v r t i) ≡ Some (name_at v r l i) = sym (w.rules i h).label ∙ q in
       rw o
 
   pub label-apart : 0 < get_or l i 0 → (hash_of (name_at v r l i) ≡ hash_of g → ⊥) → false ≡ labelled v r t g i
@@ -58,15 +60,13 @@ module _ (v r t l : List ℕ) (m used n i : ℕ) (w : Rules v r t l m used n) (h
           let y : 0 < get_or l i 0 = omega arith in
           sym (label-apart y (λ q. d (record { there = y; ends = ap (λ (x : ℕ). x % 256) q })))
 
-  -- the places of its bytes
-  pub name-row : 0 < get_or l i 0 → get_or l i 0 - 1 < m
-  name-row z = omega (arith, (w.rules i h).label_in)
+-- the row of a label
+module _ (v r t l : List ℕ) (m used n i : ℕ) (w : Rules v r t l m used n) (h : i < n) (row : ℕ) (e : row + 1 ≡ get_or l i 0) where
+  pub name-is : (pair_at v r row).value ≡ name_at v r l i
+  name-is = let q : row ≡ get_or l i 0 - 1 = omega (arith, e) in ap (λ (k : ℕ). (pair_at v r k).value) q
 
-  pub name-places : 0 < get_or l i 0 → let row = get_or l i 0 - 1 in (get_or r (row * 4 + 2) 0 ≤ get_or r (row * 4 + 3) 0) × (get_or r (row * 4 + 3) 0 ≤ length v) × (row * 4 + 4 ≤ length r)
-  name-places z =
-      let row = get_or l i 0 - 1 in
-      let b = w.rows.within row (name-row z) in
-      (b.value, omega (arith, b.within, w.rows.filled), omega (arith, w.rows.room, name-row z))
+  pub name-places : (row * 4 + 4 ≤ length r) × (get_or r (row * 4 + 2) 0 ≤ get_or r (row * 4 + 3) 0) × (get_or r (row * 4 + 3) 0 ≤ length v)
+  name-places = row-places v r m used w.rows row (omega (arith, e, (w.rules i h).label_in))
 
 -- ---- a search
 
@@ -95,51 +95,52 @@ module _ (v r t l g : List ℕ) (m used n : ℕ) (w : Rules v r t l m used n) wh
     pub walk_start : Walk v r t l g i n (get_or heads (hash_of g % 256) 0)
     walk_start = record { place = i; from = omega arith; within = ls.within; next-is = ls.heads_are (hash_of g % 256) (omega arith); others = λ k a b. absurd (omega arith) }
 
-    module _ (next : ℕ) (z : next ≡ 0 → ⊥) (k : Walk v r t l g i n next) where
-      pub looked : First v r l (hash_of g % 256) k.place n (next - 1)
-      looked = k.next-is.some z
+    module _ (j : ℕ) (k : Walk v r t l g i n (j + 1)) where
+      pub looked : First v r l (hash_of g % 256) k.place n j
+      looked =
+          let z : j + 1 ≡ 0 → ⊥ = λ q. omega arith in
+          let e : j + 1 - 1 ≡ j = omega arith in
+          rw e at (k.next-is.some z)
 
-      before : NoneTo v r t g i (next - 1)
-      before = passed i k.place (next - 1) looked.from (omega (arith, looked.within)) k.others looked.others
+      before : NoneTo v r t g i j
+      before = passed i k.place j looked.from (omega (arith, looked.within)) k.others looked.others
 
-      pub walk_hash : get_or hashes (next - 1) 0 ≡ hash_of (name_at v r l (next - 1))
-      walk_hash = ls.hashes_are (next - 1) (omega (arith, k.from, looked.from)) looked.within looked.has.there
+      pub walk_hash : get_or hashes j 0 ≡ hash_of (name_at v r l j)
+      walk_hash = ls.hashes_are j (omega (arith, k.from, looked.from)) looked.within looked.has.there
 
-      pub walk_here : labelled v r t g (next - 1) ≡ true → FoundIs v r t g i n next
-      walk_here e = record {
-        none = λ q. absurd (z q);
-        some = λ q. record { from = omega (arith, k.from, looked.from); within = looked.within; has = e; others = before };
-      }
+      pub walk_here : labelled v r t g j ≡ true → Goes v r t g i n j
+      walk_here e = record { from = omega (arith, k.from, looked.from); within = looked.within; has = e; others = before }
 
-      behind : NextIs v r l (hash_of g % 256) (next - 1 + 1) n (get_or later (next - 1) 0)
-      behind = rw looked.has.ends at (ls.later_are (next - 1) (omega (arith, k.from, looked.from)) looked.within looked.has.there)
+      behind : NextIs v r l (hash_of g % 256) (j + 1) n (get_or later j 0)
+      behind = rw looked.has.ends at (ls.later_are j (omega (arith, k.from, looked.from)) looked.within looked.has.there)
 
-      pub walk_on : labelled v r t g (next - 1) ≡ false → Walk v r t l g i n (get_or later (next - 1) 0)
+      pub walk_on : labelled v r t g j ≡ false → Walk v r t l g i n (get_or later j 0)
       walk_on e = record {
-        place = next - 1 + 1;
+        place = j + 1;
         from = omega (arith, k.from, looked.from);
         within = omega (arith, looked.within);
         next-is = behind;
-        others = none_more v r t g i (next - 1) before e;
+        others = none_more v r t g i j before e;
       }
 
       -- the rules that are looked at come one behind the other
-      pub walk_less : left_of (get_or later (next - 1) 0) < left_of next
+      pub walk_less : left_of (get_or later j 0) < left_of (j + 1)
       walk_less =
-          let y : left_of next ≡ most_rules + 1 - next = rw (ne_eqb next 0 z) in
-          go (eqb (get_or later (next - 1) 0) 0) refl y
+          let z : j + 1 ≡ 0 → ⊥ = λ q. omega arith in
+          let y : left_of (j + 1) ≡ most_rules + 1 - (j + 1) = rw (ne_eqb (j + 1) 0 z) in
+          go (eqb (get_or later j 0) 0) refl y
         where
-          go : (c : Bool) → eqb (get_or later (next - 1) 0) 0 ≡ c → left_of next ≡ most_rules + 1 - next → left_of (get_or later (next - 1) 0) < left_of next
+          go : (c : Bool) → eqb (get_or later j 0) 0 ≡ c → left_of (j + 1) ≡ most_rules + 1 - (j + 1) → left_of (get_or later j 0) < left_of (j + 1)
           go true e y =
-              let x : left_of (get_or later (next - 1) 0) ≡ 0 = rw e in
+              let x : left_of (get_or later j 0) ≡ 0 = rw e in
               omega (arith, x, y, looked.within, ls.few)
           go false e y =
-              let x : left_of (get_or later (next - 1) 0) ≡ most_rules + 1 - get_or later (next - 1) 0 = rw e in
-              let f = behind.some (eqb-false (get_or later (next - 1) 0) 0 e) in
+              let x : left_of (get_or later j 0) ≡ most_rules + 1 - get_or later j 0 = rw e in
+              let f = behind.some (eqb-false (get_or later j 0) 0 e) in
               omega (arith, x, y, f.from, f.within, ls.few)
 
-    pub walk_end : Walk v r t l g i n 0 → FoundIs v r t g i n 0
-    walk_end k = record { none = λ q. passed i k.place n k.within (omega arith) k.others (k.next-is.none refl); some = λ q. absurd (q refl) }
+    pub walk_end : Walk v r t l g i n 0 → NoneTo v r t g i n
+    walk_end k = passed i k.place n k.within (omega arith) k.others (k.next-is.none refl)
 
 -- ---- the lists
 
@@ -159,12 +160,12 @@ module _ (v r l : List ℕ) where
   -- a rule in front that is not of the list
   next_out : (b i n next : ℕ) → (InList v r l b i → ⊥) → NextIs v r l b (i + 1) n next → NextIs v r l b i n next
   next_out b i n next d w = record {
-    none = λ q. none (w.none q);
-    some = λ q. let f = w.some q in record { from = omega (arith, f.from); within = f.within; has = f.has; others = none f.others };
+    none = λ q. absent (w.none q);
+    some = λ q. let f = w.some q in record { from = omega (arith, f.from); within = f.within; has = f.has; others = absent f.others };
   }
     where
-      none : {j : ℕ} → NoneIn v r l b (i + 1) j → NoneIn v r l b i j
-      none {j} u k a c x = go (eqb i k) refl
+      absent : {j : ℕ} → NoneIn v r l b (i + 1) j → NoneIn v r l b i j
+      absent {j} u k a c x = go (eqb i k) refl
         where
           go : (t : Bool) → eqb i k ≡ t → ⊥
           go true e = let q = eqb-true i k e in d (rw q x)

@@ -1,18 +1,14 @@
 -- Where a GOTO goes, by the numbers of rules.
 -- Assumes nothing.
-use Rattle.std.specs.Prelude.{ℕ, ◌+◌, ◌-◌, ◌≤◌, ◌<◌, ◌≡◌, Bool, true, false, List, get_or}
-use Rattle.std.proofs.Math.Option.{Option, none, some}
+use Rattle.std.specs.Prelude.{ℕ, ◌+◌, ◌-◌, ◌*◌, ◌≤◌, ◌<◌, ◌≡◌, Bool, true, false, List, get_or}
+use Rattle.std.specs.Prelude.{Option, None, Some, Result, Ok, Err}
 use Rattle.lists.specs.Checked.{refused, ok, line}
 use Rattle.lists.specs.Refusal.{label_missing}
 use Rattle.text.specs.Reading.{has_label, settle}
 use Rattle.rules.specs.Pair.{label_of, goto_of}
 use Rattle.rules.specs.Reading.{reader}
 use Rattle.table.specs.Table.{rules_from}
-use Rattle.table.specs.Rules.{pairs_of}
-use Rattle.jumps.specs.declared.Jump.{Jump}
-use Rattle.jumps.specs.declared.Jump.TheVariants as jump
-use Rattle.jumps.specs.declared.Settled.{Settled}
-use Rattle.jumps.specs.declared.Settled.TheVariants as settled
+use Rattle.table.specs.Rules.{pairs_of, mark_of}
 
 -- the i-th rule has this label
 abbrev pub labelled : List ℕ → List ℕ → List ℕ → List ℕ → ℕ → Bool
@@ -29,21 +25,23 @@ pub record Goes (v r t g : List ℕ) (i n j : ℕ) : Type 0 where
   pub has : labelled v r t g j ≡ true
   pub others : NoneTo v r t g i j
 
--- one more than that rule, or 0
-pub record FoundIs (v r t g : List ℕ) (i n k : ℕ) : Type 0 where
-  pub none : k ≡ 0 → NoneTo v r t g i n
-  pub some : (k ≡ 0 → ⊥) → Goes v r t g i n (k - 1)
+-- that rule, if there is one
+abbrev pub FoundIs : List ℕ → List ℕ → List ℕ → List ℕ → ℕ → ℕ → Option ℕ → Type 0
+FoundIs v r t g i n None = NoneTo v r t g i n
+FoundIs v r t g i n (Some j) = Goes v r t g i n j
 
 -- ---- the jump of a rule
 
 -- as a number: one more than the rule that it goes to, or 0
 abbrev pub Resolved : List ℕ → List ℕ → List ℕ → ℕ → ℕ → Option (List ℕ) → ℕ → Type 0
-Resolved v r t i n none k = k ≡ 0
-Resolved v r t i n (some g) k = (0 < k) × Goes v r t g (i + 1) n (k - 1)
+Resolved v r t i n None k = k ≡ 0
+Resolved v r t i n (Some g) k = (0 < k) × Goes v r t g (i + 1) n (k - 1)
 
-abbrev pub JumpIs : List ℕ → List ℕ → List ℕ → ℕ → ℕ → Jump → Type 0
-JumpIs v r t i n (jump.Is k) = Resolved v r t i n (goto_of (pairs_of v r t i)) k × (k ≤ n)
-JumpIs v r t i n jump.Nowhere = (g : List ℕ) × (goto_of (pairs_of v r t i) ≡ some g) × NoneTo v r t g (i + 1) n
+-- or the line of the rule, where it goes nowhere
+abbrev pub JumpIs : List ℕ → List ℕ → List ℕ → ℕ → ℕ → Result (Option ℕ) ℕ → Type 0
+JumpIs v r t i n (Ok k) = Resolved v r t i n (goto_of (pairs_of v r t i)) (mark_of k) × (mark_of k ≤ n)
+JumpIs v r t i n (Err k) =
+    (k ≡ get_or t (i * 4) 0) × (k < 65536) × ((g : List ℕ) × (goto_of (pairs_of v r t i) ≡ Some g) × NoneTo v r t g (i + 1) n)
 
 -- all jumps of the rules up to the i-th
 abbrev pub Jumps : List ℕ → List ℕ → List ℕ → ℕ → List ℕ → ℕ → Type 0
@@ -53,6 +51,6 @@ Jumps v r t n js i = (k : ℕ) → k < i → Resolved v r t k n (goto_of (pairs_
 abbrev pub UpTo : List ℕ → List ℕ → List ℕ → ℕ → List ℕ → ℕ → Type 0
 UpTo v r t n js i = (settle reader (rules_from v r t 0 n) ≡ settle reader (rules_from v r t i (n - i))) × Jumps v r t n js i
 
-abbrev pub SettledIs : List ℕ → List ℕ → List ℕ → ℕ → List ℕ → Settled → Type 0
-SettledIs v r t n js settled.All = (settle reader (rules_from v r t 0 n) ≡ ok 0) × Jumps v r t n js n
-SettledIs v r t n js (settled.Missing k) = (k < 65536) × (settle reader (rules_from v r t 0 n) ≡ refused (line k label_missing))
+abbrev pub SettledIs : List ℕ → List ℕ → List ℕ → ℕ → List ℕ → Result (Unit {0}) ℕ → Type 0
+SettledIs v r t n js (Ok _) = (settle reader (rules_from v r t 0 n) ≡ ok 0) × Jumps v r t n js n
+SettledIs v r t n js (Err k) = (k < 65536) × (settle reader (rules_from v r t 0 n) ≡ refused (line k label_missing))

@@ -14,17 +14,15 @@ fn mix(hash: usize, b: u8) -> usize
     requires { hash < 65536 }
     ensures { (result ≡ mixed hash b) × (result < 65536) }
 {
-    (hash * 403 + b as usize) % 65536
+    (hash * 403 + usize::from(b)) % 65536
 }
 
 fn hash_of(name: &[u8]) -> usize
     ensures { (result ≡ hash_of name.now) × (result < 65536) }
 {
     let mut hash: usize = 0;
-    let mut i: usize = 0;
-    while i < name.len() {
-        hash = mix(hash, name[i]);
-        i += 1;
+    for b in name {
+        hash = mix(hash, *b);
     }
     hash
 }
@@ -47,14 +45,10 @@ fn put_label(
     requires { (i < length labels.now) × ((t : List ℕ) × ((m : ℕ) × ((used : ℕ) × ((n : ℕ) × Rules values.now rows.now t labels.now m used n × Labels values.now rows.now labels.now hashes.old heads.old later.old (i + 1) n)))) }
     ensures { ((n : ℕ) → Labels values.now rows.now labels.now hashes.old heads.old later.old (i + 1) n → Labels values.now rows.now labels.now hashes.new heads.new later.new i n) × Before i later.old later.new }
 {
-    let row = table::number_at(labels, i);
-    if row == 0 {
+    let Some(row) = table::place_at(labels, i) else {
         return;
-    }
-    let at = (row - 1) * 4;
-    let start = table::number_at(rows, at + 2);
-    let end = table::number_at(rows, at + 3);
-    let hash = hash_of(&values[start..end]);
+    };
+    let hash = hash_of(table::value_of(values, rows, row));
     let b = hash % 256;
     hashes[i] = table::short(hash);
     later[i] = heads[b];
@@ -75,9 +69,7 @@ fn put_labels(
     requires { (from ≤ count) × (count ≤ length labels.now) × ((t : List ℕ) × ((m : ℕ) × ((used : ℕ) × Rules values.now rows.now t labels.now m used count))) × Labels values.now rows.now labels.now hashes.old heads.old later.old count count }
     ensures { Labels values.now rows.now labels.now hashes.new heads.new later.new from count × Before from later.old later.new }
 {
-    let mut i = count;
-    while from < i {
-        i -= 1;
+    for i in (from..count).rev() {
         put_label(values, rows, labels, i, hashes, heads, later);
     }
 }
@@ -87,15 +79,26 @@ fn take_label(labels: &[u16], i: usize, hashes: &[u16; 512], heads: &mut [u16; 2
     requires { (i < length labels.now) × ((v : List ℕ) × ((r : List ℕ) × ((n : ℕ) × (i < n) × Labels v r labels.now hashes.now heads.old later.now i n))) }
     ensures { (v r : List ℕ) (n : ℕ) → i < n → Labels v r labels.now hashes.now heads.old later.now i n → Labels v r labels.now hashes.now heads.new later.now (i + 1) n }
 {
-    if table::number_at(labels, i) == 0 {
+    if table::place_at(labels, i).is_none() {
         return;
     }
-    let b = table::long(hashes[i]) % 256;
+    let b = usize::from(hashes[i]) % 256;
     heads[b] = later[i];
 }
 
-// Whether the label of a rule, by its row, is a name that has this hash.
-fn is_label(
+// Whether a rule has this name for its label.
+pub fn is_label(values: &[u8], rows: &[u16], labels: &[u16], i: usize, name: &[u8]) -> bool
+    requires { (i < length labels.now) × ((t : List ℕ) × ((m : ℕ) × ((used : ℕ) × ((n : ℕ) × (i < n) × Rules values.now rows.now t labels.now m used n)))) }
+    ensures { (t : List ℕ) (m used n : ℕ) → i < n → Rules values.now rows.now t labels.now m used n → result ≡ labelled values.now rows.now t name.now i }
+{
+    match table::place_at(labels, i) {
+        Some(row) => scan::same_long(name, table::value_of(values, rows, row)),
+        None => false,
+    }
+}
+
+// The same of a rule that has a label, for a name that has this hash.
+fn is_named(
     values: &[u8],
     rows: &[u16],
     labels: &[u16],
@@ -107,16 +110,13 @@ fn is_label(
     requires { (hash ≡ hash_of name.now) × (i < most_rules) × (i < length labels.now) × (0 < get_or labels.now i 0) × ((t : List ℕ) × ((m : ℕ) × ((used : ℕ) × ((n : ℕ) × (i < n) × Rules values.now rows.now t labels.now m used n)))) }
     ensures { (t : List ℕ) (m used n : ℕ) → i < n → Rules values.now rows.now t labels.now m used n → get_or hashes.now i 0 ≡ hash_of (name_at values.now rows.now labels.now i) → result ≡ labelled values.now rows.now t name.now i }
 {
-    if table::long(hashes[i]) != hash {
+    if usize::from(hashes[i]) != hash {
         return false;
     }
-    let at = (table::number_at(labels, i) - 1) * 4;
-    let s = table::number_at(rows, at + 2);
-    let e = table::number_at(rows, at + 3);
-    scan::same_long(name, &values[s..e])
+    is_label(values, rows, labels, i, name)
 }
 
-// One more than the first of these rules that has a name for a label, or 0.
+// The first of these rules that has a name for a label.
 fn find_label(
     values: &[u8],
     rows: &[u16],
@@ -126,31 +126,23 @@ fn find_label(
     later: &[u16],
     name: &[u8],
     hash: usize,
-) -> usize
+) -> Option<usize>
     requires { (hash ≡ hash_of name.now) × ((t : List ℕ) × ((m : ℕ) × ((used : ℕ) × ((from : ℕ) × ((n : ℕ) × (n ≤ length labels.now) × Rules values.now rows.now t labels.now m used n × Labels values.now rows.now labels.now hashes.now heads.now later.now from n))))) }
     ensures { (t : List ℕ) (m used from n : ℕ) → Rules values.now rows.now t labels.now m used n → Labels values.now rows.now labels.now hashes.now heads.now later.now from n → FoundIs values.now rows.now t name.now from n result }
 {
-    let mut next = table::long(heads[hash % 256]);
-    while next != 0 {
-        let i = next - 1;
-        if is_label(values, rows, labels, hashes, i, name, hash) {
-            return next;
+    let mut next = table::place_at(heads, hash % 256);
+    while let Some(i) = next {
+        if is_named(values, rows, labels, hashes, i, name, hash) {
+            return Some(i);
         }
-        next = table::number_at(later, i);
+        next = table::place_at(later, i);
     }
-    0
+    None
 }
 
 // ---- the jumps of all rules
 
-#[derive(Drop)]
-pub enum Jump {
-    // one more than the rule that it goes to, or 0 where there is none
-    Is(usize),
-    Nowhere,
-}
-
-// The jump of a rule, by the labels of the rules behind it.
+// The rule that a rule goes to, if it has a jump, by the labels of the rules behind it; the line of a rule whose jump goes nowhere is an error.
 fn jump_of(
     values: &[u8],
     rows: &[u16],
@@ -161,24 +153,19 @@ fn jump_of(
     later: &[u16],
     i: usize,
     count: usize,
-) -> Jump
+) -> Result<Option<usize>, usize>
     requires { (i < count) × (count ≤ length labels.now) × (count * 4 ≤ length rules.now) × ((m : ℕ) × ((used : ℕ) × Rules values.now rows.now rules.now labels.now m used count)) × Labels values.now rows.now labels.now hashes.now heads.now later.now (i + 1) count }
     ensures { (m used : ℕ) → Rules values.now rows.now rules.now labels.now m used count → JumpIs values.now rows.now rules.now i count result }
 {
-    let row = table::number_at(rules, i * 4 + 3);
-    if row == 0 {
-        return Jump::Is(0);
-    }
-    let at = (row - 1) * 4;
-    let start = table::number_at(rows, at + 2);
-    let end = table::number_at(rows, at + 3);
-    let name = &values[start..end];
+    let Some(row) = table::place_at(rules, i * 4 + 3) else {
+        return Ok(None);
+    };
+    let name = table::value_of(values, rows, row);
     let hash = hash_of(name);
-    let found = find_label(values, rows, labels, hashes, heads, later, name, hash);
-    if found == 0 {
-        return Jump::Nowhere;
+    match find_label(values, rows, labels, hashes, heads, later, name, hash) {
+        Some(rule) => Ok(Some(rule)),
+        None => Err(table::number_at(rules, i * 4)),
     }
-    Jump::Is(found)
 }
 
 // The first rule that has a jump, or the number of rules; those before it have none.
@@ -186,25 +173,17 @@ fn first_jump(rules: &[u16], jumps: &mut [u16], count: usize) -> usize
     requires { (count < 65535) × (count ≤ length jumps.old) × (count * 4 ≤ length rules.now) }
     ensures { (result ≤ count) × ((v s l : List ℕ) (m used : ℕ) → Rules v s rules.now l m used count → UpTo v s rules.now count jumps.new result) }
 {
-    let mut i: usize = 0;
-    while i < count {
+    for i in 0..count {
         if table::number_at(rules, i * 4 + 3) != 0 {
             return i;
         }
         jumps[i] = 0;
-        i += 1;
     }
-    i
+    count
 }
 
-#[derive(Drop)]
-pub enum Settled {
-    All,
-    // the line of the first jump that goes nowhere
-    Missing(usize),
-}
-
-// Puts for each rule where its jump goes. Behind the rule at hand the jumps hold the lists of labels.
+// Puts for each rule where its jump goes. Behind the rule at hand the jumps hold the lists of labels. The line of the first
+// jump that goes nowhere is an error.
 pub fn settle(
     values: &[u8],
     rows: &[u16],
@@ -212,13 +191,13 @@ pub fn settle(
     labels: &[u16],
     jumps: &mut [u16],
     count: usize,
-) -> Settled
+) -> Result<(), usize>
     requires { (count ≤ most_rules) × (count ≤ length labels.now) × (count ≤ length jumps.old) × (count * 4 ≤ length rules.now) × ((m : ℕ) × ((used : ℕ) × Rules values.now rows.now rules.now labels.now m used count)) }
     ensures { (m used : ℕ) → Rules values.now rows.now rules.now labels.now m used count → SettledIs values.now rows.now rules.now count jumps.new result }
 {
-    let mut i = first_jump(rules, jumps, count);
-    if i == count {
-        return Settled::All;
+    let first = first_jump(rules, jumps, count);
+    if first == count {
+        return Ok(());
     }
     let mut hashes: [u16; 512] = [0; 512];
     let mut heads: [u16; 256] = [0; 256];
@@ -226,25 +205,18 @@ pub fn settle(
         values,
         rows,
         labels,
-        i,
+        first,
         count,
         &mut hashes,
         &mut heads,
         jumps,
     );
-    while i < count {
+    for i in first..count {
         take_label(labels, i, &hashes, &mut heads, jumps);
-        match jump_of(
+        let rule = jump_of(
             values, rows, rules, labels, &hashes, &heads, jumps, i, count,
-        ) {
-            Jump::Is(k) => {
-                jumps[i] = table::short(k);
-                i += 1;
-            }
-            Jump::Nowhere => {
-                return Settled::Missing(table::number_at(rules, i * 4));
-            }
-        }
+        )?;
+        jumps[i] = table::mark(rule);
     }
-    Settled::All
+    Ok(())
 }

@@ -3,7 +3,7 @@
 use Prim.Native.Nat.{ℕ, ◌≤◌, ◌<◌}
 use mathlib.Core.Path.{◌≡◌, refl}
 use mathlib.Core.List.{List, [], ◌∷◌, map}
-use mathlib.Core.Option.{some}
+use Rattle.std.specs.Prelude.{Some}
 use borrow.Author.Tests.{leb-true}
 use lib.Dec.{leb}
 use lib.ListN.{get_or}
@@ -19,7 +19,7 @@ use Rattle.keys.specs.Table.{allowed_of, row_of}
 use Rattle.rules.specs.Key as rules
 
 abbrev row : List ℕ → ℕ → Key → Takes → ℕ → Row
-row n l k t o = record { name = n; len = l; key = k; takes = t; operators = o }
+row n l k t o = record { name = n; len = l; key = k; takes = t; operators = record { bits = o } }
 
 unfoldable pub table : List Row
 unfolding bytes
@@ -53,7 +53,7 @@ unfolding bytes rules.rows allowed_of row_of table
 same-table = refl
 
 module _ (k : ℕ) (d : Row) (h : k < 22) where
-  pub row_is : nth k rules.rows ≡ some (row_of (get_or table k d))
+  pub row_is : nth k rules.rows ≡ Some (row_of (get_or table k d))
   unfolding table
   row_is = rw (← same-table) (nth-map row_of table k d h)
 

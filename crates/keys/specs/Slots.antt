@@ -1,7 +1,7 @@
 -- Where the row of a name stands in the table, without a search.
 -- Assumes nothing.
 use Rattle.std.specs.Prelude.{ℕ, ◌+◌, ◌*◌, ◌%◌, ◌≡◌, List, length, get_or}
-use Rattle.std.proofs.Math.Option.{some}
+use Rattle.std.specs.Prelude.{Some}
 use Rattle.lists.specs.Lists.{nth}
 use Rattle.rules.specs.Key as rules
 
@@ -11,4 +11,4 @@ slot_of n = (get_or n 0 0 + 5 * get_or n 1 0 + 8 * (length n % 4)) % 32
 
 -- the row of a name, if there is one, stands at this place
 abbrev pub IsPlace : List ℕ → ℕ → Type 0
-IsPlace n k = (row : rules.Row) → rules.row_of n ≡ some row → nth k rules.rows ≡ some row
+IsPlace n k = (row : rules.Row) → rules.row_of n ≡ Some row → nth k rules.rows ≡ Some row

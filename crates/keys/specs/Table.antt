@@ -1,7 +1,7 @@
 -- What the code's keys, operators and rows stand for in the definitions.
 -- Assumes nothing.
-use Rattle.std.specs.Prelude.{ℕ, ◌/◌, ◌%◌, Bool, true, false, List, [], ◌∷◌, eqb, take}
-use Rattle.std.proofs.Math.Option.{Option, none, some}
+use Rattle.std.specs.Prelude.{ℕ, ◌/◌, ◌%◌, List, [], ◌∷◌, eqb, take}
+use Rattle.std.specs.Prelude.{Option, None, Some}
 use Rattle.lists.specs.Lists.{pick}
 use Rattle.rules.specs.Key as rules
 use Rattle.keys.specs.declared.Key.{Key}
@@ -10,9 +10,8 @@ use Rattle.keys.specs.declared.Operator.{Operator}
 use Rattle.keys.specs.declared.Operator.TheVariants.{Equal, Unequal, Assign, Add, Remove, Final}
 use Rattle.keys.specs.declared.Takes.{Takes}
 use Rattle.keys.specs.declared.Takes.TheVariants.{Nothing, One, RunType}
+use Rattle.keys.specs.declared.Operators.{Operators}
 use Rattle.keys.specs.declared.Row.{Row}
-use Rattle.keys.specs.declared.KeyFound.{KeyFound}
-use Rattle.keys.specs.declared.KeyFound.TheVariants.{Known, Unknown}
 
 abbrev pub key_of : Key → rules.Key
 key_of Action = rules.ACTION
@@ -56,8 +55,9 @@ abbrev pub if_set : ℕ → rules.Op → List rules.Op → List rules.Op
 if_set bit o os = pick (eqb bit 1) (o ∷ os) os
 
 -- the operators whose bits are set
-unfoldable pub allowed_of : ℕ → List rules.Op
-allowed_of n =
+unfoldable pub allowed_of : Operators → List rules.Op
+allowed_of os =
+    let n = os.bits in
     if_set (n % 2) rules.equal
     (if_set (n / 2 % 2) rules.unequal
     (if_set (n / 4 % 2) rules.assign
@@ -69,6 +69,6 @@ unfoldable pub row_of : Row → rules.Row
 row_of r = record { name = take r.len r.name; key = key_of r.key; takes = takes_of r.takes; allowed = allowed_of r.operators }
 
 -- what was found for a name
-abbrev pub found_of : List ℕ → KeyFound → Option rules.Row
-found_of n (Known k t o) = some (record { name = n; key = key_of k; takes = takes_of t; allowed = allowed_of o })
-found_of n Unknown = none
+abbrev pub found_of : Option Row → Option rules.Row
+found_of None = None
+found_of (Some r) = Some (row_of r)

@@ -3,14 +3,14 @@
 #![tactic(auto)]
 
 ghost use Rattle.std.specs.Prelude.{◌≡◌, ◌≤◌, ◌<◌, take};
-ghost use Rattle.std.proofs.Math.Option.{some};
+ghost use Rattle.std.specs.Prelude.{Some};
 ghost use Rattle.lists.specs.Lists.{nth};
 ghost use Rattle.lists.specs.Bytes.{same_bytes};
 ghost use Rattle.rules.specs.Key as rules;
 ghost use Rattle.keys.specs.Table.{key_of, operator_of, allowed_of, row_of, found_of};
 ghost use Rattle.keys.specs.Slots.{slot_of, IsPlace};
 
-#[derive(Clone, Copy)]
+#[derive(Debug, Clone, Copy, PartialEq, Eq)]
 pub enum Key {
     Action,
     Devpath,
@@ -37,7 +37,7 @@ pub enum Key {
 }
 
 // `==` `!=` `=` `+=` `-=` `:=`
-#[derive(Clone, Copy)]
+#[derive(Debug, Clone, Copy, PartialEq, Eq)]
 pub enum Operator {
     Equal,
     Unequal,
@@ -48,7 +48,7 @@ pub enum Operator {
 }
 
 // The argument in braces that a key takes: none; one; or the type of a program, which may be absent.
-#[derive(Clone, Copy)]
+#[derive(Debug, Clone, Copy, PartialEq, Eq)]
 pub enum Takes {
     Nothing,
     One,
@@ -57,7 +57,20 @@ pub enum Takes {
 
 // ---- the table
 
-// A bit for each operator that a key allows.
+// A set of operators, a bit for each.
+#[derive(Debug, Clone, Copy, PartialEq, Eq)]
+pub struct Operators {
+    pub bits: u8,
+}
+
+impl Operators {
+    pub fn allows(self, operator: Operator) -> bool
+        ensures { result ≡ rules.allows (allowed_of self) (operator_of operator) }
+    {
+        (self.bits >> operator as u8) % 2 == 1
+    }
+}
+
 const EQUAL: u8 = 1;
 
 const UNEQUAL: u8 = 2;
@@ -81,7 +94,7 @@ pub struct Row {
     pub len: u8,
     pub key: Key,
     pub takes: Takes,
-    pub operators: u8,
+    pub operators: Operators,
 }
 
 const ROWS: [Row; 22] = [
@@ -90,175 +103,174 @@ const ROWS: [Row; 22] = [
         len: 6,
         key: Key::Action,
         takes: Takes::Nothing,
-        operators: JUDGED,
+        operators: Operators { bits: JUDGED },
     },
     Row {
         name: *b"DEVPATHDEVPA",
         len: 7,
         key: Key::Devpath,
         takes: Takes::Nothing,
-        operators: JUDGED,
+        operators: Operators { bits: JUDGED },
     },
     Row {
         name: *b"KERNELKERNEL",
         len: 6,
         key: Key::Kernel,
         takes: Takes::Nothing,
-        operators: JUDGED,
+        operators: Operators { bits: JUDGED },
     },
     Row {
         name: *b"KERNELSKERNE",
         len: 7,
         key: Key::Kernels,
         takes: Takes::Nothing,
-        operators: JUDGED,
+        operators: Operators { bits: JUDGED },
     },
     Row {
         name: *b"SUBSYSTEMSUB",
         len: 9,
         key: Key::Subsystem,
         takes: Takes::Nothing,
-        operators: JUDGED,
+        operators: Operators { bits: JUDGED },
     },
     Row {
         name: *b"SUBSYSTEMSSU",
         len: 10,
         key: Key::Subsystems,
         takes: Takes::Nothing,
-        operators: JUDGED,
+        operators: Operators { bits: JUDGED },
     },
     Row {
         name: *b"DRIVERDRIVER",
         len: 6,
         key: Key::Driver,
         takes: Takes::Nothing,
-        operators: JUDGED,
+        operators: Operators { bits: JUDGED },
     },
     Row {
         name: *b"DRIVERSDRIVE",
         len: 7,
         key: Key::Drivers,
         takes: Takes::Nothing,
-        operators: JUDGED,
+        operators: Operators { bits: JUDGED },
     },
     Row {
         name: *b"ATTRATTRATTR",
         len: 4,
         key: Key::Attr,
         takes: Takes::One,
-        operators: JUDGED,
+        operators: Operators { bits: JUDGED },
     },
     Row {
         name: *b"ATTRSATTRSAT",
         len: 5,
         key: Key::Attrs,
         takes: Takes::One,
-        operators: JUDGED,
+        operators: Operators { bits: JUDGED },
     },
     Row {
         name: *b"ENVENVENVENV",
         len: 3,
         key: Key::Env,
         takes: Takes::One,
-        operators: JUDGED + ASSIGN,
+        operators: Operators {
+            bits: JUDGED + ASSIGN,
+        },
     },
     Row {
         name: *b"SYMLINKSYMLI",
         len: 7,
         key: Key::Symlink,
         takes: Takes::Nothing,
-        operators: EVERY,
+        operators: Operators { bits: EVERY },
     },
     Row {
         name: *b"TAGTAGTAGTAG",
         len: 3,
         key: Key::Tag,
         takes: Takes::Nothing,
-        operators: EVERY,
+        operators: Operators { bits: EVERY },
     },
     Row {
         name: *b"OWNEROWNEROW",
         len: 5,
         key: Key::Owner,
         takes: Takes::Nothing,
-        operators: ASSIGN + FINAL,
+        operators: Operators {
+            bits: ASSIGN + FINAL,
+        },
     },
     Row {
         name: *b"GROUPGROUPGR",
         len: 5,
         key: Key::Group,
         takes: Takes::Nothing,
-        operators: ASSIGN + FINAL,
+        operators: Operators {
+            bits: ASSIGN + FINAL,
+        },
     },
     Row {
         name: *b"MODEMODEMODE",
         len: 4,
         key: Key::Mode,
         takes: Takes::Nothing,
-        operators: ASSIGN + FINAL,
+        operators: Operators {
+            bits: ASSIGN + FINAL,
+        },
     },
     Row {
         name: *b"RUNRUNRUNRUN",
         len: 3,
         key: Key::Run,
         takes: Takes::RunType,
-        operators: ASSIGN + ADD + FINAL,
+        operators: Operators {
+            bits: ASSIGN + ADD + FINAL,
+        },
     },
     Row {
         name: *b"LABELLABELLA",
         len: 5,
         key: Key::Label,
         takes: Takes::Nothing,
-        operators: ASSIGN,
+        operators: Operators { bits: ASSIGN },
     },
     Row {
         name: *b"GOTOGOTOGOTO",
         len: 4,
         key: Key::Goto,
         takes: Takes::Nothing,
-        operators: ASSIGN,
+        operators: Operators { bits: ASSIGN },
     },
     Row {
         name: *b"OPTIONSOPTIO",
         len: 7,
         key: Key::Options,
         takes: Takes::Nothing,
-        operators: ASSIGN + ADD,
+        operators: Operators { bits: ASSIGN + ADD },
     },
     Row {
         name: *b"PROGRAMPROGR",
         len: 7,
         key: Key::Program,
         takes: Takes::Nothing,
-        operators: JUDGED + ASSIGN + ADD + FINAL,
+        operators: Operators {
+            bits: JUDGED + ASSIGN + ADD + FINAL,
+        },
     },
     Row {
         name: *b"RESULTRESULT",
         len: 6,
         key: Key::Result,
         takes: Takes::Nothing,
-        operators: JUDGED,
+        operators: Operators { bits: JUDGED },
     },
 ];
 
 pub fn row_at(k: usize) -> Row
     requires { k < 22 }
-    ensures { (nth k rules.rows ≡ some (row_of result)) × (result.len ≤ 10) }
+    ensures { (nth k rules.rows ≡ Some (row_of result)) × (result.len ≤ 10) }
 {
     ROWS[k]
-}
-
-pub fn allowed(operators: u8, operator: Operator) -> bool
-    ensures { result ≡ rules.allows (allowed_of operators) (operator_of operator) }
-{
-    match operator {
-        Operator::Equal => operators % 2 == 1,
-        Operator::Unequal => operators / 2 % 2 == 1,
-        Operator::Assign => operators / 4 % 2 == 1,
-        Operator::Add => operators / 8 % 2 == 1,
-        Operator::Remove => operators / 16 % 2 == 1,
-        Operator::Final => operators / 32 % 2 == 1,
-    }
 }
 
 // ---- lookup
@@ -274,7 +286,7 @@ fn slot(name: &[u8]) -> usize
 {
     let first = scan::byte_at(name, 0);
     let second = scan::byte_at(name, 1);
-    (scan::wide(first) + 5 * scan::wide(second) + 8 * (name.len() % 4)) % 32
+    (usize::from(first) + 5 * usize::from(second) + 8 * (name.len() % 4)) % 32
 }
 
 // The place of the one row that a name can have.
@@ -282,7 +294,7 @@ fn place(name: &[u8]) -> usize
     ensures { (result < 22) × IsPlace name.now result }
 {
     let s = slot(name);
-    scan::wide(PLACES[s])
+    usize::from(PLACES[s])
 }
 
 // Whether a run of letters is the first len bytes of a row's name.
@@ -293,22 +305,14 @@ fn same_name(run: &[u8], name: [u8; 12], len: usize) -> bool
     scan::same_short(&name[..len], run)
 }
 
-// The key, the argument that it takes and the operators that it allows.
-#[derive(Drop)]
-pub enum KeyFound {
-    Known(Key, Takes, u8),
-    Unknown,
-}
-
-pub fn find_key(name: &[u8]) -> KeyFound
-    ensures { found_of name.now result ≡ rules.row_of name.now }
+// The row of a key, by its name.
+pub fn find_key(name: &[u8]) -> Option<Row>
+    ensures { found_of result ≡ rules.row_of name.now }
 {
     let row = row_at(place(name));
-    let own = row.name;
-    if same_name(name, own, scan::wide(row.len)) {
-        let key = row.key;
-        let takes = row.takes;
-        return KeyFound::Known(key, takes, row.operators);
+    if same_name(name, row.name, usize::from(row.len)) {
+        Some(row)
+    } else {
+        None
     }
-    KeyFound::Unknown
 }

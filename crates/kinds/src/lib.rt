@@ -14,43 +14,13 @@ use keys::{Key, Operator};
 pub fn key_number(key: Key) -> u8
     ensures { result ≡ key_number (key_of key) }
 {
-    match key {
-        Key::Action => 0,
-        Key::Devpath => 1,
-        Key::Kernel => 2,
-        Key::Kernels => 3,
-        Key::Subsystem => 4,
-        Key::Subsystems => 5,
-        Key::Driver => 6,
-        Key::Drivers => 7,
-        Key::Attr => 8,
-        Key::Attrs => 9,
-        Key::Env => 10,
-        Key::Symlink => 11,
-        Key::Tag => 12,
-        Key::Owner => 13,
-        Key::Group => 14,
-        Key::Mode => 15,
-        Key::Run => 16,
-        Key::Label => 17,
-        Key::Goto => 18,
-        Key::Options => 19,
-        Key::Program => 20,
-        Key::Result => 21,
-    }
+    key as u8
 }
 
 fn operator_number(operator: Operator) -> u8
     ensures { result ≡ op_number (operator_of operator) }
 {
-    match operator {
-        Operator::Equal => 0,
-        Operator::Unequal => 1,
-        Operator::Assign => 2,
-        Operator::Add => 3,
-        Operator::Remove => 4,
-        Operator::Final => 5,
-    }
+    operator as u8
 }
 
 fn plain_number(plain: bool) -> usize
@@ -62,11 +32,12 @@ fn plain_number(plain: bool) -> usize
 pub fn kind_of(key: Key, operator: Operator, plain: bool) -> usize
     ensures { result ≡ kind_with (key_of key) (operator_of operator) plain }
 {
-    key_number(key) as usize * 16 + plain_number(plain) + operator_number(operator) as usize
+    usize::from(key_number(key)) * 16 + plain_number(plain) + usize::from(operator_number(operator))
 }
 
 // ---- and back
 
+// By hand, since no cast gives a key for a number.
 pub fn key_with(n: usize) -> Key
     ensures { key_of result ≡ key_with n }
 {
@@ -96,6 +67,7 @@ pub fn key_with(n: usize) -> Key
     }
 }
 
+// By hand, since no cast gives an operator for a number.
 pub fn operator_with(n: usize) -> Operator
     ensures { operator_of result ≡ op_with n }
 {
@@ -120,11 +92,11 @@ pub fn plain_with(n: usize) -> bool
 pub fn is_program(key: Key) -> bool
     ensures { result ≡ same_key (key_of key) PROGRAM }
 {
-    key_number(key) == 20
+    key == Key::Program
 }
 
 pub fn is_result(key: Key) -> bool
     ensures { result ≡ same_key (key_of key) RESULT }
 {
-    key_number(key) == 21
+    key == Key::Result
 }

@@ -4,7 +4,7 @@ use Prim.Native.Nat.{ℕ, zero, suc, ◌+◌, ◌-◌, ◌*◌, ◌≤◌, ◌<�
 use mathlib.Core.Path.{◌≡◌, refl, sym, ap, ap₂, ◌∙◌, subst}
 use mathlib.Core.Bool.{Bool, true, false}
 use mathlib.Core.List.{List, [], ◌∷◌, ◌++◌}
-use mathlib.Core.Option.{Option, none, some}
+use Rattle.std.specs.Prelude.{Option, None, Some}
 use native.Mathlib.Omega.{arith}
 use borrow.Author.Tests.{ltb-true, ltb-false}
 use lib.Dec.{ltb}
@@ -47,8 +47,8 @@ first_by n r ps false = refl
 
 kept_by_lem : (ps : List (Placed Rule)) → ((g : List ℕ) → is_some (goes_to reader g (emptied ps)) ≡ is_some (goes_to reader g (kept_rules reader ps)))
     → (o : Option (List ℕ)) → is_kept reader o (emptied ps) ≡ is_kept reader o (kept_rules reader ps)
-kept_by_lem ps f none = refl
-kept_by_lem ps f (some g) = f g
+kept_by_lem ps f None = refl
+kept_by_lem ps f (Some g) = f g
 
 goes_same : (ps : List (Placed Rule)) (g : List ℕ) → is_some (goes_to reader g (emptied ps)) ≡ is_some (goes_to reader g (kept_rules reader ps))
 unfolding emptied kept_rules goes_to value_of
@@ -56,7 +56,7 @@ goes_same [] g = refl
 goes_same (line n r ∷ ps) g = rw (kept_by_lem ps (goes_same ps) (goto_of r)) (at (is_kept reader (goto_of r) (kept_rules reader ps)) (goes_same ps g))
   where
     label : (b : Bool) → is_some (goes_to reader g (emptied ps)) ≡ is_some (goes_to reader g (kept_rules reader ps))
-        → is_some (pick b (some n) (goes_to reader g (emptied ps))) ≡ is_some (pick b (some n) (goes_to reader g (kept_rules reader ps)))
+        → is_some (pick b (Some n) (goes_to reader g (emptied ps))) ≡ is_some (pick b (Some n) (goes_to reader g (kept_rules reader ps)))
     label true f = refl
     label false f = f
 
@@ -67,8 +67,8 @@ goes_same (line n r ∷ ps) g = rw (kept_by_lem ps (goes_same ps) (goto_of r)) (
 
 -- the number that strikes a rule, by the table
 final-by : (o : Option (List ℕ)) (r : Rule) (ys : List (Placed (LineRead Rule))) → fault_of (answered_by reader o r (rules_in (unanswered reader ys))) ≡ pick (is_kept reader o (emptied (rules_in ys))) 0 19
-final-by none r ys = refl
-final-by (some g) r ys = rw (rules-kept reader ys, goes_same (rules_in ys) g) (at (is_some (goes_to reader g (kept_rules reader (rules_in ys)))))
+final-by None r ys = refl
+final-by (Some g) r ys = rw (rules-kept reader ys, goes_same (rules_in ys) g) (at (is_some (goes_to reader g (kept_rules reader (rules_in ys)))))
   where
     at : (b : Bool) → fault_of (kept_by reader b r) ≡ pick b 0 19
     at true = refl

@@ -14,24 +14,18 @@ ghost use Rattle.lines.specs.Ends.{end_from};
 ghost use Rattle.table.specs.Puts.{Added};
 ghost use Rattle.left_lines.specs.Left.{After, Unread, FateIs, next_of, left_bytes, strike_at, Listed, Leaves, LeftIs, AllLeft};
 
-use lines::JoinedEnd;
+use lines::Extent;
 
 // ---- a line
 
 // Where a line ends, and how many newlines it joins.
-#[derive(Clone, Copy)]
-pub struct Extent {
-    pub end: usize,
-    pub newlines: usize,
-}
-
 fn extent_of(text: &[u8], at: usize) -> Extent
     requires { at ≤ length text.now }
     ensures { (result.end ≡ end_from text.now at) × (newlines_in (part text.now at result.end) ≡ result.newlines) }
 {
     match lines::joined_end(text, at) {
-        JoinedEnd::At(end, newlines) => Extent { end, newlines },
-        JoinedEnd::Open(end, newlines) => Extent { end, newlines },
+        Ok(extent) => extent,
+        Err(extent) => extent,
     }
 }
 
@@ -98,10 +92,8 @@ fn put_newlines(target: &mut [u8], used: usize, n: usize)
     requires { used + n ≤ length target.old }
     ensures { Added (replicate n 10) used target.old target.new }
 {
-    let mut i: usize = 0;
-    while i < n {
+    for i in 0..n {
         target[used + i] = b'\n';
-        i += 1;
     }
 }
 

@@ -11,11 +11,9 @@ use Rattle.lists.specs.Bytes.{holds, part}
 use Rattle.text.specs.Lines.{blank, newlines, one_more}
 use Rattle.text.proofs.Places.{size-le}
 use Rattle.text.proofs.Unjoined.{unjoined-same}
-use Rattle.lines.specs.declared.LineEnd.TheVariants as end'
-use Rattle.lines.specs.declared.JoinedEnd.TheVariants as joined
-use Rattle.lines.specs.declared.Unjoined.TheVariants as bytes
-use Rattle.lines.specs.declared.LineFound.TheVariants as found
-use Rattle.lines.specs.Ends.{end_from, EndsAt, JoinedAt, UnjoinedIs, Found}
+use Rattle.std.specs.Prelude.{None, Some}
+use Rattle.lines.specs.declared.Extent.{Extent}
+use Rattle.lines.specs.Ends.{end_from, EndsAt, Reaches, UnjoinedIs, Found}
 
 -- ---- places
 
@@ -47,22 +45,21 @@ no_newline (b ∷ w) h = at (eqb b 10) refl h (λ k. no_newline w k)
 
 -- ---- a line that is found
 
-module _ (t copy : List ℕ) (at e : ℕ) where
-  pub found-alone : EndsAt t at (end'.At e) → Found t copy at (record { end = e; newlines = 0; copied = false; size = 0 })
-  found-alone (clean, j) = record {
+module _ (t copy : List ℕ) (at : ℕ) where
+  pub found-alone : (e : ℕ) → EndsAt t at (Some e) → Found t copy at (record { extent = record { end = e; newlines = 0 }; copied = None })
+  found-alone e (clean, j) = record {
     joined_at = j;
-    room = omega arith;
+    room = tt;
     held = sym (unjoined-same (part t at e) (no_newline (part t at e) j.1));
     clean = clean.clean;
   }
 
-  module _ (n : ℕ) (j : JoinedAt t at (joined.At e n)) where
-    pub found_copied : (m : ℕ) → length copy ≡ 1024 → UnjoinedIs (part t at e) copy (bytes.Bytes m) → Found t copy at (record { end = e; newlines = n; copied = true; size = m })
-    found_copied m s u =
-        let same = part-start copy m ∙ u.1 in
-        record {
-          joined_at = j;
-          room = omega (arith, u.0);
-          held = same;
-          clean = ap (holds 0) same ∙ u.2;
-        }
+  pub found_copied : (x : Extent) → Reaches t at x false → (m : ℕ) → length copy ≡ 1024 → UnjoinedIs (part t at x.end) copy (Some m) → Found t copy at (record { extent = x; copied = Some m })
+  found_copied x j m s u =
+      let same = part-start copy m ∙ u.1 in
+      record {
+        joined_at = j;
+        room = omega (arith, u.0);
+        held = same;
+        clean = ap (holds 0) same ∙ u.2;
+      }

@@ -4,42 +4,34 @@
 
 ghost use Rattle.std.specs.Prelude.{◌≡◌, ◌≤◌, ◌<◌, length};
 ghost use Rattle.lists.specs.Bytes.{part};
-ghost use Rattle.lines.specs.Ends.{ends_slash, goes, held_in, CleanLine, EndsAt, JoinedAt, UnjoinedIs, FoundIs};
+ghost use Rattle.lines.specs.Ends.{ends_slash, goes, held_in, CleanLine, CopyIn, EndsAt, JoinedAt, UnjoinedIs, FoundIs};
+
+use refusals::Refusal;
 
 // ---- a line of one physical line
-
-#[derive(Drop)]
-pub enum LineEnd {
-    // the place of the newline that ends the line, or the end of the text; the line joins nothing and holds no NUL
-    At(usize),
-    // the first physical line ends in a backslash or holds NUL
-    Other,
-}
 
 // A backslash is the last byte of a part.
 fn ends_in_slash(text: &[u8], at: usize, end: usize) -> bool
     requires { (at ≤ end) × (end ≤ length text.now) }
     ensures { result ≡ ends_slash (part text.now at end) }
 {
-    if at < end {
-        text[end - 1] == b'\\'
-    } else {
-        false
-    }
+    at < end && text[end - 1] == b'\\'
 }
 
-fn ended(text: &[u8], at: usize, end: usize) -> LineEnd
+fn ended(text: &[u8], at: usize, end: usize) -> Option<usize>
     requires { (at ≤ length text.now) × CleanLine text.now at end }
     ensures { EndsAt text.now at result }
 {
     if ends_in_slash(text, at, end) {
-        LineEnd::Other
+        None
     } else {
-        LineEnd::At(end)
+        Some(end)
     }
 }
 
-fn line_end(text: &[u8], at: usize) -> LineEnd
+// The place of the newline that ends the line, or the end of the text, for a line that joins nothing and holds no NUL. There is none where the
+// first physical line ends in a backslash or holds NUL.
+fn line_end(text: &[u8], at: usize) -> Option<usize>
     requires { at ≤ length text.now }
     ensures { EndsAt text.now at result }
 {
@@ -50,15 +42,9 @@ fn line_end(text: &[u8], at: usize) -> LineEnd
             i += 1;
         } else {
             match b {
-                b'\n' => {
-                    return ended(text, at, i);
-                }
-                0 => {
-                    return LineEnd::Other;
-                }
-                _ => {
-                    i += 1;
-                }
+                b'\n' => return ended(text, at, i),
+                0 => return None,
+                _ => i += 1,
             }
         }
     }
@@ -67,36 +53,36 @@ fn line_end(text: &[u8], at: usize) -> LineEnd
 
 // ---- any line
 
-#[derive(Drop)]
-pub enum JoinedEnd {
-    // the place of the newline that ends the line, or the end of the text, and how many newlines the line joins
-    At(usize, usize),
-    // the same of a line whose last backslash nothing follows
-    Open(usize, usize),
+// The place of the newline that ends a line, or the end of the text, and how many newlines the line joins.
+#[derive(Clone, Copy)]
+pub struct Extent {
+    pub end: usize,
+    pub newlines: usize,
 }
 
-// Goes from one physical line to the next while they are joined; a comment joins nothing.
-pub fn joined_end(text: &[u8], at: usize) -> JoinedEnd
+// Goes from one physical line to the next while they are joined; a comment joins nothing. A line whose last backslash nothing follows is an error.
+pub fn joined_end(text: &[u8], at: usize) -> Result<Extent, Extent>
     requires { at ≤ length text.now }
     ensures { JoinedAt text.now at result }
 {
     let mut end = scan::line_end(text, at);
     let first = scan::blank_end(text, at);
     if scan::byte_at(text, first) == b'#' {
-        return JoinedEnd::At(end, 0);
+        return Ok(Extent { end, newlines: 0 });
     }
     let mut slash = ends_in_slash(text, at, end);
     let mut newlines: usize = 0;
     while slash {
-        if text.len() - end <= 1 {
-            return JoinedEnd::Open(end, newlines);
+        let last = text.len() - end <= 1;
+        if last {
+            return Err(Extent { end, newlines });
         }
         let begin = end + 1;
         end = scan::line_end(text, begin);
         slash = ends_in_slash(text, begin, end);
         newlines += 1;
     }
-    JoinedEnd::At(end, newlines)
+    Ok(Extent { end, newlines })
 }
 
 // ---- the bytes of a joined line
@@ -108,124 +94,93 @@ fn is_gone(text: &[u8], at: usize, end: usize) -> bool
 {
     match text[at] {
         b'\n' => true,
-        b'\\' => {
-            let next = at + 1;
-            if next < end {
-                text[next] == b'\n'
-            } else {
-                false
-            }
-        }
+        b'\\' => at + 1 < end && text[at + 1] == b'\n',
         _ => false,
     }
 }
 
-#[derive(Drop)]
-pub enum Unjoined {
-    // so many bytes, none of them NUL
-    Bytes(usize),
-    // more than 1,024, or NUL
-    Bad,
-}
-
-// Copies a line without its joins.
-fn unjoin(text: &[u8], at: usize, end: usize, line: &mut [u8]) -> Unjoined
+// Copies a line without its joins: so many bytes, none of them NUL. There is no room for more than 1,024.
+fn unjoin(text: &[u8], at: usize, end: usize, line: &mut [u8]) -> Option<usize>
     requires { (at ≤ end) × (end ≤ length text.now) × (length line.old ≡ 1024) }
     ensures { UnjoinedIs (part text.now at end) line.new result }
 {
-    let mut i = at;
     let mut n: usize = 0;
-    while i < end {
+    for i in at..end {
         if is_gone(text, i, end) {
-            i += 1;
-        } else {
-            let b = text[i];
-            if b == 0 {
-                return Unjoined::Bad;
-            }
-            if 1024 <= n {
-                return Unjoined::Bad;
-            }
-            line[n] = b;
-            n += 1;
-            i += 1;
+            continue;
         }
+        let b = text[i];
+        if b == 0 || 1024 <= n {
+            return None;
+        }
+        line[n] = b;
+        n += 1;
     }
-    Unjoined::Bytes(n)
+    Some(n)
 }
 
 // ---- a line and its bytes
 
+// A line, and how many bytes of it were copied, if it was.
 #[derive(Clone, Copy)]
 pub struct Line {
-    // the place of the newline that ends the line, or the end of the text
-    pub end: usize,
-    // how many newlines it joins
-    pub newlines: usize,
-    // whether its bytes were copied, and how many of them
-    pub copied: bool,
-    pub size: usize,
+    pub extent: Extent,
+    pub copied: Option<usize>,
 }
 
-#[derive(Drop)]
-pub enum LineFound {
-    At(Line),
-    // nothing follows its last backslash; its end, and how many newlines it joins
-    Open(usize, usize),
-    // more than 1,024 bytes without its joins, or NUL; the same
-    Bad(usize, usize),
+// A line whose last backslash nothing follows, or that holds more than 1,024 bytes without its joins, or NUL.
+#[derive(Clone, Copy)]
+pub struct LineFault {
+    pub extent: Extent,
+    pub refusal: Refusal,
 }
 
-fn copy_line(text: &[u8], at: usize, copy: &mut [u8]) -> LineFound
+fn copy_line(text: &[u8], at: usize, copy: &mut [u8]) -> Result<Line, LineFault>
     requires { (at ≤ length text.now) × (length copy.old ≡ 1024) }
     ensures { FoundIs text.now copy.new at result }
 {
-    match joined_end(text, at) {
-        JoinedEnd::Open(last, joins) => LineFound::Open(last, joins),
-        JoinedEnd::At(end, newlines) => match unjoin(text, at, end, copy) {
-            Unjoined::Bad => LineFound::Bad(end, newlines),
-            Unjoined::Bytes(size) => {
-                let line = Line {
-                    end,
-                    newlines,
-                    copied: true,
-                    size,
-                };
-                LineFound::At(line)
-            }
-        },
+    let extent = match joined_end(text, at) {
+        Ok(extent) => extent,
+        Err(extent) => {
+            return Err(LineFault {
+                extent,
+                refusal: Refusal::LineOpen,
+            });
+        }
+    };
+    match unjoin(text, at, extent.end, copy) {
+        Some(size) => Ok(Line {
+            extent,
+            copied: Some(size),
+        }),
+        None => Err(LineFault {
+            extent,
+            refusal: Refusal::LineBad,
+        }),
     }
 }
 
 // The line at a place. One that may be joined, or holds NUL, is copied without its joins.
-pub fn find_line(text: &[u8], at: usize, copy: &mut [u8]) -> LineFound
+pub fn find_line(text: &[u8], at: usize, copy: &mut [u8]) -> Result<Line, LineFault>
     requires { (at ≤ length text.now) × (length copy.old ≡ 1024) }
     ensures { FoundIs text.now copy.new at result }
 {
     match line_end(text, at) {
-        LineEnd::At(end) => {
-            let line = Line {
-                end,
-                newlines: 0,
-                copied: false,
-                size: 0,
-            };
-            LineFound::At(line)
-        }
-        LineEnd::Other => copy_line(text, at, copy),
+        Some(end) => Ok(Line {
+            extent: Extent { end, newlines: 0 },
+            copied: None,
+        }),
+        None => copy_line(text, at, copy),
     }
 }
 
 // Its bytes, where they are: in the text, or in the copy.
 pub fn bytes_of<'a>(text: &'a [u8], copy: &'a [u8], at: usize, line: Line) -> &'a [u8]
-    requires { (at ≤ line.end) × (line.end ≤ length text.now) × (line.size ≤ length copy.now) }
+    requires { (at ≤ line.extent.end) × (line.extent.end ≤ length text.now) × CopyIn copy.now line.copied }
     ensures { result.now ≡ held_in text.now copy.now at line }
 {
-    let end = line.end;
-    let size = line.size;
-    if line.copied {
-        &copy[0..size]
-    } else {
-        &text[at..end]
+    match line.copied {
+        Some(size) => &copy[..size],
+        None => &text[at..line.extent.end],
     }
 }

@@ -1,12 +1,11 @@
 -- The names in a text, and the byte rule on all of them at once.
 -- Assumes nothing.
-use Rattle.std.specs.Prelude.{ℕ, ◌≤◌, ◌<◌, ◌≡◌, Bool, true, false, List, [], ◌∷◌, eqb, length, drop}
+use Rattle.std.specs.Prelude.{ℕ, ◌≤◌, ◌<◌, ◌≡◌, Bool, true, false, List, [], ◌∷◌, eqb, length, drop, Option, Some, None}
 use Rattle.lists.specs.Lists.{pick, is_empty, reject}
 use Rattle.lists.specs.Bytes.{holds, part}
 use Rattle.lists.specs.Runs.{split_at}
 use Rattle.engine.specs.Assign.{clean_byte}
-use Rattle.link_names.specs.declared.NameFound.{NameFound}
-use Rattle.link_names.specs.declared.NameFound.TheVariants.{At, End}
+use Rattle.link_names.specs.declared.Name.{Name}
 
 -- `#+-.:=@_/`
 abbrev pub marks : List ℕ
@@ -25,6 +24,6 @@ abbrev pub names : List ℕ → List (List ℕ)
 names t = reject (λ x. is_empty x) (split_at 32 t)
 
 -- the first name from a place on, and the place behind it
-abbrev pub Named : List ℕ → ℕ → NameFound → Type 0
-Named t from (At s e) = (names (drop from t) ≡ part t s e ∷ names (drop e t)) × (from ≤ s) × (s < e) × (e ≤ length t)
-Named t from End = names (drop from t) ≡ []
+abbrev pub Named : List ℕ → ℕ → Option Name → Type 0
+Named t from (Some n) = (names (drop from t) ≡ part t n.start n.end ∷ names (drop n.end t)) × (from ≤ n.start) × (n.start < n.end) × (n.end ≤ length t)
+Named t from None = names (drop from t) ≡ []

@@ -4,21 +4,13 @@
 
 #![tactic(auto)]
 
-ghost use Rattle.std.specs.Prelude.{◌≤◌, length, IfOk};
+ghost use Rattle.std.specs.Prelude.{◌≤◌, length, IfOk, IfSome};
 ghost use Rattle.listing.specs.Counts.{IsPrefixLen};
 
-use insertion::Put;
 use std::env::{Env, FillError};
 use std::fs::File;
 use std::io::Read;
 use std::{fs, io, str};
-
-// Whether a file was read, and how many bytes of the buffer it takes.
-#[derive(Drop)]
-struct FileRead {
-    ok: bool,
-    len: usize,
-}
 
 // Writes a line to standard error: what failed, and why.
 fn fail(rt: &HostRuntime, what: &[u8], error: io::Error) {
@@ -52,9 +44,9 @@ fn read_path(rt: &HostRuntime, path: &[u8], buf: &mut [u8]) -> io::Result<usize>
     read_full(&mut file, buf)
 }
 
-// What fits of the file that an argument names. A file that cannot be read is named on standard error.
-fn read_file(rt: &HostRuntime, i: usize, buf: &mut [u8]) -> FileRead
-    ensures { IsPrefixLen result.len buf.new }
+// How much of the buffer the file that an argument names takes, as far as it fits. A file that cannot be read is named on standard error.
+fn read_file(rt: &HostRuntime, i: usize, buf: &mut [u8]) -> Option<usize>
+    ensures { IfSome result (λ n. IsPrefixLen n buf.new) }
 {
     let mut path = [0u8; 4096];
     let Ok(length) = rt.arg(i, &mut path) else {
@@ -63,13 +55,13 @@ fn read_file(rt: &HostRuntime, i: usize, buf: &mut [u8]) -> FileRead
             b"file name",
             io::Error::from(io::ErrorKind::InvalidFilename),
         );
-        return FileRead { ok: false, len: 0 };
+        return None;
     };
     match read_path(rt, &path[..length], buf) {
-        Ok(len) => FileRead { ok: true, len },
+        Ok(len) => Some(len),
         Err(error) => {
             fail(rt, &path[..length], error);
-            FileRead { ok: false, len: 0 }
+            None
         }
     }
 }
@@ -77,10 +69,7 @@ fn read_file(rt: &HostRuntime, i: usize, buf: &mut [u8]) -> FileRead
 // Whether the program was given an argument; argument 0 is its name.
 fn is_given(rt: &HostRuntime, i: usize) -> bool {
     let mut word = [0u8; 1];
-    match rt.arg(i, &mut word) {
-        Err(FillError::NotPresent) => false,
-        _ => true,
-    }
+    !matches!(rt.arg(i, &mut word), Err(FillError::NotPresent))
 }
 
 // Whether an argument is missing or a dash.
@@ -88,30 +77,30 @@ fn is_left_out(rt: &HostRuntime, i: usize) -> bool {
     let mut word = [0u8; 4096];
     match rt.arg(i, &mut word) {
         Ok(length) => length == 1 && word[0] == b'-',
-        Err(FillError::NotPresent) => true,
-        Err(FillError::TooLong) => false,
+        Err(error) => matches!(error, FillError::NotPresent),
     }
 }
 
 // The answer sheet, in a buffer of zeros; left out it is the sheet of no entries, which is one zero.
-fn read_sheet(rt: &HostRuntime, i: usize, buf: &mut [u8]) -> FileRead
+fn read_sheet(rt: &HostRuntime, i: usize, buf: &mut [u8]) -> Option<usize>
     requires { 1 ≤ length buf.old }
-    ensures { IsPrefixLen result.len buf.new }
+    ensures { IfSome result (λ n. IsPrefixLen n buf.new) }
 {
     if is_left_out(rt, i) {
-        return FileRead { ok: true, len: 1 };
+        Some(1)
+    } else {
+        read_file(rt, i, buf)
     }
-    read_file(rt, i, buf)
 }
 
-fn say(rt: &HostRuntime, listing: Put, out: &[u8]) {
+fn say(rt: &HostRuntime, listing: Option<usize>, out: &[u8]) {
     match listing {
-        Put::Done(n) => if n <= out.len() {
-            if let Err(error) = rt.stdout().write_all(&out[0..n]) {
+        Some(n) => if n <= out.len() {
+            if let Err(error) = rt.stdout().write_all(&out[..n]) {
                 fail(rt, b"standard output", error);
             }
         },
-        Put::Full => {
+        None => {
             let _ = eprintln!(rt; "the listing is too long");
         }
     }
@@ -119,20 +108,18 @@ fn say(rt: &HostRuntime, listing: Put, out: &[u8]) {
 
 // From the record that the third argument names, or from the fresh one.
 fn print_listing(rt: &HostRuntime, text: &[u8], device: &[u8], sheet: &[u8]) {
-    let mut out: [u8; 98304] = [0; 98304];
+    let mut out = [0u8; 98304];
     if is_left_out(rt, 3) {
         let listing = listing_run::list(text, device, sheet, &mut out);
         say(rt, listing, &out);
         return;
     }
     // One byte more than may be accepted.
-    let mut outcome: [u8; 18126] = [0; 18126];
-    let start = read_file(rt, 3, &mut outcome);
-    if !start.ok {
+    let mut outcome = [0u8; 18126];
+    let Some(end) = read_file(rt, 3, &mut outcome) else {
         return;
-    }
-    let outcome_end = start.len;
-    let listing = listing_run::list_from(text, device, &outcome[..outcome_end], sheet, &mut out);
+    };
+    let listing = listing_run::list_from(text, device, &outcome[..end], sheet, &mut out);
     say(rt, listing, &out);
 }
 
@@ -142,24 +129,18 @@ fn main(rt: HostRuntime) {
         return;
     }
     // One byte more than may be accepted of each.
-    let mut text: [u8; 32769] = [0; 32769];
-    let mut device: [u8; 16385] = [0; 16385];
-    let mut sheet: [u8; 32769] = [0; 32769];
-    let rules = read_file(&rt, 1, &mut text);
-    if !rules.ok {
+    let mut text = [0u8; 32769];
+    let mut device = [0u8; 16385];
+    let mut sheet = [0u8; 32769];
+    let Some(text_end) = read_file(&rt, 1, &mut text) else {
         return;
-    }
-    let recorded = read_file(&rt, 2, &mut device);
-    if !recorded.ok {
+    };
+    let Some(device_end) = read_file(&rt, 2, &mut device) else {
         return;
-    }
-    let answers = read_sheet(&rt, 4, &mut sheet);
-    if !answers.ok {
+    };
+    let Some(sheet_end) = read_sheet(&rt, 4, &mut sheet) else {
         return;
-    }
-    let text_end = rules.len;
-    let device_end = recorded.len;
-    let sheet_end = answers.len;
+    };
     print_listing(
         &rt,
         &text[..text_end],

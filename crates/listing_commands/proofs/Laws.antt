@@ -19,9 +19,8 @@ use Rattle.bits.specs.Fields.{bit, flag_at}
 use Rattle.bits.proofs.Fields.{bit_small, eqb-bit}
 use Rattle.engine.specs.Operations.{Command, command_fields, enc_command, list_fields, run_list}
 use Rattle.engine.specs.Listing.{escaped, line_of, command_line}
-use Rattle.insertion.specs.declared.Put.{Put}
-use Rattle.listing_lines.specs.Behind.{Behind}
-use Rattle.listing_lines.proofs.Laws.{Leads, leads_more, leads_last}
+use Rattle.insertion.specs.Append.{Placed}
+use Rattle.listing_lines.proofs.Laws.{Leads, leads_more, leads_full, leads_last}
 use Rattle.listing_commands.specs.Lines.{size, first, First, Entries, Stands, entry_lines}
 use Rattle.listing_commands.specs.declared.CommandHead.{CommandHead}
 
@@ -64,18 +63,27 @@ module _ (l : List ℕ) (at left : ℕ) (h : 0 < left) (w : Entries left (drop a
         ∙ ap (take (number_at (drop at l) 1 10)) (sym (drop-drop 2 at l)) in
         λ i. record { builtin = f.builtin i; text = t i }
 
-    pub lines_next : (y o₀ : List ℕ) (f₀ : Put) (o : List ℕ) (p : Put) → Leads y o₀ f₀ (entry_lines left (drop at l)) o p → (q : Put) (o₁ : List ℕ)
-        → Behind (command_line here) o p q o₁ → Leads y o₀ f₀ (entry_lines (left - 1) (drop (at + 2 + r.len) l)) o₁ q
-    lines_next y o₀ f₀ o p lead q o₁ b =
-        let more : List ℕ = entry_lines (left - 1) (drop (at + 2 + r.len) l) in
-        let turn : entry_lines left (drop at l) ≡ command_line here ++ more =
-        lines-first left (drop at l) h
-        ∙ ap₂ (λ (a c : List ℕ). a ++ c) (ap command_line (sym here-first)) (ap (entry_lines (left - 1)) next_place) in
-        leads_more y o₀ f₀ o p (command_line here) more (subst (λ (z : List ℕ). Leads y o₀ f₀ z o p) turn lead) q o₁ b
+    abbrev others : List ℕ
+    others = entry_lines (left - 1) (drop (at + 2 + r.len) l)
 
-pub lines_end : (left : ℕ) (bs y o₀ : List ℕ) (f₀ : Put) (o : List ℕ) (p : Put) → left ≤ 0 → Leads y o₀ f₀ (entry_lines left bs) o p → Behind y o₀ f₀ p o
-lines_end left bs y o₀ f₀ o p h lead =
-    leads_last y o₀ f₀ o p (subst (λ (z : List ℕ). Leads y o₀ f₀ z o p) (ap_at (λ i. entry_lines i bs) left 0 (omega arith)) lead)
+    -- its line is written, or there is no room for it
+    module _ (y o₀ : List ℕ) (used₀ : ℕ) (o : List ℕ) (used : ℕ) (lead : Leads y o₀ used₀ (entry_lines left (drop at l)) o used) where
+      parted : Leads y o₀ used₀ (command_line here ++ others) o used
+      parted =
+          let turn : entry_lines left (drop at l) ≡ command_line here ++ others =
+          lines-first left (drop at l) h
+          ∙ ap₂ (λ (a c : List ℕ). a ++ c) (ap command_line (sym here-first)) (ap (entry_lines (left - 1)) next_place) in
+          subst (λ (z : List ℕ). Leads y o₀ used₀ z o used) turn lead
+
+      pub lines_next : (k : ℕ) (o₁ : List ℕ) → Placed (command_line here) o used k o₁ → Leads y o₀ used₀ others o₁ k
+      lines_next = leads_more y o₀ used₀ o used (command_line here) others parted
+
+      pub lines_full : length o < used + length (command_line here) → length o₀ < used₀ + length y
+      lines_full = leads_full y o₀ used₀ o used (command_line here) others parted
+
+pub lines_end : (left : ℕ) (bs y o₀ : List ℕ) (used₀ : ℕ) (o : List ℕ) (used : ℕ) → used ≤ length o → left ≤ 0 → Leads y o₀ used₀ (entry_lines left bs) o used → Placed y o₀ used₀ used o
+lines_end left bs y o₀ used₀ o used room h lead =
+    leads_last y o₀ used₀ o used room (subst (λ (z : List ℕ). Leads y o₀ used₀ z o used) (ap_at (λ i. entry_lines i bs) left 0 (omega arith)) lead)
 
 -- ---- one line
 

@@ -3,7 +3,6 @@
 
 #![tactic(auto)]
 
-use insertion::Put;
 use std::io::Stdout;
 
 // ttyUSB0 of subsystem tty, node 188:0, and its parent 1-2 of driver usb with attribute serial=RC-0417.
@@ -24,35 +23,37 @@ fn say(stdout: Stdout, word: &[u8]) {
     let _ = stdout.write_all(word);
 }
 
-fn say_listing(stdout: Stdout, name: &[u8], listing: Put, out: &[u8]) {
+fn say_listing(stdout: Stdout, name: &[u8], listing: Option<usize>, out: &[u8]) {
     say(stdout, b"# ");
     say(stdout, name);
     say(stdout, b"\n");
     match listing {
-        Put::Done(n) => if n <= out.len() {
-            say(stdout, &out[0..n]);
+        Some(n) => if n <= out.len() {
+            say(stdout, &out[..n]);
         },
-        Put::Full => say(stdout, b"full\n"),
+        None => say(stdout, b"full\n"),
     }
 }
 
-// From the fresh record of a device.
+// From the fresh record of a device, with an answer sheet.
+fn show_run(stdout: Stdout, name: &[u8], text: &[u8], device: &[u8], sheet: &[u8]) {
+    let mut out = [0u8; 4096];
+    let listing = listing_run::list(text, device, sheet, &mut out);
+    say_listing(stdout, name, listing, &out);
+}
+
 fn show(stdout: Stdout, name: &[u8], text: &[u8], device: &[u8]) {
-    let mut out: [u8; 4096] = [0; 4096];
-    let listing = listing_run::list(text, device, &NO_ANSWERS, &mut out);
-    say_listing(stdout, name, listing, &out);
+    show_run(stdout, name, text, device, &NO_ANSWERS);
 }
 
-fn show_from(stdout: Stdout, name: &[u8], text: &[u8], outcome: &[u8]) {
-    let mut out: [u8; 4096] = [0; 4096];
-    let listing = listing_run::list_from(text, &DEVICE, outcome, &NO_ANSWERS, &mut out);
-    say_listing(stdout, name, listing, &out);
-}
-
-// From the fresh record, with an answer sheet.
 fn show_answered(stdout: Stdout, name: &[u8], text: &[u8], sheet: &[u8]) {
-    let mut out: [u8; 4096] = [0; 4096];
-    let listing = listing_run::list(text, &DEVICE, sheet, &mut out);
+    show_run(stdout, name, text, &DEVICE, sheet);
+}
+
+// From an outcome record.
+fn show_from(stdout: Stdout, name: &[u8], text: &[u8], outcome: &[u8]) {
+    let mut out = [0u8; 4096];
+    let listing = listing_run::list_from(text, &DEVICE, outcome, &NO_ANSWERS, &mut out);
     say_listing(stdout, name, listing, &out);
 }
 

@@ -3,7 +3,7 @@
 use Prim.Native.Nat.{ℕ, ◌+◌, ◌-◌, ◌≤◌}
 use mathlib.Core.Path.{◌≡◌, refl, ap, ◌∙◌}
 use mathlib.Core.List.{List, [], ◌∷◌, ◌++◌, append_assoc}
-use mathlib.Core.Option.{Option, none, some}
+use Rattle.std.specs.Prelude.{Option, None, Some}
 use native.Mathlib.Omega.{arith}
 use borrow.Author.Tests.{eq-eqb, ne_eqb}
 use lib.ListN.{length, take, drop, length-append}
@@ -33,14 +33,14 @@ listing-parts visited tried s cs = simp append_assoc
 
 pub mode-unset : (m : Option ℕ) (set : ℕ) → set ≡ mode_set m → set ≡ 0 → [] ≡ mode_line m
 unfolding bytes
-mode-unset none set e z = refl
-mode-unset (some m) set e z = absurd (omega arith)
+mode-unset None set e z = refl
+mode-unset (Some m) set e z = absurd (omega arith)
 
 pub mode-set : (m : Option ℕ) (set mode : ℕ) → set ≡ mode_set m → (set ≡ 0 → ⊥) → mode ≡ mode_bits m
     → line_of (109 ∷ 111 ∷ 100 ∷ 101 ∷ []) (four_octal mode) ≡ mode_line m
 unfolding bytes
-mode-set none set mode e z b = absurd (z e)
-mode-set (some m) set mode e z b = rw b refl
+mode-set None set mode e z b = absurd (z e)
+mode-set (Some m) set mode e z b = rw b refl
 
 -- ---- watch
 

@@ -1,6 +1,6 @@
 -- The lines of the state whose record a target holds.
 -- Assumes nothing.
-use Rattle.std.specs.Prelude.{ℕ, List, ◌∷◌, ◌++◌}
+use Rattle.std.specs.Prelude.{ℕ, List, ◌∷◌, ◌++◌, Option}
 use Rattle.lists.specs.Lists.{cat}
 use Rattle.bits.specs.Signed.{to_signed}
 use Rattle.entries.specs.Entry.{Property}
@@ -10,8 +10,7 @@ use Rattle.engine.specs.Listing.{escaped, signed, line_of, mode_line, set_line, 
 use Rattle.outcome.specs.State.{State}
 use Rattle.outcome_target.specs.Held.{Held}
 use Rattle.outcome_target.specs.declared.Layout.{Layout}
-use Rattle.insertion.specs.declared.Put.{Put}
-use Rattle.listing_lines.specs.Behind.{Behind}
+use Rattle.insertion.specs.Append.{Appended}
 
 -- a line for each text
 abbrev pub text_lines : List ℕ → List (List ℕ) → List ℕ
@@ -42,6 +41,6 @@ list_lines s = text_lines (bytes "link") s.links ++ (property_lines (bytes "env"
 abbrev pub record_lines : ℕ → ℕ → State → List ℕ
 record_lines visited tried s = count_lines visited tried ++ (setting_lines s ++ list_lines s)
 
--- lines of the state whose record the target t holds, written behind what is written so far
-abbrev pub StateBehind : (State → List ℕ) → List ℕ → Layout → List ℕ → Put → Put → List ℕ → Type 0
-StateBehind lines t lay o front r o₁ = (n : ℕ) (s : State) → Held n t lay s → Behind (lines s) o front r o₁
+-- lines of the state whose record the target t holds, written behind the first `used` bytes
+abbrev pub StateBehind : (State → List ℕ) → List ℕ → Layout → List ℕ → ℕ → Option ℕ → List ℕ → Type 0
+StateBehind lines t lay o used r o₁ = (n : ℕ) (s : State) → Held n t lay s → Appended (lines s) o used r o₁

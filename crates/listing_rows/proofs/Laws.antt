@@ -1,6 +1,6 @@
 -- The lines of a row: one entry and the others; and what they are of texts and properties that were read.
 -- Assumes nothing.
-use Prim.Native.Nat.{ℕ, zero, suc, ◌-◌, ◌≤◌, ◌<◌}
+use Prim.Native.Nat.{ℕ, zero, suc, ◌+◌, ◌-◌, ◌≤◌, ◌<◌}
 use mathlib.Core.Path.{◌≡◌, refl, sym, ap, ap₂, ◌∙◌, subst}
 use mathlib.Core.List.{List, [], ◌∷◌, ◌++◌}
 use native.Mathlib.Omega.{arith}
@@ -13,22 +13,15 @@ use Rattle.entries.specs.Parse.{got, many}
 use Rattle.entries.proofs.Rows.{through}
 use Rattle.rows.proofs.Readers.{property-reads, one-got}
 use Rattle.engine.specs.Listing.{escaped, line_of}
-use Rattle.insertion.specs.declared.Put.{Put}
+use Rattle.insertion.specs.Append as Append
 use Rattle.rows.specs.Entry.{size, name, rest, Placed}
 use Rattle.rows.specs.Row.{names}
 use Rattle.rows.specs.declared.Kind.{Kind}
 use Rattle.rows.specs.declared.Kind.TheVariants as kind
 use Rattle.rows.specs.declared.Entry.{Entry}
 use Rattle.rows.proofs.Turns.{place-name, place_rest, place-next}
-use Rattle.listing_lines.specs.Behind.{Behind}
-use Rattle.listing_lines.proofs.Laws.{Leads, leads_more, leads_last}
+use Rattle.listing_lines.proofs.Laws.{Leads, leads_more, leads_full, leads_last}
 use Rattle.listing_rows.specs.Lines.{entry_line, entry_lines}
-
--- ---- the line of an entry, by what the entry is
-
-module _ (kind is : Kind) (word x v : List ℕ) (e : kind ≡ is) where
-  pub line_of_lem : (o o₁ : List ℕ) (f f₁ : Put) → Behind (entry_line is word x v) o f f₁ o₁ → Behind (entry_line kind word x v) o f f₁ o₁
-  line_of_lem o o₁ f f₁ b = subst (λ (k : Kind). Behind (entry_line k word x v) o f f₁ o₁) (sym e) b
 
 -- ---- one entry, and the others
 
@@ -38,25 +31,36 @@ lines-first kind word zero bs h = absurd (not-suc-le-zero h)
 lines-first kind word (suc n) bs h =
     ap_at (λ i. entry_line kind word (name kind bs) (rest kind bs) ++ entry_lines kind word i (drop (size kind bs) bs)) n (suc n - 1) (omega arith)
 
--- the line of the entry at place p, which is written
-module _ (kind : Kind) (word l : List ℕ) (p left : ℕ) (y o₀ : List ℕ) (f₀ : Put) (o : List ℕ) (f : Put)
-    (lead : Leads y o₀ f₀ (entry_lines kind word left (drop p l)) o f) where
-  pub entries_next : (e : Entry) → Placed kind l p e → 0 < left → (f₁ : Put) (o₁ : List ℕ)
-      → Behind (entry_line kind word (take (e.rest - e.name) (drop e.name l)) (take (e.end - e.rest) (drop e.rest l))) o f f₁ o₁
-      → Leads y o₀ f₀ (entry_lines kind word (left - 1) (drop e.end l)) o₁ f₁
-  entries_next e w h f₁ o₁ b =
-      let x : List ℕ = entry_line kind word (take (e.rest - e.name) (drop e.name l)) (take (e.end - e.rest) (drop e.rest l)) in
-      let more : List ℕ = entry_lines kind word (left - 1) (drop e.end l) in
-      let turn : entry_lines kind word left (drop p l) ≡ x ++ more =
-      lines-first kind word left (drop p l) h
-      ∙ ap₂ (λ (a c : List ℕ). a ++ c)
-      (ap₂ (entry_line kind word) (sym (place-name kind l p e w)) (sym (place_rest kind l p e w)))
-      (ap (entry_lines kind word (left - 1)) (sym (place-next kind l p e w))) in
-      leads_more y o₀ f₀ o f x more (subst (λ (z : List ℕ). Leads y o₀ f₀ z o f) turn lead) f₁ o₁ b
+-- the line of the entry at place p
+module _ (kind : Kind) (word l : List ℕ) (p left : ℕ) (y o₀ : List ℕ) (used₀ : ℕ) (o : List ℕ) (used : ℕ)
+    (lead : Leads y o₀ used₀ (entry_lines kind word left (drop p l)) o used) where
+  module _ (e : Entry) (w : Placed kind l p e) (h : 0 < left) where
+    abbrev line : List ℕ
+    line = entry_line kind word (take (e.rest - e.name) (drop e.name l)) (take (e.end - e.rest) (drop e.rest l))
 
-  pub entries_end : left ≤ 0 → Behind y o₀ f₀ f o
-  entries_end h =
-      leads_last y o₀ f₀ o f (subst (λ (z : List ℕ). Leads y o₀ f₀ z o f) (ap_at (λ i. entry_lines kind word i (drop p l)) left 0 (omega arith)) lead)
+    abbrev others : List ℕ
+    others = entry_lines kind word (left - 1) (drop e.end l)
+
+    parted : Leads y o₀ used₀ (line ++ others) o used
+    parted =
+        let turn : entry_lines kind word left (drop p l) ≡ line ++ others =
+        lines-first kind word left (drop p l) h
+        ∙ ap₂ (λ (a c : List ℕ). a ++ c)
+        (ap₂ (entry_line kind word) (sym (place-name kind l p e w)) (sym (place_rest kind l p e w)))
+        (ap (entry_lines kind word (left - 1)) (sym (place-next kind l p e w))) in
+        subst (λ (z : List ℕ). Leads y o₀ used₀ z o used) turn lead
+
+    -- is written, or there is no room for it
+    pub entries_next : (k : ℕ) (o₁ : List ℕ) → Append.Placed line o used k o₁ → Leads y o₀ used₀ others o₁ k
+    entries_next = leads_more y o₀ used₀ o used line others parted
+
+    pub entries_full : length o < used + length line → length o₀ < used₀ + length y
+    entries_full = leads_full y o₀ used₀ o used line others parted
+
+  pub entries_end : used ≤ length o → left ≤ 0 → Append.Placed y o₀ used₀ used o
+  entries_end r h =
+      leads_last y o₀ used₀ o used r
+      (subst (λ (z : List ℕ). Leads y o₀ used₀ z o used) (ap_at (λ i. entry_lines kind word i (drop p l)) left 0 (omega arith)) lead)
 
 -- ---- texts
 

@@ -4,48 +4,49 @@
 
 ghost use Rattle.std.specs.Prelude.{◌≤◌, length, drop};
 ghost use Rattle.rows.specs.Row.{Row};
-ghost use Rattle.listing_lines.specs.Behind.{Within, Behind};
+ghost use Rattle.insertion.specs.Append.{Appended};
 ghost use Rattle.listing_rows.specs.Lines.{entry_line, entry_lines};
 
-use insertion::Put;
 use rows::Kind;
 
-fn put_entry(out: &mut [u8], front: Put, word: &[u8], kind: Kind, name: &[u8], rest: &[u8]) -> Put
-    requires { Within (length out.old) front }
-    ensures { Within (length out.new) result × Behind (entry_line kind word.now name.now rest.now) out.old front result out.new }
+fn put_entry(
+    out: &mut [u8],
+    used: usize,
+    word: &[u8],
+    kind: Kind,
+    name: &[u8],
+    rest: &[u8],
+) -> Option<usize>
+    requires { used ≤ length out.old }
+    ensures { Appended (entry_line kind word.now name.now rest.now) out.old used result out.new }
 {
     match kind {
-        Kind::Text => listing_lines::put_line(out, front, word, name),
-        Kind::Property => listing_lines::put_property_line(out, front, word, name, rest),
-        Kind::Run => listing_lines::put_line(out, front, word, name),
-        Kind::Reply => listing_lines::put_line(out, front, word, name),
+        Kind::Property => listing_lines::put_property_line(out, used, word, name, rest),
+        Kind::Text | Kind::Run | Kind::Reply => listing_lines::put_line(out, used, word, name),
     }
 }
 
 // The n entries from `at` on.
 pub fn put_entries(
     out: &mut [u8],
-    front: Put,
+    used: usize,
     word: &[u8],
     kind: Kind,
     rec: &[u8],
     at: usize,
     n: usize,
-) -> Put
-    requires { Within (length out.old) front × (at ≤ length rec.now) × Row kind n (drop at rec.now) }
-    ensures { Within (length out.new) result × Behind (entry_lines kind word.now n (drop at rec.now)) out.old front result out.new }
+) -> Option<usize>
+    requires room { used ≤ length out.old }
+    requires row { (at ≤ length rec.now) × Row kind n (drop at rec.now) }
+    ensures { Appended (entry_lines kind word.now n (drop at rec.now)) out.old used result out.new }
 {
-    let mut put = front;
+    let mut put = used;
     let mut p = at;
-    let mut left = n;
-    while 0 < left {
+    for _ in 0..n {
         let entry = rows::parts_at(rec, p, kind);
-        let name = entry.name;
-        let rest = entry.rest;
-        let end = entry.end;
-        put = put_entry(out, put, word, kind, &rec[name..rest], &rec[rest..end]);
-        p = end;
-        left -= 1;
+        let name = &rec[entry.name..entry.rest];
+        put = put_entry(out, put, word, kind, name, &rec[entry.rest..entry.end])?;
+        p = entry.end;
     }
-    put
+    Some(put)
 }

@@ -4,7 +4,7 @@ use Prim.Native.Nat.{ℕ, ◌+◌, ◌-◌, ◌≤◌}
 use mathlib.Core.Path.{◌≡◌, refl, sym, ap, ◌∙◌, subst}
 use mathlib.Core.List.{List, [], ◌++◌, append_assoc}
 use mathlib.Core.Bool.{true}
-use mathlib.Core.Option.{Option, none, some}
+use Rattle.std.specs.Prelude.{Option, None, Some}
 use native.Mathlib.Omega.{arith}
 use borrow.Author.Tests.{leb-true}
 use lib.Dec.{leb}
@@ -39,7 +39,6 @@ use Rattle.outcome.proofs.Fresh.{fresh_good}
 use Rattle.outcome_target.specs.Layout.{layout_of}
 use Rattle.outcome_target.specs.declared.Layout.{Layout}
 use Rattle.outcome_check.specs.Check.{checked_of}
-use Rattle.outcome_check.specs.declared.Checked.TheVariants.{Sound, Faulty}
 use Rattle.sheet.specs.Sheet as Sheets
 use Rattle.sheet.specs.Sheet.{Sheet}
 use Rattle.sheet.proofs.RoundTrip as sheets
@@ -51,22 +50,10 @@ use Rattle.engine.proofs.Sizes as sizes
 use Rattle.engine.proofs.Sizes.{short_text, commands-made}
 use Rattle.answers.specs.Answers.{answered}
 use Rattle.answers.specs.declared.Given.{Given}
-use Rattle.insertion.specs.Append.{Appended}
-use Rattle.insertion.specs.declared.Put.{Put}
-use Rattle.insertion.specs.declared.Put.TheVariants.{Done}
-use Rattle.insertion.proofs.Laws.{appended_none}
-use Rattle.listing_lines.specs.Behind.{Behind, refusal_line}
+use Rattle.listing_lines.specs.Lines.{refusal_line}
 use Rattle.listing_lines.proofs.Laws.{refusal-printed}
 use Rattle.listing_record.specs.Lines.{record_lines}
 use Rattle.listing_run.specs.Listed.{Made, LeftBy, closed_listing}
-
--- ---- texts at the front of a buffer
-
-pub from_start : (y o o₁ : List ℕ) (r : Put) → Behind y o (Done 0) r o₁ → Appended y o 0 r o₁
-from_start y o o₁ r b = b [] o 0 (appended_none o 0 (omega arith))
-
-pub appended_is : (y z o o₁ : List ℕ) (r : Put) → y ≡ z → Appended y o 0 r o₁ → Appended z o 0 r o₁
-appended_is y z o o₁ r e a = subst (λ (x : List ℕ). Appended x o 0 r o₁) e a
 
 -- ---- numbers
 no_number : (f : Refusal) → number f ≡ 0 → ⊥
@@ -83,16 +70,16 @@ module _ (text dev out sheet : List ℕ) where
   unfolding listing_from listed
   ran-refused n f e = rw e (sym (refusal-printed n f))
 
-  ran-ok : (h : Halt State) (d : Device) → halted ≡ ok h → D.decode dev ≡ some d → listing_from text dev out sheet ≡ printed (closed_listing h.visited h.tried d h.state)
+  ran-ok : (h : Halt State) (d : Device) → halted ≡ ok h → D.decode dev ≡ Some d → listing_from text dev out sheet ≡ printed (closed_listing h.visited h.tried d h.state)
   unfolding listing_from listed
   ran-ok h d e f = rw (e, f)
 
   -- the state that a run leaves is sound beside its device
   abbrev pub Ends : Halt State → Type 0
-  Ends h = (d : Device) × (D.decode dev ≡ some d) × O.Good (length (chain d)) h.state
+  Ends h = (d : Device) × (D.decode dev ≡ Some d) × O.Good (length (chain d)) h.state
 
-  rules-end : Bytes out → (rs : List (Placed Rule)) → read_text reader text ≡ ok rs → (d : Device) → D.decode dev ≡ some d
-      → (s : State) → decode_for d out ≡ some s → (a : Sheet) → Sheets.Good a → Holds Ends (run_from (engine a) d next s rs)
+  rules-end : Bytes out → (rs : List (Placed Rule)) → read_text reader text ≡ ok rs → (d : Device) → D.decode dev ≡ Some d
+      → (s : State) → decode_for d out ≡ Some s → (a : Sheet) → Sheets.Good a → Holds Ends (run_from (engine a) d next s rs)
   unfolding rules_of
   rules-end by rs e d f s g a ag =
       let t = read (engine a) text rs e in
@@ -105,9 +92,9 @@ module _ (text dev out sheet : List ℕ) where
   unfolding run_checked
   run_ends by bs =
       holds-bind (λ (rs : List (Placed Rule)). read_text reader text ≡ ok rs) Ends (read_text reader text) _ (holds_self (read_text reader text)) λ rs e.
-      holds-bind (λ (d : Device). D.decode dev ≡ some d) Ends (found (D.decode dev) (line 0 device_bad)) _ (holds-found (D.decode dev) (line 0 device_bad)) λ d f.
-      holds-bind (λ (s : State). decode_for d out ≡ some s) Ends (found (decode_for d out) (line 0 outcome_bad)) _ (holds-found (decode_for d out) (line 0 outcome_bad)) λ s g.
-      holds-bind (λ (a : Sheet). Sheets.decode sheet ≡ some a) Ends (found (Sheets.decode sheet) (line 0 sheet_bad)) _ (holds-found (Sheets.decode sheet) (line 0 sheet_bad)) λ a k.
+      holds-bind (λ (d : Device). D.decode dev ≡ Some d) Ends (found (D.decode dev) (line 0 device_bad)) _ (holds-found (D.decode dev) (line 0 device_bad)) λ d f.
+      holds-bind (λ (s : State). decode_for d out ≡ Some s) Ends (found (decode_for d out) (line 0 outcome_bad)) _ (holds-found (decode_for d out) (line 0 outcome_bad)) λ s g.
+      holds-bind (λ (a : Sheet). Sheets.decode sheet ≡ Some a) Ends (found (Sheets.decode sheet) (line 0 sheet_bad)) _ (holds-found (Sheets.decode sheet) (line 0 sheet_bad)) λ a k.
       rules-end by rs e d f s g a (sheets.back sheet a bs k).good
 
   -- by what the run gives back
@@ -155,7 +142,7 @@ module _ (dev t : List ℕ) (used : ℕ) (d : Device) (s : State) (w : LeftBy de
   pub left-within : used ≤ length t
   left-within = omega (arith, w.end, fits (length (chain d)) s w.held.good, w.held.room)
 
-  pub left_read : O.decode (length (chain d)) (take used t) ≡ some s
+  pub left_read : O.decode (length (chain d)) (take used t) ≡ Some s
   left_read = ap (O.decode (length (chain d))) left_record ∙ there (length (chain d)) s w.held.good
 
   closes : close_checked dev (take used t) fullest_run_list ≡ (on_line 0 made >>= λ cs. ok (run_list cs))
@@ -199,17 +186,16 @@ module _ (dev t : List ℕ) (used : ℕ) (d : Device) (s : State) (w : LeftBy de
 
 -- ---- the check of the record
 
-module _ (n len : ℕ) (l : List ℕ) (s : State) (e : len ≡ n) (f : O.decode n l ≡ some s) where
-  pub checked_layout : (lay : Layout) → Sound lay ≡ checked_of (O.decode len l) → lay ≡ layout_of s
+module _ (n len : ℕ) (l : List ℕ) (s : State) (e : len ≡ n) (f : O.decode n l ≡ Some s) where
+  pub checked_layout : (lay : Layout) → Some lay ≡ checked_of (O.decode len l) → lay ≡ layout_of s
   checked_layout lay g =
-      let q : Sound lay ≡ Sound (layout_of s) = g ∙ ap checked_of (ap (λ (k : ℕ). O.decode k l) e ∙ f) in
+      let q : Some lay ≡ Some (layout_of s) = g ∙ ap checked_of (ap (λ (k : ℕ). O.decode k l) e ∙ f) in
       cc
 
-  pub checked_sound : Faulty ≡ checked_of (O.decode len l) → ⊥
+  pub checked_sound : None ≡ checked_of (O.decode len l) → ⊥
   checked_sound g =
-      let q : Faulty ≡ Sound (layout_of s) = g ∙ ap checked_of (ap (λ (k : ℕ). O.decode k l) e ∙ f) in
-      let z : ◌≡◌ {A = ℕ} 0 1 = cc in
-      omega arith
+      let q : None ≡ Some (layout_of s) = g ∙ ap checked_of (ap (λ (k : ℕ). O.decode k l) e ∙ f) in
+      cc
 
 -- ---- the fresh record
 
@@ -220,8 +206,8 @@ module _ (dev : List ℕ) (g : Given) (bs : List ℕ) (e : answered g bs ≡ ope
     where
       go : (o : Option Device) → answered g bs ≡ operations.given fullest_outcome (require (leb fullest_outcome fullest_outcome) (line 0 target_short) >> (found o (line 0 device_bad) >>= λ d. ok (encode (O.fresh d))))
           → take g.used bs ≡ fresh_or o
-      go none a = rw (ap (λ (x : runs.Answer). x.used) a) refl
-      go (some d) a =
+      go None a = rw (ap (λ (x : runs.Answer). x.used) a) refl
+      go (Some d) a =
           rw (ap (λ (x : runs.Answer). x.used) a, ap (λ (x : runs.Answer). x.bytes) a)
           (take_at (encode (O.fresh d)) (replicate (fullest_outcome - length (encode (O.fresh d))) 0) (length (encode (O.fresh d))) refl)
 
@@ -231,5 +217,5 @@ module _ (dev : List ℕ) (g : Given) (bs : List ℕ) (e : answered g bs ≡ ope
     where
       go : (o : Option Device) → D.decode dev ≡ o → answered g bs ≡ operations.given fullest_outcome (require (leb fullest_outcome fullest_outcome) (line 0 target_short) >> (found o (line 0 device_bad) >>= λ d. ok (encode (O.fresh d))))
           → g.used ≤ fullest_outcome
-      go none q a = omega (arith, ap (λ (x : runs.Answer). x.used) a)
-      go (some d) q a = omega (arith, ap (λ (x : runs.Answer). x.used) a, fits (length (chain d)) (O.fresh d) (fresh_good dev d q))
+      go None q a = omega (arith, ap (λ (x : runs.Answer). x.used) a)
+      go (Some d) q a = omega (arith, ap (λ (x : runs.Answer). x.used) a, fits (length (chain d)) (O.fresh d) (fresh_good dev d q))

@@ -4,7 +4,7 @@ use Prim.Native.Nat.{ℕ, zero, suc, ◌+◌, ◌-◌, ◌*◌, ◌/◌, ◌%◌
 use mathlib.Core.Path.{◌≡◌}
 use mathlib.Core.Bool.{Bool, true, false, not, ◌&&◌}
 use mathlib.Core.List.{List, [], ◌∷◌, ◌++◌}
-use mathlib.Core.Option.{Option, none, some}
+use Rattle.std.specs.Prelude.{Option, None, Some}
 use native.Mathlib.Omega.{arith}
 use borrow.Author.Tests.{leb-true}
 use lib.Dec.{eqb, leb, ltb}
@@ -74,8 +74,8 @@ text-size word x = omega (arith, line-size word (escaped x), escaped-size x)
 
 mode-size : (m : Option ℕ) → length (mode_line m) ≤ 10
 unfolding bytes
-mode-size none = omega arith
-mode-size (some m) = omega (arith, line-size (bytes "mode") (four_octal m))
+mode-size None = omega arith
+mode-size (Some m) = omega (arith, line-size (bytes "mode") (four_octal m))
 
 set-size : (word x : List ℕ) → length (set_line word x) ≤ length word + 4 * length x + 2
 set-size word [] = omega arith
@@ -177,7 +177,7 @@ listing-fits text dev out sheet by bs =
     let Q : List ℕ → Type 0 = λ l. length l ≤ 86873 in
     printed-size (listed text dev out sheet)
     (holds-bind (Ends text dev out sheet) Q (run_checked text dev out sheet fullest_outcome) _ (run_ends text dev out sheet by bs) λ h w.
-    holds-bind (λ (d : Device). D.decode dev ≡ some d) Q (found (D.decode dev) (line 0 device_bad)) _ (holds-found (D.decode dev) (line 0 device_bad)) λ d f.
+    holds-bind (λ (d : Device). D.decode dev ≡ Some d) Q (found (D.decode dev) (line 0 device_bad)) _ (holds-found (D.decode dev) (line 0 device_bad)) λ d f.
     holds-bind (Made (length h.state.runs)) Q (on_line 0 (commands d h.state.properties h.state.output h.state.runs)) _
     (holds-on_line (Made (length h.state.runs)) 0 (commands d h.state.properties h.state.output h.state.runs) (commands-made d h.state.properties h.state.output h.state.runs)) λ cs m.
     listing-size h.visited h.tried (length (chain w.0)) h.state cs w.2 m)

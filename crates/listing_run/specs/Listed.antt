@@ -1,7 +1,7 @@
 -- What a run leaves for its listing, and what is written of it.
 -- Assumes nothing.
 use Rattle.std.specs.Prelude.{ℕ, ◌<◌, ◌≡◌, List, ◌++◌, length}
-use Rattle.std.proofs.Math.Option.{some}
+use Rattle.std.specs.Prelude.{Option, Some}
 use Rattle.lists.specs.Lists.{All}
 use Rattle.lists.specs.Checked.{Checked, ok, ◌>>=◌, Placed, on_line}
 use Rattle.lists.specs.Refusal.{Refusal}
@@ -13,7 +13,6 @@ use Rattle.outcome_target.specs.declared.Layout.{Layout}
 use Rattle.engine.specs.Operations.{Command, commands, run_list}
 use Rattle.engine.specs.Listing.{listing_of, printed}
 use Rattle.insertion.specs.Append.{Appended}
-use Rattle.insertion.specs.declared.Put.{Put}
 
 -- the run list of commands, whose heads can tell their lengths
 pub record Made (list : List ℕ) (cs : List Command) : Type 0 where
@@ -23,13 +22,13 @@ pub record Made (list : List ℕ) (cs : List Command) : Type 0 where
   pub short : All (λ (c : Command). length c.text < 1024) cs
 
 -- the record of a state in the target, and its run list
-abbrev pub OfBoth : ℕ → ℕ → List ℕ → Layout → List ℕ → List ℕ → Put → List ℕ → Type 0
+abbrev pub OfBoth : ℕ → ℕ → List ℕ → Layout → List ℕ → List ℕ → Option ℕ → List ℕ → Type 0
 OfBoth visited tried t lay list o r o₁ =
     (n : ℕ) (s : State) → Held n t lay s → (cs : List Command) → Made list cs → Appended (listing_of visited tried s cs) o 0 r o₁
 
 -- what a run left in the target beside a device record
 pub record LeftBy (dev t : List ℕ) (used : ℕ) (d : Device) (s : State) : Type 0 where
-  pub device : decode dev ≡ some d
+  pub device : decode dev ≡ Some d
   pub held : Held (length (chain d)) t (layout_of s) s
   pub end : used ≡ length (encode s)
 
@@ -40,5 +39,5 @@ Left dev t used = (d : Device) × (s : State) × LeftBy dev t used d s
 abbrev pub closed_listing : ℕ → ℕ → Device → State → Checked (Placed Refusal) (List ℕ)
 closed_listing visited tried d s = on_line 0 (commands d s.properties s.output s.runs) >>= λ cs. ok (listing_of visited tried s cs)
 
-abbrev pub OfLeft : ℕ → ℕ → List ℕ → List ℕ → ℕ → List ℕ → Put → List ℕ → Type 0
+abbrev pub OfLeft : ℕ → ℕ → List ℕ → List ℕ → ℕ → List ℕ → Option ℕ → List ℕ → Type 0
 OfLeft visited tried dev t used o r o₁ = (d : Device) (s : State) → LeftBy dev t used d s → Appended (printed (closed_listing visited tried d s)) o 0 r o₁

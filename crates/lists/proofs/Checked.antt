@@ -2,7 +2,7 @@
 -- Assumes nothing.
 use mathlib.Core.Path.{◌≡◌, refl, subst}
 use mathlib.Core.Bool.{Bool, true, false}
-use mathlib.Core.Option.{Option, none, some}
+use Rattle.std.specs.Prelude.{Option, None, Some}
 use Prim.Native.Nat.{ℕ}
 use Rattle.lists.specs.Checked.{Checked, refused, ok, ◌>>=◌, ◌>>◌, require, found, Holds, Placed, line, on_line}
 
@@ -34,9 +34,9 @@ module _ {R : Type 0} where
   holds-require true f = refl
   holds-require false f = tt
 
-  pub holds-found : {A : Type 0} (o : Option A) (f : R) → Holds (λ (a : A). o ≡ some a) (found o f)
-  holds-found none f = tt
-  holds-found (some a) f = refl
+  pub holds-found : {A : Type 0} (o : Option A) (f : R) → Holds (λ (a : A). o ≡ Some a) (found o f)
+  holds-found None f = tt
+  holds-found (Some a) f = refl
 
   pub holds-on_line : {A : Type 0} (P : A → Type 0) (n : ℕ) (c : Checked R A) → Holds P c → Holds P (on_line n c)
   holds-on_line P n (refused f) h = tt

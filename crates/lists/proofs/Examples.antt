@@ -4,7 +4,7 @@ use Prim.Native.Nat.{ℕ}
 use mathlib.Core.Path.{◌≡◌, refl}
 use mathlib.Core.List.{List, [], ◌∷◌, map}
 use mathlib.Core.Bool.{Bool, true, false, not, ◌&&◌}
-use mathlib.Core.Option.{none, some}
+use Rattle.std.specs.Prelude.{None, Some}
 use Rattle.lists.specs.Lists.{all, is_some}
 use Rattle.lists.specs.Bytes.{same_bytes, starts, among, distinct, is_space}
 use Rattle.lists.specs.Runs.{span, split_at, trim, ends_in_space, end_digits}

@@ -7,7 +7,7 @@ use mathlib.Core.List.{List, [], ◌∷◌, ◌++◌, map, append_assoc}
 use native.Mathlib.Nat.{mul-suc}
 use native.Mathlib.Omega.{arith}
 use lib.ListN.{length, length-append}
-use mathlib.Core.Option.{Option, none, some}
+use Rattle.std.specs.Prelude.{Option, None, Some}
 use Rattle.lists.specs.Lists.{pick, all, reject, cat, All, is_some, is_empty}
 use Rattle.lists.proofs.Tests.{and_both, both_and}
 
@@ -97,13 +97,13 @@ all_each ok (x ∷ xs) h = let (p, q) = and_both (ok x) (all ok xs) h in (p, all
 
 -- ---- what is there, and what is empty
 
-pub is-some : {A : Type 0} (o : Option A) → is_some o ≡ true → (a : A) × (o ≡ some a)
-is-some none h = let z : ◌≡◌ {A = ℕ} 0 1 = cc in absurd (omega arith)
-is-some (some a) h = (a, refl)
+pub is-some : {A : Type 0} (o : Option A) → is_some o ≡ true → (a : A) × (o ≡ Some a)
+is-some None h = let z : ◌≡◌ {A = ℕ} 0 1 = cc in absurd (omega arith)
+is-some (Some a) h = (a, refl)
 
-pub is_none : {A : Type 0} (o : Option A) → is_some o ≡ false → o ≡ none
-is_none none h = refl
-is_none (some a) h = let z : ◌≡◌ {A = ℕ} 0 1 = cc in absurd (omega arith)
+pub is_none : {A : Type 0} (o : Option A) → is_some o ≡ false → o ≡ None
+is_none None h = refl
+is_none (Some a) h = let z : ◌≡◌ {A = ℕ} 0 1 = cc in absurd (omega arith)
 
 pub empty_list : (x : List ℕ) → length x ≡ 0 → is_empty x ≡ true
 empty_list [] h = refl

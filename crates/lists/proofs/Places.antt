@@ -4,7 +4,8 @@ use Prim.Native.Nat.{ℕ, zero, suc, ◌≤◌, ◌<◌, zero-le, suc-le-suc}
 use mathlib.Core.Path.{◌≡◌, refl, ap, subst}
 use mathlib.Core.Bool.{Bool, true, false, ◌&&◌}
 use mathlib.Core.List.{List, [], ◌∷◌, map}
-use mathlib.Core.Option.{Option, some, none-ne-some, some-injective}
+use Rattle.std.specs.Prelude.{Option, Some}
+use Rattle.std.proofs.lemmas.Option.{none-some, same_Some}
 use native.Mathlib.Nat.{le_of_suc-le-suc, not-suc-le-zero}
 use native.Mathlib.Omega.{arith}
 use lib.Dec.{eqb}
@@ -15,9 +16,9 @@ use Rattle.lists.proofs.Tests.{and_both, and-false}
 
 module _ {A : Type 0} where
   -- a fact of each element, at a place
-  pub nth-all : (P : A → Type 0) (xs : List A) (k : ℕ) (a : A) → nth k xs ≡ some a → All P xs → P a
-  nth-all P [] k a e h = absurd (none-ne-some a e)
-  nth-all P (x ∷ xs) zero a e (h, hs) = subst P (some-injective x a e) h
+  pub nth-all : (P : A → Type 0) (xs : List A) (k : ℕ) (a : A) → nth k xs ≡ Some a → All P xs → P a
+  nth-all P [] k a e h = absurd (none-some a e)
+  nth-all P (x ∷ xs) zero a e (h, hs) = subst P (same_Some x a e) h
   nth-all P (x ∷ xs) (suc k) a e (h, hs) = nth-all P xs k a e hs
 
   -- a test that each element passes, at a place
@@ -26,7 +27,7 @@ module _ {A : Type 0} where
   get_or-all ok (x ∷ xs) zero d h l = (and_both (ok x) (all ok xs) h).0
   get_or-all ok (x ∷ xs) (suc k) d h l = get_or-all ok xs k d (and_both (ok x) (all ok xs) h).1 (le_of_suc-le-suc l)
 
-  pub nth-map : {B : Type 0} (f : A → B) (xs : List A) (k : ℕ) (d : A) → k < length xs → nth k (map f xs) ≡ some (f (get_or xs k d))
+  pub nth-map : {B : Type 0} (f : A → B) (xs : List A) (k : ℕ) (d : A) → k < length xs → nth k (map f xs) ≡ Some (f (get_or xs k d))
   nth-map f [] k d l = absurd (not-suc-le-zero l)
   nth-map f (x ∷ xs) zero d l = refl
   nth-map f (x ∷ xs) (suc k) d l = nth-map f xs k d (le_of_suc-le-suc l)

@@ -4,7 +4,7 @@ use Prim.Native.Nat.{ℕ, zero, suc, ◌+◌, ◌-◌, ◌≤◌, ◌<◌}
 use mathlib.Core.Path.{◌≡◌, refl, sym, ap, ◌∙◌}
 use mathlib.Core.Bool.{Bool, ◌&&◌, and_assoc}
 use mathlib.Core.List.{List, [], ◌∷◌, ◌++◌}
-use mathlib.Core.Option.{some}
+use Rattle.std.specs.Prelude.{Some}
 use native.Mathlib.Nat.{not-suc-le-zero, le_of_suc-le-suc}
 use native.Mathlib.Omega.{arith}
 use lib.ListN.{length, drop, length-append, length-drop}
@@ -35,12 +35,12 @@ module _ {A : Type 0} (l : List A) (at : ℕ) (x r : List A) (h : at ≤ length 
 
 -- ---- an element by its place
 
-pub nth_in : {A : Type 0} (xs : List A) (k : ℕ) (x : A) → nth k xs ≡ some x → k < length xs
+pub nth_in : {A : Type 0} (xs : List A) (k : ℕ) (x : A) → nth k xs ≡ Some x → k < length xs
 nth_in [] k x e = let z : ◌≡◌ {A = ℕ} 0 1 = cc in absurd (omega arith)
 nth_in (y ∷ xs) zero x e = omega arith
 nth_in (y ∷ xs) (suc k) x e = let h = nth_in xs k x e in omega arith
 
-pub nth_there : {A : Type 0} (xs : List A) (k : ℕ) → k < length xs → (x : A) × (nth k xs ≡ some x)
+pub nth_there : {A : Type 0} (xs : List A) (k : ℕ) → k < length xs → (x : A) × (nth k xs ≡ Some x)
 nth_there [] k h = absurd (not-suc-le-zero h)
 nth_there (x ∷ xs) zero h = (x, refl)
 nth_there (x ∷ xs) (suc k) h = nth_there xs k (le_of_suc-le-suc h)

@@ -4,7 +4,7 @@ use Prim.Native.Nat.{ℕ, zero, suc, ◌+◌, ◌-◌, ◌≤◌, ◌<◌}
 use mathlib.Core.Path.{◌≡◌, refl, sym, ap, ◌∙◌}
 use mathlib.Core.Bool.{Bool, true, false, not}
 use mathlib.Core.List.{List, [], ◌∷◌}
-use mathlib.Core.Option.{Option, none, some}
+use Rattle.std.specs.Prelude.{Option, None, Some}
 use native.Mathlib.Omega.{arith}
 use native.Mathlib.Numerals.{sub-one}
 use native.Mathlib.Nat.{le_of_suc-le-suc, not-suc-le-zero}
@@ -168,5 +168,5 @@ part_at c s (suc n) z h e k = part-behind c s n h (rw sub-one at e) k
 -- ---- items
 
 pub some-before : {A : Type 0} (a : A) (o : Option (List A)) → is_some (before a o) ≡ is_some o
-some-before a none = refl
-some-before a (some others) = refl
+some-before a None = refl
+some-before a (Some others) = refl

@@ -1,7 +1,7 @@
 -- What a check gives: a value, or why it is refused. One check after the other is written with `do`.
 -- Assumes nothing.
 use Rattle.std.specs.Prelude.{ℕ, ◌+◌, Bool, true, false}
-use Rattle.std.proofs.Math.Option.{Option, none, some}
+use Rattle.std.specs.Prelude.{Option, None, Some}
 
 pub data Checked (R A : Type 0) : Type 0 where
   refused : R → Checked R A
@@ -24,8 +24,8 @@ require false f = refused f
 
 -- a value that must be there, and the refusal if it is not
 abbrev pub found : {R A : Type 0} → Option A → R → Checked R A
-found (some a) f = ok a
-found none f = refused f
+found (Some a) f = ok a
+found None f = refused f
 
 -- a fact of the value, if there is one
 abbrev pub Holds : {R A : Type 0} → (A → Type 0) → Checked R A → Type 0

@@ -1,7 +1,7 @@
 -- Choices and tests over lists of any type.
 -- Assumes nothing.
 use Rattle.std.specs.Prelude.{ℕ, zero, suc, Bool, true, false, not, ◌&&◌, ◌||◌, List, [], ◌∷◌, ◌++◌}
-use Rattle.std.proofs.Math.Option.{Option, none, some}
+use Rattle.std.specs.Prelude.{Option, None, Some}
 
 -- the first if the test holds, else the second
 abbrev pub pick : {A : Type 0} → Bool → A → A → A
@@ -9,8 +9,8 @@ pick true a b = a
 pick false a b = b
 
 abbrev pub is_some : {A : Type 0} → Option A → Bool
-is_some none = false
-is_some (some a) = true
+is_some None = false
+is_some (Some a) = true
 
 module _ {A : Type 0} where
   abbrev pub is_empty : List A → Bool
@@ -34,8 +34,8 @@ module _ {A : Type 0} where
 
   -- the element at a place from 0 on
   abbrev pub nth : ℕ → List A → Option A
-  nth n [] = none
-  nth zero (x ∷ xs) = some x
+  nth n [] = None
+  nth zero (x ∷ xs) = Some x
   nth (suc n) (x ∷ xs) = nth n xs
 
   -- what a function gives of each element, one behind the other

@@ -12,25 +12,9 @@ ghost use Rattle.rules.specs.Reading.{reader};
 ghost use Rattle.striking.proofs.Rules.{is_kept};
 ghost use Rattle.table.specs.Table.{rules_from};
 ghost use Rattle.table.specs.Rules.{pairs_of, Rules};
-ghost use Rattle.jumps.specs.Jumps.{labelled};
 ghost use Rattle.lost_jumps.specs.Lost.{emptied, RuleGone, Judges};
 
-// Whether a rule has this name for its label.
-fn is_label(values: &[u8], rows: &[u16], labels: &[u16], i: usize, name: &[u8]) -> bool
-    requires { (i < length labels.now) × ((t : List ℕ) × ((m : ℕ) × ((used : ℕ) × ((n : ℕ) × (i < n) × Rules values.now rows.now t labels.now m used n)))) }
-    ensures { (t : List ℕ) (m used n : ℕ) → i < n → Rules values.now rows.now t labels.now m used n → result ≡ labelled values.now rows.now t name.now i }
-{
-    let row = table::number_at(labels, i);
-    if row == 0 {
-        return false;
-    }
-    let at = (row - 1) * 4;
-    let start = table::number_at(rows, at + 2);
-    let end = table::number_at(rows, at + 3);
-    scan::same(name, &values[start..end])
-}
-
-// Whether one of the rules from a number on has it.
+// Whether one of the rules from a number on has this name for its label.
 fn is_answered(
     values: &[u8],
     rows: &[u16],
@@ -42,12 +26,10 @@ fn is_answered(
     requires { (from ≤ count) × (count ≤ length labels.now) × ((t : List ℕ) × ((m : ℕ) × ((used : ℕ) × Rules values.now rows.now t labels.now m used count))) }
     ensures { (t : List ℕ) (m used : ℕ) → Rules values.now rows.now t labels.now m used count → result ≡ is_some (goes_to reader name.now (rules_from values.now rows.now t from (count - from))) }
 {
-    let mut i = from;
-    while i < count {
-        if is_label(values, rows, labels, i, name) {
+    for i in from..count {
+        if jumps::is_label(values, rows, labels, i, name) {
             return true;
         }
-        i += 1;
     }
     false
 }
@@ -64,14 +46,13 @@ fn is_kept(
     requires { (i < count) × (count ≤ length labels.now) × (count * 4 ≤ length rules.now) × ((m : ℕ) × ((used : ℕ) × Rules values.now rows.now rules.now labels.now m used count)) }
     ensures { result ≡ is_kept reader (goto_of (pairs_of values.now rows.now rules.now i)) (rules_from values.now rows.now rules.now (i + 1) (count - (i + 1))) }
 {
-    let row = table::number_at(rules, i * 4 + 3);
-    if row == 0 {
-        return true;
+    match table::place_at(rules, i * 4 + 3) {
+        Some(row) => {
+            let name = table::value_of(values, rows, row);
+            is_answered(values, rows, labels, i + 1, count, name)
+        }
+        None => true,
     }
-    let at = (row - 1) * 4;
-    let start = table::number_at(rows, at + 2);
-    let end = table::number_at(rows, at + 3);
-    is_answered(values, rows, labels, i + 1, count, &values[start..end])
 }
 
 // Takes the pairs of a rule away.
@@ -116,9 +97,7 @@ pub fn strike_jumps(
     requires { (count ≤ most_rules) × (count ≤ length labels.old) × (count * 4 ≤ length rules.old) × ((m : ℕ) × ((used : ℕ) × Rules values.now rows.now rules.old labels.old m used count)) }
     ensures { rules_from values.now rows.now rules.new 0 count ≡ emptied (rules_from values.now rows.now rules.old 0 count) }
 {
-    let mut i = count;
-    while 0 < i {
-        i -= 1;
+    for i in (0..count).rev() {
         judge_rule(values, rows, rules, labels, i, count);
     }
 }

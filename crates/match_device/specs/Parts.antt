@@ -1,7 +1,7 @@
 -- When a match key holds of a part of one device.
 -- Assumes nothing.
 use Rattle.std.specs.Prelude.{ℕ, Bool, false, List, [], ◌∷◌}
-use Rattle.std.proofs.Math.Option.{Option, none, some}
+use Rattle.std.specs.Prelude.{Option, None, Some}
 use Rattle.pattern.specs.Pattern.{matches}
 use Rattle.rules.specs.Key.{Op}
 use Rattle.device.specs.Device.{Member, name_of, attr_of}
@@ -16,8 +16,8 @@ driver_holds op value (b ∷ bs) = judged op (matches value (b ∷ bs))
 
 -- Item 4: an attribute that may be absent
 abbrev pub attribute_holds : Op → List ℕ → Option (List ℕ) → Bool
-attribute_holds op value none = judged op false
-attribute_holds op value (some a) = judged op (matches value (seen_by value a))
+attribute_holds op value None = judged op false
+attribute_holds op value (Some a) = judged op (matches value (seen_by value a))
 
 -- the operator, the argument and the match value of a pair, and the device
 abbrev pub part_holds : Part → Op → List ℕ → List ℕ → Member → Bool

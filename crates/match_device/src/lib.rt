@@ -12,7 +12,6 @@ ghost use Rattle.device_lookup.specs.Lookup.{Sound, Standing, OfDevice, OfMember
 ghost use Rattle.match_device.specs.Parts.{driver_holds, attribute_holds, part_holds};
 
 use bits::BitCursor;
-use device_lookup::Value;
 use keys::Operator;
 
 // What a match key can ask of one device. An attribute is the one that the key's argument names.
@@ -30,7 +29,7 @@ fn driver_holds(operator: Operator, pattern: &[u8], plain: bool, driver: &[u8]) 
     requires { PlainIf plain pattern.now }
     ensures { result ≡ driver_holds (operator_of operator) pattern.now driver.now }
 {
-    if driver.len() == 0 {
+    if driver.is_empty() {
         return match_values::judge(operator, false);
     }
     match_values::value_holds(operator, pattern, plain, driver)
@@ -48,15 +47,14 @@ fn attribute_holds(
     requires { Standing dev.now at × PlainIf plain pattern.now }
     ensures { OfMember dev.now at (λ m. result ≡ attribute_holds (operator_of operator) pattern.now (attr_of argument.now m)) }
 {
-    let found = device_view::find_attribute_at(dev, at, argument);
-    match found {
-        Value::At(_, _) => match_values::attribute_holds(
+    match device_view::find_attribute_at(dev, at, argument) {
+        Some(found) => match_values::attribute_holds(
             operator,
             pattern,
             plain,
-            device_lookup::part_of(dev, found),
+            &dev[found.start..found.start + found.len],
         ),
-        Value::Missing => match_values::judge(operator, false),
+        None => match_values::judge(operator, false),
     }
 }
 

@@ -23,10 +23,7 @@ pub fn judge(operator: Operator, yes: bool) -> bool
     match operator {
         Operator::Equal => yes,
         Operator::Unequal => !yes,
-        Operator::Assign => true,
-        Operator::Add => true,
-        Operator::Remove => true,
-        Operator::Final => true,
+        _ => true,
     }
 }
 
@@ -34,21 +31,17 @@ pub fn value_holds(operator: Operator, pattern: &[u8], plain: bool, value: &[u8]
     requires { PlainIf plain pattern.now }
     ensures { result ≡ judged (operator_of operator) (matches pattern.now value.now) }
 {
-    if plain {
-        return judge(operator, scan::same_short(pattern, value));
-    }
-    judge(operator, glob::matches(pattern, value))
+    judge(operator, text_matches(pattern, plain, value))
 }
 
 // How much of an attribute a match value sees: all but its trailing whitespace, unless the match value ends in whitespace.
 fn seen_len(pattern: &[u8], attribute: &[u8]) -> usize
     ensures { (result ≤ length attribute.now) × (take result attribute.now ≡ seen_by pattern.now attribute.now) }
 {
-    let trimmed = scan::trimmed_len(attribute);
     if scan::ends_in_space(pattern) {
         attribute.len()
     } else {
-        trimmed
+        scan::trimmed_len(attribute)
     }
 }
 
@@ -65,16 +58,17 @@ pub fn action_holds(operator: Operator, pattern: &[u8], plain: bool, action: usi
     requires { (action < 8) × PlainIf plain pattern.now }
     ensures { result ≡ judged (operator_of operator) (matches pattern.now (or_empty (nth action action_names))) }
 {
-    match action {
-        0 => value_holds(operator, pattern, plain, b"add"),
-        1 => value_holds(operator, pattern, plain, b"remove"),
-        2 => value_holds(operator, pattern, plain, b"change"),
-        3 => value_holds(operator, pattern, plain, b"move"),
-        4 => value_holds(operator, pattern, plain, b"online"),
-        5 => value_holds(operator, pattern, plain, b"offline"),
-        6 => value_holds(operator, pattern, plain, b"bind"),
-        _ => value_holds(operator, pattern, plain, b"unbind"),
-    }
+    let name: &[u8] = match action {
+        0 => b"add",
+        1 => b"remove",
+        2 => b"change",
+        3 => b"move",
+        4 => b"online",
+        5 => b"offline",
+        6 => b"bind",
+        _ => b"unbind",
+    };
+    value_holds(operator, pattern, plain, name)
 }
 
 fn text_matches(pattern: &[u8], plain: bool, text: &[u8]) -> bool
@@ -82,9 +76,10 @@ fn text_matches(pattern: &[u8], plain: bool, text: &[u8]) -> bool
     ensures { result ≡ matches pattern.now text.now }
 {
     if plain {
-        return scan::same_short(pattern, text);
+        scan::same_short(pattern, text)
+    } else {
+        glob::matches(pattern, text)
     }
-    glob::matches(pattern, text)
 }
 
 // Whether one of the n texts from `at` on is matched.
@@ -93,16 +88,12 @@ fn some_matches(pattern: &[u8], plain: bool, rec: &[u8], at: usize, n: usize) ->
     ensures { result ≡ some_matches pattern.now (names Kind.Text n (drop at rec.now)) }
 {
     let mut p = at;
-    let mut left = n;
-    while 0 < left {
+    for _ in 0..n {
         let entry = rows::parts_at(rec, p, Kind::Text);
-        let name = entry.name;
-        let rest = entry.rest;
-        if text_matches(pattern, plain, &rec[name..rest]) {
+        if text_matches(pattern, plain, &rec[entry.name..entry.rest]) {
             return true;
         }
         p = entry.end;
-        left -= 1;
     }
     false
 }

@@ -3,7 +3,7 @@
 use Prim.Native.Nat.{ℕ, ◌<◌}
 use mathlib.Core.Path.{◌≡◌, refl}
 use mathlib.Core.List.{List}
-use mathlib.Core.Option.{some}
+use Rattle.std.specs.Prelude.{Some}
 use native.Mathlib.Omega.{arith}
 use lib.ListN.{length, get_or}
 use Rattle.lists.specs.Lists.{nth}
@@ -25,7 +25,7 @@ module _ (dev : List ℕ) (b : Bytes dev) (places : Chain) (t : List ℕ) (lay :
   -- the device at a place of the chain
   pub record Nth (k : ℕ) : Type 0 where
     pub member : Member
-    pub nth : nth k (chain x.device) ≡ some member
+    pub nth : nth k (chain x.device) ≡ Some member
     pub lies : Lies dev (get_or places.at k 0) member
 
   pub the_nth : (k : ℕ) → k < places.len → Nth k

@@ -4,7 +4,7 @@ use Prim.Native.Nat.{ℕ}
 use mathlib.Core.Path.{◌≡◌, refl, sym, ap, ◌∙◌}
 use mathlib.Core.Bool.{Bool, true, false, true≢false}
 use mathlib.Core.List.{List, [], ◌∷◌}
-use mathlib.Core.Option.{Option, none, some}
+use Rattle.std.specs.Prelude.{Option, None, Some}
 use Rattle.rules.specs.Key.{Key, ACTION, DEVPATH, KERNEL, KERNELS, SUBSYSTEM, SUBSYSTEMS, DRIVER, DRIVERS, ATTR, ATTRS, ENV, SYMLINK, TAG, OWNER, GROUP, MODE, RUN, LABEL, GOTO, OPTIONS, PROGRAM, RESULT, Op, equal, unequal, assign, add, remove, final, is_match}
 use Rattle.rules.specs.Pair.{Pair}
 use Rattle.keys.specs.Table.{key_of, operator_of}
@@ -26,8 +26,8 @@ driver-part p (b ∷ bs) = refl
 
 attribute-part : (p : Pair) (o : Option (List ℕ)) → attr_judged p o ≡ parts.attribute_holds p.op p.value o
 unfolding value_holds
-attribute-part p none = refl
-attribute-part p (some a) = refl
+attribute-part p None = refl
+attribute-part p (Some a) = refl
 
 key_subject : (k : Key) (d : Device) (s : State) (p : Pair) → key_holds k d s p ≡ pair_on (subject_of k) p d d.event s
 unfolding key_holds value_holds list_holds attr_holds
@@ -119,13 +119,13 @@ parent_key PROGRAM = refl
 parent_key RESULT = refl
 
 -- what asks nothing at the event device holds there
-pub not-asked : (u : Subject) → is_asked_here u ≡ false → (p : Pair) (d : Device) (m : Member) (s : State) → pair_on u p d m s ≡ true
-not-asked subject.Action e p d m s = absurd (true≢false e)
-not-asked (subject.Device x) e p d m s = absurd (true≢false e)
-not-asked (subject.Parent x) e p d m s = refl
-not-asked subject.Property e p d m s = absurd (true≢false e)
-not-asked (subject.List l) e p d m s = absurd (true≢false e)
-not-asked subject.Nothing e p d m s = refl
+pub not-asked : (u : Option Subject) → is_asked_here u ≡ false → (p : Pair) (d : Device) (m : Member) (s : State) → pair_on u p d m s ≡ true
+not-asked (Some subject.Action) e p d m s = absurd (true≢false e)
+not-asked (Some (subject.Device x)) e p d m s = absurd (true≢false e)
+not-asked (Some (subject.Parent x)) e p d m s = refl
+not-asked (Some subject.Property) e p d m s = absurd (true≢false e)
+not-asked (Some (subject.List l)) e p d m s = absurd (true≢false e)
+not-asked None e p d m s = refl
 
 -- another key asks nothing of the chain
 pub other_key : (k : Key) (m : Member) (p : Pair) → is_parent k ≡ false → parent_holds k m p ≡ true
@@ -155,22 +155,22 @@ other_key RESULT m p e = refl
 
 -- ---- as code asks
 
-module _ (line : List ℕ) (r : Entry) (u : Subject) (e : u ≡ subject_of (key_of r.key)) where
-  pub event_judged : (v : Subject) → v ≡ at_event u (operator_of r.operator) → (d : Device) (m : Member) (s : State) → m ≡ d.event
+module _ (line : List ℕ) (r : Entry) (u : Option Subject) (e : u ≡ subject_of (key_of r.key)) where
+  pub event_judged : (v : Option Subject) → v ≡ at_event u (operator_of r.operator) → (d : Device) (m : Member) (s : State) → m ≡ d.event
       → (b : Bool) → b ≡ pair_on v (entry_of line r) d m s → pair_holds d s (entry_of line r) ≡ b
   event_judged v f d m s g b h =
       let p : Pair = entry_of line r in
       pair_subject d s p
       ∙ sym
       (h
-      ∙ ap (λ (w : Subject). pair_on w p d m s) (f ∙ ap (λ (w : Subject). at_event w (operator_of r.operator)) e)
+      ∙ ap (λ (w : Option Subject). pair_on w p d m s) (f ∙ ap (λ (w : Option Subject). at_event w (operator_of r.operator)) e)
       ∙ ap (λ (w : Member). pair_on (at_event (subject_of p.key) p.op) p d w s) g)
 
-  pub parent_judged : (v : Subject) → v ≡ at_parent u → (d : Device) (m : Member) (s : State)
+  pub parent_judged : (v : Option Subject) → v ≡ at_parent u → (d : Device) (m : Member) (s : State)
       → (b : Bool) → b ≡ pair_on v (entry_of line r) d m s → parent_holds (key_of r.key) m (entry_of line r) ≡ b
   parent_judged v f d m s b h =
       parent_subject (key_of r.key) d m s (entry_of line r)
-      ∙ sym (h ∙ ap (λ (w : Subject). pair_on w (entry_of line r) d m s) (f ∙ ap at_parent e))
+      ∙ sym (h ∙ ap (λ (w : Option Subject). pair_on w (entry_of line r) d m s) (f ∙ ap at_parent e))
 
   pub parent_here : (b : Bool) → b ≡ is_parent_subject u → is_parent (key_of r.key) ≡ b
   parent_here b f = parent_key (key_of r.key) ∙ sym (f ∙ ap is_parent_subject e)

@@ -2,13 +2,9 @@
 -- Assumes nothing.
 use Prim.Native.Nat.{ℕ, ◌+◌, ◌-◌, ◌≤◌, ◌<◌}
 use mathlib.Core.Path.{◌≡◌, refl, sym, ap, ◌∙◌}
-use mathlib.Core.Bool.{Bool, true, false, ◌&&◌, ◌||◌}
+use mathlib.Core.Bool.{Bool, true, false, ◌||◌}
 use mathlib.Core.List.{List, [], ◌∷◌}
-use mathlib.Core.Option.{Option, none, some}
-use native.Mathlib.Omega.{arith}
-use borrow.Author.Tests.{eqb-true, eqb-false}
-use lib.Dec.{eqb}
-use Rattle.lists.specs.Lists.{pick}
+use Rattle.std.specs.Prelude.{Option, None, Some}
 use Rattle.rules.specs.Pair.{Pair}
 use Rattle.keys.specs.Table.{key_of}
 use Rattle.table.specs.Table.{entry_of, pairs_from, Got}
@@ -29,15 +25,14 @@ module _ (v r : List ℕ) (n : ℕ) (ps : List Pair) where
   rows j = pairs_from v r j (n - j)
 
   -- of the rows before the i-th: the first with a parent key, or none
-  pub record Noted (i first : ℕ) : Type 0 where
-    pub within : first ≤ n
-    pub nothing : first ≡ n → Rest ps (rows i)
-    pub there : first < n → (has_parents ps ≡ true) × Rest ps (rows first)
+  abbrev pub Noted : ℕ → Option ℕ → Type 0
+  Noted i None = Rest ps (rows i)
+  Noted i (Some k) = (k < n) × (has_parents ps ≡ true) × Rest ps (rows k)
 
   -- all rows are gone through, and none has a parent key
-  pub noted-none : (i first : ℕ) → n ≤ i → first ≡ n → Noted i first → has_parents ps ≡ false
+  pub noted-none : (i : ℕ) → n ≤ i → Noted i None → has_parents ps ≡ false
   unfolding has_parents
-  noted-none i first h e w = (w.nothing e).has ∙ rw (pairs_end v r i n h)
+  noted-none i h w = w.has ∙ rw (pairs_end v r i n h)
 
   module _ (i : ℕ) (e : Entry) (got : Got r i e) (h : i < n) where
     -- the pair at hand has a parent key
@@ -53,13 +48,10 @@ module _ (v r : List ℕ) (n : ℕ) (ps : List Pair) where
       hold = λ m. w.hold m ∙ rw (rows-here v r i n e got h, other_key (key_of e.key) m (entry_of v e) t);
     }
 
-    pub noted-next : (first : ℕ) (b : Bool) → is_parent (key_of e.key) ≡ b → Noted i first → Noted (i + 1) (first_of first n b i)
-    noted-next first false t w = record { within = w.within; nothing = λ q. other_next t (w.nothing q); there = w.there }
-    noted-next first true t w = go (eqb first n) refl
-      where
-        go : (q : Bool) → eqb first n ≡ q → Noted (i + 1) (pick q i first)
-        go true q = let z = eqb-true first n q in record { within = omega arith; nothing = λ x. absurd (omega arith); there = λ x. (asked t (w.nothing z), w.nothing z) }
-        go false q = let z = eqb-false first n q in record { within = w.within; nothing = λ x. absurd (z x); there = w.there }
+    pub noted-next : (first : Option ℕ) (b : Bool) → is_parent (key_of e.key) ≡ b → Noted i first → Noted (i + 1) (first_of first b i)
+    noted-next (Some k) b t w = w
+    noted-next None false t w = other_next t w
+    noted-next None true t w = (h, asked t w, w)
 
-pub noted-start : (v r : List ℕ) (i n : ℕ) → i ≤ n → Noted v r n (pairs_from v r i (n - i)) i n
-noted-start v r i n h = record { within = omega arith; nothing = λ e. record { has = refl; hold = λ m. refl }; there = λ l. absurd (omega arith) }
+pub noted-start : (v r : List ℕ) (i n : ℕ) → Noted v r n (pairs_from v r i (n - i)) i None
+noted-start v r i n = record { has = refl; hold = λ m. refl }

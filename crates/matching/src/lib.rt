@@ -3,7 +3,7 @@
 
 #![tactic(auto)]
 
-ghost use Rattle.std.specs.Prelude.{◌≡◌, ◌||◌, ◌≤◌, ◌<◌};
+ghost use Rattle.std.specs.Prelude.{◌≡◌, ◌||◌, ◌≤◌, ◌<◌, ⊤, MatchOption};
 ghost use Rattle.glob.specs.Plain.{PlainIf};
 ghost use Rattle.keys.specs.Table.{key_of, operator_of};
 ghost use Rattle.table.specs.Table.{entry_of, Segment, EntryIn};
@@ -20,8 +20,7 @@ use table::Entry;
 
 // ---- what a pair is judged on
 
-// The action, a part of the event device, a part of a device of the chain (parent keys), a property, links or tags;
-// nothing for keys that only assign, and for PROGRAM and RESULT, which are judged behind all others.
+// The action, a part of the event device, a part of a device of the chain (parent keys), a property, links or tags.
 #[derive(Clone, Copy)]
 pub enum Subject {
     Action,
@@ -29,91 +28,61 @@ pub enum Subject {
     Parent(Part),
     Property,
     List(Texts),
-    Nothing,
 }
 
-fn subject_of(key: Key) -> Subject
+// None for keys that only assign, and for PROGRAM and RESULT, which are judged behind all others.
+fn subject_of(key: Key) -> Option<Subject>
     ensures { result ≡ subject_of (key_of key) }
 {
     match key {
-        Key::Action => Subject::Action,
-        Key::Devpath => Subject::Device(Part::Path),
-        Key::Kernel => Subject::Device(Part::Name),
-        Key::Kernels => Subject::Parent(Part::Name),
-        Key::Subsystem => Subject::Device(Part::Subsystem),
-        Key::Subsystems => Subject::Parent(Part::Subsystem),
-        Key::Driver => Subject::Device(Part::Driver),
-        Key::Drivers => Subject::Parent(Part::Driver),
-        Key::Attr => Subject::Device(Part::Attribute),
-        Key::Attrs => Subject::Parent(Part::Attribute),
-        Key::Env => Subject::Property,
-        Key::Symlink => Subject::List(Texts::Links),
-        Key::Tag => Subject::List(Texts::Tags),
-        Key::Owner => Subject::Nothing,
-        Key::Group => Subject::Nothing,
-        Key::Mode => Subject::Nothing,
-        Key::Run => Subject::Nothing,
-        Key::Label => Subject::Nothing,
-        Key::Goto => Subject::Nothing,
-        Key::Options => Subject::Nothing,
-        Key::Program => Subject::Nothing,
-        Key::Result => Subject::Nothing,
+        Key::Action => Some(Subject::Action),
+        Key::Devpath => Some(Subject::Device(Part::Path)),
+        Key::Kernel => Some(Subject::Device(Part::Name)),
+        Key::Kernels => Some(Subject::Parent(Part::Name)),
+        Key::Subsystem => Some(Subject::Device(Part::Subsystem)),
+        Key::Subsystems => Some(Subject::Parent(Part::Subsystem)),
+        Key::Driver => Some(Subject::Device(Part::Driver)),
+        Key::Drivers => Some(Subject::Parent(Part::Driver)),
+        Key::Attr => Some(Subject::Device(Part::Attribute)),
+        Key::Attrs => Some(Subject::Parent(Part::Attribute)),
+        Key::Env => Some(Subject::Property),
+        Key::Symlink => Some(Subject::List(Texts::Links)),
+        Key::Tag => Some(Subject::List(Texts::Tags)),
+        _ => None,
     }
 }
 
-// At the event device an operator that assigns asks nothing, and a parent key neither.
-fn at_event(subject: Subject, operator: Operator) -> Subject
+// At the event device an operator that assigns asks nothing.
+fn at_event(subject: Option<Subject>, operator: Operator) -> Option<Subject>
     ensures { result ≡ at_event subject (operator_of operator) }
 {
     match operator {
-        Operator::Equal => subject,
-        Operator::Unequal => subject,
-        Operator::Assign => Subject::Nothing,
-        Operator::Add => Subject::Nothing,
-        Operator::Remove => Subject::Nothing,
-        Operator::Final => Subject::Nothing,
+        Operator::Equal | Operator::Unequal => subject,
+        _ => None,
     }
 }
 
 // At a device of the chain only parent keys ask something.
-fn at_parent(subject: Subject) -> Subject
+fn at_parent(subject: Option<Subject>) -> Option<Subject>
     ensures { result ≡ at_parent subject }
 {
     match subject {
-        Subject::Action => Subject::Nothing,
-        Subject::Device(_) => Subject::Nothing,
-        Subject::Parent(part) => Subject::Device(part),
-        Subject::Property => Subject::Nothing,
-        Subject::List(_) => Subject::Nothing,
-        Subject::Nothing => Subject::Nothing,
+        Some(Subject::Parent(part)) => Some(Subject::Device(part)),
+        _ => None,
     }
 }
 
-fn is_parent(subject: Subject) -> bool
+fn is_parent(subject: Option<Subject>) -> bool
     ensures { result ≡ is_parent_subject subject }
 {
-    match subject {
-        Subject::Action => false,
-        Subject::Device(_) => false,
-        Subject::Parent(_) => true,
-        Subject::Property => false,
-        Subject::List(_) => false,
-        Subject::Nothing => false,
-    }
+    matches!(subject, Some(Subject::Parent(_)))
 }
 
 // Whether something is asked of the event device or of the outcome.
-fn is_asked_here(subject: Subject) -> bool
+fn is_asked_here(subject: Option<Subject>) -> bool
     ensures { result ≡ is_asked_here subject }
 {
-    match subject {
-        Subject::Action => true,
-        Subject::Device(_) => true,
-        Subject::Parent(_) => false,
-        Subject::Property => true,
-        Subject::List(_) => true,
-        Subject::Nothing => false,
-    }
+    !matches!(subject, Some(Subject::Parent(_)) | None)
 }
 
 // ---- one pair at one device
@@ -135,7 +104,7 @@ fn list_holds(
 }
 
 fn subject_holds(
-    subject: Subject,
+    subject: Option<Subject>,
     operator: Operator,
     argument: &[u8],
     pattern: &[u8],
@@ -149,19 +118,18 @@ fn subject_holds(
     ensures { (x : Judging dev.now at t.now layout) → result ≡ subject_holds subject (operator_of operator) argument.now pattern.now x.device x.member x.state }
 {
     match subject {
-        Subject::Action => match_device::action_holds(operator, pattern, plain, dev),
-        Subject::Device(part) => match_device::part_holds(
+        Some(Subject::Action) => match_device::action_holds(operator, pattern, plain, dev),
+        Some(Subject::Device(part)) => match_device::part_holds(
             part, operator, argument, pattern, plain, dev, at,
         ),
-        Subject::Parent(_) => true,
-        Subject::Property => match_values::value_holds(
+        Some(Subject::Property) => match_values::value_holds(
             operator,
             pattern,
             plain,
             outcome_readers::property(t, layout, argument),
         ),
-        Subject::List(list) => list_holds(list, operator, pattern, plain, t, layout),
-        Subject::Nothing => true,
+        Some(Subject::List(list)) => list_holds(list, operator, pattern, plain, t, layout),
+        Some(Subject::Parent(_)) | None => true,
     }
 }
 
@@ -169,7 +137,7 @@ fn subject_holds(
 fn pair_holds(
     values: &[u8],
     entry: Entry,
-    subject: Subject,
+    subject: Option<Subject>,
     dev: &[u8],
     at: usize,
     t: &[u8],
@@ -178,17 +146,12 @@ fn pair_holds(
     requires { EntryIn values.now entry × Judging dev.now at t.now layout }
     ensures { (x : Judging dev.now at t.now layout) → result ≡ pair_on subject (entry_of values.now entry) x.device x.member x.state }
 {
-    let operator = entry.operator;
-    let plain = entry.plain;
-    let start = entry.start;
-    let middle = entry.middle;
-    let end = entry.end;
     subject_holds(
         subject,
-        operator,
-        &values[start..middle],
-        &values[middle..end],
-        plain,
+        entry.operator,
+        &values[entry.start..entry.middle],
+        &values[entry.middle..entry.end],
+        entry.plain,
         dev,
         at,
         t,
@@ -200,7 +163,7 @@ fn pair_holds(
 fn row_holds(
     values: &[u8],
     entry: Entry,
-    subject: Subject,
+    subject: Option<Subject>,
     dev: &[u8],
     at: usize,
     t: &[u8],
@@ -217,14 +180,10 @@ fn row_holds(
 
 // ---- the parent keys
 
-// The place of the nearest device, from 1, the event device; or how many devices were tried in vain.
-#[derive(Drop)]
-pub enum Near {
-    At(usize),
-    Missed(usize),
-}
-
-// The nearest device at which the parent keys of the rows from a place to another hold.
+// The place of the nearest device, from 1, the event device, at which the parent keys of the rows from a place to another hold; or how many
+// devices were tried in vain.
+// By hand, since the search is to be two loops, over devices and over parent keys, that are left by a label and yield the place
+// (docs/DECISIONS.md, "Forms for each place").
 fn nearest(
     values: &[u8],
     rows: &[u16],
@@ -234,101 +193,86 @@ fn nearest(
     chain: Chain,
     t: &[u8],
     layout: Layout,
-) -> Near
+) -> Result<usize, usize>
     requires { (from ≤ to) × Segment values.now rows.now to × Begun dev.now chain t.now layout }
     ensures { NearestOf values.now rows.now from to dev.now chain t.now layout result }
 {
     let devices = chain.len;
     let places = chain.at;
     let mut k: usize = 0;
-    let place = 'search: loop {
+    'search: loop {
         if devices <= k {
-            break 'search Near::Missed(devices);
+            break 'search Err(devices);
         }
         let device = places[k];
-        let mut i = from;
-        loop {
-            if to <= i {
-                break 'search Near::At(k + 1);
-            }
-            let entry = table::pair_at(rows, i);
-            let key = entry.key;
-            if !pair_holds(
-                values,
-                entry,
-                at_parent(subject_of(key)),
-                dev,
-                device,
-                t,
-                layout,
-            ) {
-                break;
-            }
-            i += 1;
-        }
         k += 1;
-    };
-    place
+        for i in from..to {
+            let entry = table::pair_at(rows, i);
+            let subject = at_parent(subject_of(entry.key));
+            if !pair_holds(values, entry, subject, dev, device, t, layout) {
+                continue 'search;
+            }
+        }
+        break 'search Ok(k);
+    }
 }
 
 // ---- a rule
 
-// The first row with a parent key behind the i-th, if it is a parent key; `to` stands for none.
-fn first_of(first: usize, to: usize, parent: bool, i: usize) -> usize
-    ensures { result ≡ first_of first to parent i }
+// The first row with a parent key: the one so far, or the i-th, if it is one.
+fn first_of(first: Option<usize>, parent: bool, i: usize) -> Option<usize>
+    ensures { result ≡ first_of first parent i }
 {
-    if parent {
-        if first == to {
-            return i;
-        }
+    if parent && first.is_none() {
+        Some(i)
+    } else {
+        first
     }
-    first
 }
 
 // Whether a row up to the next has a key that an answer sheet answers.
 fn asks_by(asks: bool, key: Key) -> bool
     ensures { result ≡ (asks || is_asked (key_of key)) }
 {
-    if asks {
-        return true;
-    }
-    if kinds::is_program(key) {
-        return true;
-    }
-    kinds::is_result(key)
+    asks || kinds::is_program(key) || kinds::is_result(key)
 }
 
-// The place of the matched device, 0 without parent keys, and whether the rule has a PROGRAM or RESULT, which are still to be judged; or
-// how many devices were tried in vain.
+// The place of the matched device, 0 without parent keys, and whether the rule has a PROGRAM or RESULT, which are still to be judged.
 #[derive(Clone, Copy)]
-pub enum Matched {
-    At(usize, bool),
-    Missed(usize),
+pub struct Matched {
+    pub place: usize,
+    pub asks: bool,
 }
 
-// The row before a place, if it is one of these rows; or the place behind the last.
-fn row_ahead(from: usize, to: usize, first: usize) -> usize
-    requires { from ≤ to }
-    ensures { (from ≤ result) × (result ≤ to) }
+// The row before a place, if it is one of these rows.
+fn row_ahead(from: usize, to: usize, first: usize) -> Option<usize>
+    ensures { MatchOption result ⊤ (λ k. (from ≤ k) × (k < to)) }
 {
-    if first <= from {
-        return to;
+    if from < first && first <= to {
+        Some(first - 1)
+    } else {
+        None
     }
-    if to < first {
-        return to;
-    }
-    first - 1
 }
 
-// That row, or the one at hand.
-fn row_next(ahead: usize, i: usize, to: usize) -> usize
-    ensures { (ahead < to → result ≡ ahead) × (to ≤ ahead → result ≡ i) }
+// A row at the event device.
+fn row_holds_at(
+    values: &[u8],
+    entry: Entry,
+    dev: &[u8],
+    event: usize,
+    t: &[u8],
+    layout: Layout,
+) -> bool
+    requires { EntryIn values.now entry × Judging dev.now event t.now layout }
+    ensures { (x : Judging dev.now event t.now layout) → result ≡ pair_on (at_event (subject_of (key_of entry.key)) (operator_of entry.operator)) (entry_of values.now entry) x.device x.member x.state }
 {
-    if ahead < to { ahead } else { i }
+    let subject = at_event(subject_of(entry.key), entry.operator);
+    row_holds(values, entry, subject, dev, event, t, layout)
 }
 
 // Whether all keys but PROGRAM and RESULT hold of the rule whose rows stand from a place to another, and at which device: the parent keys
-// behind all others, and the row before `first`, if it is one of them, before all others too.
+// behind all others, and the row before `first`, if it is one of them, before all others too. Or how many devices were tried in vain.
 pub fn match_rule(
     values: &[u8],
     rows: &[u16],
@@ -339,46 +283,31 @@ pub fn match_rule(
     chain: Chain,
     t: &[u8],
     layout: Layout,
-) -> Matched
+) -> Result<Matched, usize>
     requires { (from ≤ to) × Segment values.now rows.now to × Begun dev.now chain t.now layout }
     ensures { MatchedOf values.now rows.now from to dev.now chain t.now layout result }
 {
     let places = chain.at;
     let event = places[0];
-    let mut parents = to;
+    if let Some(row) = row_ahead(from, to, first) {
+        if !row_holds_at(values, table::pair_at(rows, row), dev, event, t, layout) {
+            return Err(0);
+        }
+    }
+    let mut parents = None;
     let mut asks = false;
-    let mut ahead = row_ahead(from, to, first);
-    let mut i = from;
-    while i < to {
-        let row = row_next(ahead, i, to);
-        let entry = table::pair_at(rows, row);
+    for i in from..to {
+        let entry = table::pair_at(rows, i);
         let key = entry.key;
-        let operator = entry.operator;
-        let subject = subject_of(key);
-        if !row_holds(
-            values,
-            entry,
-            at_event(subject, operator),
-            dev,
-            event,
-            t,
-            layout,
-        ) {
-            return Matched::Missed(0);
+        if !row_holds_at(values, entry, dev, event, t, layout) {
+            return Err(0);
         }
-        if ahead < to {
-            ahead = to;
-        } else {
-            parents = first_of(parents, to, is_parent(subject), i);
-            asks = asks_by(asks, key);
-            i += 1;
-        }
+        parents = first_of(parents, is_parent(subject_of(key)), i);
+        asks = asks_by(asks, key);
     }
-    if parents == to {
-        return Matched::At(0, asks);
-    }
-    match nearest(values, rows, parents, to, dev, chain, t, layout) {
-        Near::At(place) => Matched::At(place, asks),
-        Near::Missed(tried) => Matched::Missed(tried),
-    }
+    let Some(start) = parents else {
+        return Ok(Matched { place: 0, asks });
+    };
+    let place = nearest(values, rows, start, to, dev, chain, t, layout)?;
+    Ok(Matched { place, asks })
 }

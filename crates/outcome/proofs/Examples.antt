@@ -6,7 +6,7 @@ use Prim.Native.String.{String}
 use mathlib.Core.Path.{◌≡◌, refl}
 use mathlib.Core.Bool.{Bool, true, false, not, ◌&&◌}
 use mathlib.Core.List.{List, [], ◌∷◌, ◌++◌}
-use mathlib.Core.Option.{Option, none, some}
+use Rattle.std.specs.Prelude.{Option, None, Some}
 use lib.Dec.{eqb}
 use lib.ListN.{length, take, set, replicate}
 use Rattle.lists.specs.Lists.{is_some}
@@ -36,12 +36,12 @@ pub data Case : Type 0 where
   sized : String → ℕ → List ℕ → Case
 
 abbrev packs : Option State → List ℕ → Bool
-packs none bs = false
-packs (some s) bs = same_bytes (encode s) bs
+packs None bs = false
+packs (Some s) bs = same_bytes (encode s) bs
 
 abbrev packs1 : Option State → List ℕ → Bool
-packs1 none bs = false
-packs1 (some s) bs = same_bytes (encode_old s) bs
+packs1 None bs = false
+packs1 (Some s) bs = same_bytes (encode_old s) bs
 
 unfoldable pub right : Case → Bool
 unfolding bytes same_bytes split_at items in_braces span starts T.names T.letters T.name_in T.pieces T.well_formed to_bits from_bits bits_of bytes_of number_at packed header encode decode renewed aged encode_old decode_old
@@ -79,7 +79,7 @@ empty1 = 16 ∷ 0 ∷ 0 ∷ 0 ∷ 0 ∷ 0 ∷ 0 ∷ 0 ∷ 0 ∷ 0 ∷ 0 ∷ []
 -- a state as it is, sound or not, and packed
 state_of_lem : List ℕ → ℕ → List ℕ → List ℕ → List (List ℕ) → List Property → List (List ℕ) → List Run → State
 state_of_lem x w o g ls ps ts rs =
-    record { closed = open_all; owner = o; group = g; mode = some 4093; priority = 4294967295; output = x; watch = w; links = ls; properties = ps; tags = ts; runs = rs }
+    record { closed = open_all; owner = o; group = g; mode = Some 4093; priority = 4294967295; output = x; watch = w; links = ls; properties = ps; tags = ts; runs = rs }
 
 state : List ℕ → List ℕ → List (List ℕ) → List Property → List (List ℕ) → List Run → List ℕ
 unfolding encode state_of_lem

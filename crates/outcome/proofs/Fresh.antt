@@ -3,7 +3,7 @@
 use Prim.Native.Nat.{ℕ}
 use mathlib.Core.Path.{◌≡◌, refl}
 use mathlib.Core.List.{List}
-use mathlib.Core.Option.{some}
+use Rattle.std.specs.Prelude.{Some}
 use native.Mathlib.Omega.{arith}
 use lib.ListN.{length}
 use Rattle.device.specs.Device as device
@@ -13,7 +13,7 @@ use Rattle.outcome.specs.State.{Good, encode, decode, fresh}
 use Rattle.outcome.proofs.RoundTrip.{there}
 use Rattle.outcome.proofs.Edits.{empty_entries, empty_runs}
 
-pub fresh_good : (bs : List ℕ) (d : Device) → device.decode bs ≡ some d → Good (length (chain d)) (fresh d)
+pub fresh_good : (bs : List ℕ) (d : Device) → device.decode bs ≡ Some d → Good (length (chain d)) (fresh d)
 unfolding fresh
 fresh_good bs d e =
     let h = device_sound bs d e in
@@ -31,5 +31,5 @@ fresh_good bs d e =
     }
 
 -- so a run that begins with it is not refused as 4
-pub fresh_read : (bs : List ℕ) (d : Device) → device.decode bs ≡ some d → decode (length (chain d)) (encode (fresh d)) ≡ some (fresh d)
+pub fresh_read : (bs : List ℕ) (d : Device) → device.decode bs ≡ Some d → decode (length (chain d)) (encode (fresh d)) ≡ Some (fresh d)
 fresh_read bs d e = there (length (chain d)) (fresh d) (fresh_good bs d e)

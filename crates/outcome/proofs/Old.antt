@@ -4,7 +4,7 @@ use Prim.Native.Nat.{ℕ, zero, suc, ◌+◌, ◌-◌, ◌*◌, ◌/◌, ◌^◌
 use mathlib.Core.Path.{◌≡◌, refl, sym, ap, ap₂, ◌∙◌, subst}
 use mathlib.Core.Bool.{Bool, true, false}
 use mathlib.Core.List.{List, [], ◌∷◌, ◌++◌, append_assoc}
-use mathlib.Core.Option.{some, none}
+use Rattle.std.specs.Prelude.{Some, None}
 use native.Mathlib.Omega.{arith}
 use lib.ListN.{length, get_or, take, drop, length-append, take-append-drop}
 use lib.Seq.{take-append_seam, drop-append_seam, length-take-le}
@@ -136,7 +136,7 @@ pub record Ages (b : ℕ) (bs : List ℕ) : Type 0 where
   pub again : renewed (aged (b ∷ bs)) ≡ b ∷ bs
   pub edition : eqb ((b - 16) / 16) 1 ≡ true
 
-module _ (n b : ℕ) (bs : List ℕ) (s : State) (by : Bytes (b ∷ bs)) (is : decode n (b ∷ bs) ≡ some s) (pl : plain s ≡ true) where
+module _ (n b : ℕ) (bs : List ℕ) (s : State) (by : Bytes (b ∷ bs)) (is : decode n (b ∷ bs) ≡ Some s) (pl : plain s ≡ true) where
   private_good : Good n s
   private_good = (back n (b ∷ bs) s by is).1
 
@@ -196,33 +196,33 @@ renewed-bytes b bs h by (suc i) =
     joined (a ∷ x) y f g zero = f zero
     joined (a ∷ x) y f g (suc i) = joined x y (λ k. f (suc k)) g i
 
-pub back_old : (n : ℕ) (bs : List ℕ) (s : State) → Bytes bs → decode_old n bs ≡ some s → Read1 n bs s
+pub back_old : (n : ℕ) (bs : List ℕ) (s : State) → Bytes bs → decode_old n bs ≡ Some s → Read1 n bs s
 unfolding decode_old
 back_old n [] s by e = let z : ◌≡◌ {A = ℕ} 0 1 = cc in absurd (omega arith)
 back_old n (b ∷ bs) s by e = at (eqb (b / 16) 1) refl
   where
     at : (t : Bool) → eqb (b / 16) 1 ≡ t → Read1 n (b ∷ bs) s
-    at false h = let q : none ≡ some s = rw (h, decode_old) at e in let z : ◌≡◌ {A = ℕ} 0 1 = cc in absurd (omega arith)
+    at false h = let q : None ≡ Some s = rw (h, decode_old) at e in let z : ◌≡◌ {A = ℕ} 0 1 = cc in absurd (omega arith)
     at true h =
-        let q : decode n (renewed (b ∷ bs)) ≡ some s = rw (h, decode_old) at e in
+        let q : decode n (renewed (b ∷ bs)) ≡ Some s = rw (h, decode_old) at e in
         let (p, g) = back n (renewed (b ∷ bs)) s (renewed-bytes b bs h by) q in
         unfold encode_old in
         record { good = g; plain-state = old_plain n s g b bs p; packs = ap aged p ∙ aged-renewed b bs (old_long n s g b bs p) }
 
 -- the record of edition 1 of a plain state is read back, whatever record of edition 2 it was read of
-pub there_old : (n : ℕ) (bs : List ℕ) (s : State) → Bytes bs → decode n bs ≡ some s → plain s ≡ true → decode_old n (encode_old s) ≡ some s
+pub there_old : (n : ℕ) (bs : List ℕ) (s : State) → Bytes bs → decode n bs ≡ Some s → plain s ≡ true → decode_old n (encode_old s) ≡ Some s
 unfolding encode_old aged decode_old
 there_old n [] s by e pl = let k : 13 ≤ length (encode s) = long n s (back n [] s by e).1 in let q = ap length (back n [] s by e).0 in absurd (omega arith)
 there_old n (b ∷ bs) s by e pl =
     let a = ages n b bs s by e pl in
     ap (λ (x : List ℕ). decode_old n (aged x)) (back n (b ∷ bs) s by e).0 ∙ at a.edition a.again
   where
-    at : eqb ((b - 16) / 16) 1 ≡ true → renewed (aged (b ∷ bs)) ≡ b ∷ bs → decode_old n (aged (b ∷ bs)) ≡ some s
+    at : eqb ((b - 16) / 16) 1 ≡ true → renewed (aged (b ∷ bs)) ≡ b ∷ bs → decode_old n (aged (b ∷ bs)) ≡ Some s
     at h q = rw (h, decode_old) (ap (decode n) q ∙ e)
 
 -- ---- sizes
 
-pub old_size : (n : ℕ) (bs : List ℕ) (s : State) → Bytes bs → decode n bs ≡ some s → plain s ≡ true → length (encode_old s) ≤ 17611
+pub old_size : (n : ℕ) (bs : List ℕ) (s : State) → Bytes bs → decode n bs ≡ Some s → plain s ≡ true → length (encode_old s) ≤ 17611
 unfolding encode_old aged
 old_size n [] s by e pl = let k : 13 ≤ length (encode s) = long n s (back n [] s by e).1 in let q = ap length (back n [] s by e).0 in absurd (omega arith)
 old_size n (b ∷ bs) s by e pl =
@@ -242,15 +242,15 @@ old_size n (b ∷ bs) s by e pl =
         omega arith
 
 -- how long a sound record of edition 1 is
-pub old_lengths : (n : ℕ) (bs : List ℕ) (s : State) → Bytes bs → decode_old n bs ≡ some s → (11 ≤ length bs) × (length bs ≤ 17611)
+pub old_lengths : (n : ℕ) (bs : List ℕ) (s : State) → Bytes bs → decode_old n bs ≡ Some s → (11 ≤ length bs) × (length bs ≤ 17611)
 unfolding decode_old
 old_lengths n [] s by e = let z : ◌≡◌ {A = ℕ} 0 1 = cc in absurd (omega arith)
 old_lengths n (b ∷ bs) s by e = at (eqb (b / 16) 1) refl
   where
     at : (t : Bool) → eqb (b / 16) 1 ≡ t → (11 ≤ length (b ∷ bs)) × (length (b ∷ bs) ≤ 17611)
-    at false h = let q : none ≡ some s = rw (h, decode_old) at e in let z : ◌≡◌ {A = ℕ} 0 1 = cc in absurd (omega arith)
+    at false h = let q : None ≡ Some s = rw (h, decode_old) at e in let z : ◌≡◌ {A = ℕ} 0 1 = cc in absurd (omega arith)
     at true h =
-        let q : decode n (renewed (b ∷ bs)) ≡ some s = rw (h, decode_old) at e in
+        let q : decode n (renewed (b ∷ bs)) ≡ Some s = rw (h, decode_old) at e in
         let r = renewed-bytes b bs h by in
         let (p, g) = back n (renewed (b ∷ bs)) s r q in
         let size = old_size n (renewed (b ∷ bs)) s r q (old_plain n s g b bs p) in

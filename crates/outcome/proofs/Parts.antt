@@ -4,7 +4,7 @@ use Prim.Native.Nat.{ℕ, zero, suc, ◌≤◌, ◌<◌}
 use mathlib.Core.Path.{◌≡◌, refl, sym, ap, ap₂, ◌∙◌, subst}
 use mathlib.Core.Bool.{Bool, true, false, ◌&&◌, ◌||◌, not}
 use mathlib.Core.List.{List, [], ◌∷◌, ◌++◌, append_assoc}
-use mathlib.Core.Option.{Option, some, none}
+use Rattle.std.specs.Prelude.{Option, Some, None}
 use native.Mathlib.Omega.{arith}
 use lib.ListN.{length, take, drop, length-append, take-append-drop}
 use lib.Seq.{take-append_seam, drop-append_seam, length-take-le}
@@ -27,8 +27,8 @@ use Rattle.outcome.specs.State.{Run, mode_set, mode_bits, mode_of, OkModeBits, o
 -- ---- mode
 
 pub mode_there : (m : Option ℕ) → mode_of (mode_set m) (mode_bits m) ≡ m
-mode_there none = refl
-mode_there (some m) = refl
+mode_there None = refl
+mode_there (Some m) = refl
 
 pub mode-set : (a b : ℕ) → a < 2 → mode_set (mode_of a b) ≡ a
 mode-set zero b h = refl
@@ -50,21 +50,21 @@ mode_okay a b h = go (eqb a 1) refl
     go false e = rw e tt
 
 pub mode_small : (m : Option ℕ) → OkModeBits m → mode_bits m < 4096
-mode_small none h = omega arith
-mode_small (some m) h = h.small
+mode_small None h = omega arith
+mode_small (Some m) h = h.small
 
 -- Item 8
 pub mode-kept : (m : Option ℕ) → OkModeBits m → not (others_write (mode_bits m)) ≡ true
-mode-kept none h = refl
-mode-kept (some m) h = h.kept
+mode-kept None h = refl
+mode-kept (Some m) h = h.kept
 
 pub set_small : (m : Option ℕ) → mode_set m < 2
-set_small none = omega arith
-set_small (some m) = omega arith
+set_small None = omega arith
+set_small (Some m) = omega arith
 
 pub set-or : (m : Option ℕ) → (eqb (mode_set m) 1 || eqb (mode_bits m) 0) ≡ true
-set-or none = refl
-set-or (some m) = refl
+set-or None = refl
+set-or (Some m) = refl
 
 -- ---- output, owner and group
 

@@ -4,7 +4,7 @@ use Prim.Native.Nat.{ℕ, ◌≤◌}
 use mathlib.Core.Path.{◌≡◌, refl, sym, ap, ap₂, ◌∙◌, subst, subst₂}
 use mathlib.Core.Bool.{Bool, true, false, ◌||◌, not}
 use mathlib.Core.List.{List, [], ◌∷◌, ◌++◌, append_assoc, append-nil}
-use mathlib.Core.Option.{some, none}
+use Rattle.std.specs.Prelude.{Some, None}
 use native.Mathlib.Omega.{arith}
 use lib.ListN.{length}
 use lib.Dec.{leb, eqb}
@@ -131,7 +131,7 @@ module _ (n : ℕ) where
         same-state s,
       )
 
-  pub there : (s : State) → Good n s → decode n (encode s) ≡ some s
+  pub there : (s : State) → Good n s → decode n (encode s) ≡ Some s
   unfolding decode
   there s g = ap (decode n) (sym (append-nil (encode s))) ∙ ap ended (parts_there s [] g) ∙ rw (g.links.apart, g.properties.apart, g.tags.apart, ended)
 
@@ -262,14 +262,14 @@ module _ (n : ℕ) where
       got_second v s r z e = cc
 
 -- reading to the end: nothing is left, and no entry stands twice
-ended-back : (p : Parse State) (s : State) → ended p ≡ some s → (p ≡ got s []) × (apart s ≡ true)
+ended-back : (p : Parse State) (s : State) → ended p ≡ Some s → (p ≡ got s []) × (apart s ≡ true)
 ended-back bad s e = let z : ◌≡◌ {A = ℕ} 0 1 = cc in absurd (omega arith)
 ended-back (got v (b ∷ bs)) s e = let z : ◌≡◌ {A = ℕ} 0 1 = cc in absurd (omega arith)
 ended-back (got v []) s e = at (apart v) refl e
   where
-    at : (t : Bool) → apart v ≡ t → ended (got v []) ≡ some s → (got v [] ≡ got s []) × (apart s ≡ true)
-    at true h e = let q : some v ≡ some s = rw (h, ended) at e in let w : v ≡ s = cc in (ap (λ (x : State). got x []) w, ap apart (sym w) ∙ h)
-    at false h e = let q : none ≡ some s = rw (h, ended) at e in let z : ◌≡◌ {A = ℕ} 0 1 = cc in absurd (omega arith)
+    at : (t : Bool) → apart v ≡ t → ended (got v []) ≡ Some s → (got v [] ≡ got s []) × (apart s ≡ true)
+    at true h e = let q : Some v ≡ Some s = rw (h, ended) at e in let w : v ≡ s = cc in (ap (λ (x : State). got x []) w, ap apart (sym w) ∙ h)
+    at false h e = let q : None ≡ Some s = rw (h, ended) at e in let z : ◌≡◌ {A = ℕ} 0 1 = cc in absurd (omega arith)
 
 good_of : (n : ℕ) (bs : List ℕ) (s : State) (z : List ℕ) → Read n bs s z → apart s ≡ true → Good n s
 good_of n bs s z r t =
@@ -295,7 +295,7 @@ good_of n bs s z r t =
       runs = record { few = leb-true _ _ i.1; each = r.runs };
     }
 
-pub back : (n : ℕ) (bs : List ℕ) (s : State) → Bytes bs → decode n bs ≡ some s → (encode s ≡ bs) × Good n s
+pub back : (n : ℕ) (bs : List ℕ) (s : State) → Bytes bs → decode n bs ≡ Some s → (encode s ≡ bs) × Good n s
 unfolding decode
 back n bs s b e =
     let (p, a) = ended-back (parts n bs) s e in
@@ -304,8 +304,8 @@ back n bs s b e =
 
 -- a record is of one state
 pub only : (n : ℕ) (s t : State) → Good n s → Good n t → encode s ≡ encode t → s ≡ t
-only n s t g h e = let p : some s ≡ some t = sym (there n s g) ∙ ap (decode n) e ∙ there n t h in cc
+only n s t g h e = let p : Some s ≡ Some t = sym (there n s g) ∙ ap (decode n) e ∙ there n t h in cc
 
 -- document 02, Item 8: no accepted record has a mode that lets others write
-pub not-shared : (n : ℕ) (bs : List ℕ) (s : State) (m : ℕ) → Bytes bs → decode n bs ≡ some s → s.mode ≡ some m → not (others_write m) ≡ true
-not-shared n bs s m b e q = let k : OkModeBits (some m) = subst OkModeBits q (back n bs s b e).1.mode in k.kept
+pub not-shared : (n : ℕ) (bs : List ℕ) (s : State) (m : ℕ) → Bytes bs → decode n bs ≡ Some s → s.mode ≡ Some m → not (others_write m) ≡ true
+not-shared n bs s m b e q = let k : OkModeBits (Some m) = subst OkModeBits q (back n bs s b e).1.mode in k.kept

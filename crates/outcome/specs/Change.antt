@@ -1,7 +1,7 @@
 -- A state with one part anew, and with a key closed.
 -- Assumes nothing.
 use Rattle.std.specs.Prelude.{ℕ, true, List}
-use Rattle.std.proofs.Math.Option.{some}
+use Rattle.std.specs.Prelude.{Some}
 use Rattle.entries.specs.Entry.{Property}
 use Rattle.outcome.specs.Head.{Closed}
 use Rattle.outcome.specs.State.{Run, State}
@@ -16,7 +16,7 @@ abbrev pub with_group : State → List ℕ → State
 with_group s x = record { closed = s.closed; owner = s.owner; group = x; mode = s.mode; priority = s.priority; output = s.output; watch = s.watch; links = s.links; properties = s.properties; tags = s.tags; runs = s.runs }
 
 abbrev pub with_mode : State → ℕ → State
-with_mode s m = record { closed = s.closed; owner = s.owner; group = s.group; mode = some m; priority = s.priority; output = s.output; watch = s.watch; links = s.links; properties = s.properties; tags = s.tags; runs = s.runs }
+with_mode s m = record { closed = s.closed; owner = s.owner; group = s.group; mode = Some m; priority = s.priority; output = s.output; watch = s.watch; links = s.links; properties = s.properties; tags = s.tags; runs = s.runs }
 
 abbrev pub with_priority : State → ℕ → State
 with_priority s n = record { closed = s.closed; owner = s.owner; group = s.group; mode = s.mode; priority = n; output = s.output; watch = s.watch; links = s.links; properties = s.properties; tags = s.tags; runs = s.runs }

@@ -1,7 +1,7 @@
 -- Document 02, Item 5: records of edition 1, which only the converters read and write, by what edition 2 puts in.
 -- Assumes nothing.
 use Rattle.std.specs.Prelude.{ℕ, ◌+◌, ◌-◌, ◌/◌, Bool, true, false, ◌&&◌, List, [], ◌∷◌, ◌++◌, take, drop, eqb}
-use Rattle.std.proofs.Math.Option.{Option, none}
+use Rattle.std.specs.Prelude.{Option, None}
 use Rattle.lists.specs.Lists.{is_empty}
 use Rattle.outcome.specs.State.{State, encode, decode}
 
@@ -26,5 +26,5 @@ encode_old s = aged (encode s)
 
 -- the sound records of edition 1 beside a chain of n devices, and no others (refusal 4)
 unfoldable pub decode_old : ℕ → List ℕ → Option State
-decode_old n [] = none
-decode_old n (b ∷ bs) = elim (eqb (b / 16) 1) [ true ↦ decode n (renewed (b ∷ bs)) | false ↦ none ]
+decode_old n [] = None
+decode_old n (b ∷ bs) = elim (eqb (b / 16) 1) [ true ↦ decode n (renewed (b ∷ bs)) | false ↦ None ]

@@ -1,7 +1,7 @@
 -- Document 01, Packed records and Sizes: the outcome as a value, its record, and the records that are sound.
 -- Assumes nothing.
 use Rattle.std.specs.Prelude.{ℕ, ◌<◌, ◌≤◌, ◌≡◌, Bool, true, false, ◌&&◌, ◌||◌, not, List, [], ◌∷◌, ◌++◌, length, take, drop, leb, eqb}
-use Rattle.std.proofs.Math.Option.{Option, some, none}
+use Rattle.std.specs.Prelude.{Option, Some, None}
 use Rattle.lists.specs.Lists.{pick, cat, all}
 use Rattle.lists.specs.Bytes.{distinct, ok_text}
 use Rattle.bits.specs.Bits.{number_at}
@@ -38,15 +38,15 @@ pub record State : Type 0 where
 -- ---- mode as numbers of the header
 
 abbrev pub mode_set : Option ℕ → ℕ
-mode_set none = 0
-mode_set (some m) = 1
+mode_set None = 0
+mode_set (Some m) = 1
 
 abbrev pub mode_bits : Option ℕ → ℕ
-mode_bits none = 0
-mode_bits (some m) = m
+mode_bits None = 0
+mode_bits (Some m) = m
 
 abbrev pub mode_of : ℕ → ℕ → Option ℕ
-mode_of set m = pick (eqb set 1) (some m) none
+mode_of set m = pick (eqb set 1) (Some m) None
 
 -- ---- a run
 
@@ -131,8 +131,8 @@ pub record ModeBits (m : ℕ) : Type 0 where
   pub kept : not (others_write m) ≡ true
 
 abbrev pub OkModeBits : Option ℕ → Type 0
-OkModeBits none = Unit {0}
-OkModeBits (some m) = ModeBits m
+OkModeBits None = Unit {0}
+OkModeBits (Some m) = ModeBits m
 
 -- links or tags that may stand in a record: not too many, each sound, none twice
 pub record Entries (most : ℕ) (ok : List ℕ → Bool) (xs : List (List ℕ)) : Type 0 where
@@ -212,9 +212,9 @@ parts n bs = bind (read_head bs) (output_on n)
 
 -- nothing after the end, and no entry twice
 abbrev pub ended : Parse State → Option State
-ended bad = none
-ended (got s (b ∷ bs)) = none
-ended (got s []) = elim (apart s) [ true ↦ some s | false ↦ none ]
+ended bad = None
+ended (got s (b ∷ bs)) = None
+ended (got s []) = elim (apart s) [ true ↦ Some s | false ↦ None ]
 
 -- the sound outcome records beside a chain of n devices, and no others (refusal 4)
 unfoldable pub decode : ℕ → List ℕ → Option State
@@ -232,7 +232,7 @@ fresh d =
       closed = open_all;
       owner = [];
       group = [];
-      mode = none;
+      mode = None;
       priority = 0;
       output = [];
       watch = 0;

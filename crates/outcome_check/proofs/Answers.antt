@@ -2,18 +2,17 @@
 -- Assumes nothing.
 use Prim.Native.Nat.{ℕ}
 use mathlib.Core.Path.{◌≡◌, refl}
-use mathlib.Core.Option.{Option, none, some}
+use Rattle.std.specs.Prelude.{Option, None, Some}
 use native.Mathlib.Omega.{arith}
 use Rattle.outcome.specs.State.{State}
 use Rattle.outcome_target.specs.Layout.{layout_of}
 use Rattle.outcome_target.specs.declared.Layout.{Layout}
 use Rattle.outcome_check.specs.Check.{checked_of}
-use Rattle.outcome_check.specs.declared.Checked.TheVariants.{Sound, Faulty}
 
-pub sound-state : (o : Option State) (lay : Layout) → Sound lay ≡ checked_of o → (s : State) × (o ≡ some s) × (lay ≡ layout_of s)
-sound-state none lay e = let z : ◌≡◌ {A = ℕ} 0 1 = cc in absurd (omega arith)
-sound-state (some s) lay e = let f : lay ≡ layout_of s = cc in (s, refl, f)
+pub sound-state : (o : Option State) (lay : Layout) → Some lay ≡ checked_of o → (s : State) × (o ≡ Some s) × (lay ≡ layout_of s)
+sound-state None lay e = let z : ◌≡◌ {A = ℕ} 0 1 = cc in absurd (omega arith)
+sound-state (Some s) lay e = let f : lay ≡ layout_of s = cc in (s, refl, f)
 
-pub faulty-state : (o : Option State) → Faulty ≡ checked_of o → o ≡ none
-faulty-state none e = refl
-faulty-state (some s) e = let z : ◌≡◌ {A = ℕ} 0 1 = cc in absurd (omega arith)
+pub faulty-state : (o : Option State) → None ≡ checked_of o → o ≡ None
+faulty-state None e = refl
+faulty-state (Some s) e = let z : ◌≡◌ {A = ℕ} 0 1 = cc in absurd (omega arith)

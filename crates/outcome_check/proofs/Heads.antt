@@ -4,7 +4,7 @@ use Prim.Native.Nat.{ℕ, ◌≤◌, ◌<◌}
 use mathlib.Core.Path.{◌≡◌, refl, sym, ap, ap₂, ◌∙◌}
 use mathlib.Core.Bool.{Bool, true, false, ◌&&◌}
 use mathlib.Core.List.{List, []}
-use mathlib.Core.Option.{none, some}
+use Rattle.std.specs.Prelude.{None, Some}
 use lib.ListN.{length, take, drop}
 use Rattle.entries.specs.Parse.{Parse, got, bad, bind, keep}
 use Rattle.rows.proofs.Readers.{head_cut, head_whole}
@@ -55,12 +55,12 @@ head_by_lem head c w =
 -- ---- the record from its header on
 
 module _ (k : ℕ) (l : List ℕ) where
-  pub short_record : length l < header_size → decode k l ≡ none
+  pub short_record : length l < header_size → decode k l ≡ None
   unfolding decode
   short_record h = rw (head_cut header_size l h)
 
   module _ (h : header_size ≤ length l) (c : Counts) (w : Counted (take header_size l) c) where
-    pub bad-header : ok_counts c ≡ false → decode k l ≡ none
+    pub bad-header : ok_counts c ≡ false → decode k l ≡ None
     unfolding decode
     bad-header e = rw (head_whole header_size l h, sym (ap ok_head (head_by_lem (take header_size l) c w)) ∙ e)
 
@@ -70,8 +70,8 @@ module _ (k : ℕ) (l : List ℕ) where
 
 -- ---- at the end
 
-pub ended_twice : (p : Parse State) (s : State) → p ≡ got s [] → apart s ≡ false → ended p ≡ none
+pub ended_twice : (p : Parse State) (s : State) → p ≡ got s [] → apart s ≡ false → ended p ≡ None
 ended_twice p s e a = rw (e, a, ended)
 
-pub ended-sound : (p : Parse State) (s : State) → p ≡ got s [] → apart s ≡ true → ended p ≡ some s
+pub ended-sound : (p : Parse State) (s : State) → p ≡ got s [] → apart s ≡ true → ended p ≡ Some s
 ended-sound p s e a = rw (e, a, ended)

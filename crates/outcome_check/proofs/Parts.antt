@@ -4,7 +4,7 @@ use Prim.Native.Nat.{ℕ, ◌+◌, ◌-◌, ◌≤◌, ◌<◌}
 use mathlib.Core.Path.{◌≡◌, refl, sym, ap, ap₂, ◌∙◌, subst}
 use mathlib.Core.Bool.{Bool, true, false, ◌&&◌}
 use mathlib.Core.List.{List, [], ◌∷◌, ◌++◌, map}
-use mathlib.Core.Option.{Option, none, some}
+use Rattle.std.specs.Prelude.{Option, None, Some}
 use native.Mathlib.Omega.{arith}
 use borrow.Author.Tests.{leb-true}
 use lib.Dec.{leb}
@@ -21,7 +21,6 @@ use Rattle.entries.proofs.Rows.{Laws, many-back}
 use Rattle.entries.proofs.Entries.{kept, text-laws, prop_laws}
 use Rattle.rows.specs.Row.{Row, names, end_of}
 use Rattle.rows.specs.declared.Kind.TheVariants as kind
-use Rattle.rows.specs.declared.RowEnd.TheVariants.{At, Bad}
 use Rattle.rows.proofs.Readers.{text-reads, property-reads, many-row, many-names, end-bad}
 use Rattle.outcome.specs.Head.{Head, header_size}
 use Rattle.outcome.specs.Content.{ok_link, ok_owner, ok_output}
@@ -34,7 +33,7 @@ use Rattle.outcome_check.specs.declared.Counts.{Counts}
 
 -- ---- one part
 
-end-got : {A : Type 0} (n q : ℕ) (p : Parse A) → end_of n p ≡ At q → (a : A) × (r : List ℕ) × (p ≡ got a r) × (n - length r ≡ q)
+end-got : {A : Type 0} (n q : ℕ) (p : Parse A) → end_of n p ≡ Some q → (a : A) × (r : List ℕ) × (p ≡ got a r) × (n - length r ≡ q)
 end-got n q (got a r) e = (a, r, refl, cc)
 end-got n q bad e = let z : ◌≡◌ {A = ℕ} 0 1 = cc in absurd (omega arith)
 
@@ -45,7 +44,7 @@ pub record SizedAt (l : List ℕ) (ok : List ℕ → Bool) (k at p : ℕ) : Type
   pub ends : p ≡ at + k
   pub within : p ≤ length l
 
-pub sized_at : (l : List ℕ) (ok : List ℕ → Bool) (k at p : ℕ) → at ≤ length l → end_of (length l) (one_sized ok k (drop at l)) ≡ At p → SizedAt l ok k at p
+pub sized_at : (l : List ℕ) (ok : List ℕ → Bool) (k at p : ℕ) → at ≤ length l → end_of (length l) (one_sized ok k (drop at l)) ≡ Some p → SizedAt l ok k at p
 sized_at l ok k at p h e =
     let (x, r, w, q) = end-got (length l) p (one_sized ok k (drop at l)) e in
     let (t, a, b) = kept (leb k (length (drop at l)) && ok (take k (drop at l))) (take k (drop at l)) x (drop k (drop at l)) r w in
@@ -71,7 +70,7 @@ pub record RowAt (l : List ℕ) (A : Type 0) (enc : A → List ℕ) (one : List 
   pub within : p ≤ length l
 
 pub row_at : (l : List ℕ) → Bytes l → {A : Type 0} {enc : A → List ℕ} {ok : A → Bool} {one : List ℕ → Parse A} → Laws A enc ok one → (n at p : ℕ)
-    → at ≤ length l → end_of (length l) (many one n (drop at l)) ≡ At p → RowAt l A enc one n at p
+    → at ≤ length l → end_of (length l) (many one n (drop at l)) ≡ Some p → RowAt l A enc one n at p
 row_at l b {A} {enc} {ok} {one} W n at p h e =
     let (xs, r, w, q) = end-got (length l) p (many one n (drop at l)) e in
     let (s, f, c) = many-back W n (drop at l) xs r (bytes_drop at l b) w in
@@ -113,11 +112,11 @@ abbrev front_of : Head → List ℕ → Parse (List ℕ)
 front_of h bs = bind (one_sized ok_output h.output bs) (λ x q. bind (one_sized ok_owner h.owner q) (λ o r. one_sized ok_owner h.group r))
 
 module _ (l : List ℕ) (h : Head) where
-  pub no_output : end_of (length l) (one_sized ok_output h.output (drop header_size l)) ≡ Bad → end_of (length l) (front_of h (drop header_size l)) ≡ Bad
+  pub no_output : end_of (length l) (one_sized ok_output h.output (drop header_size l)) ≡ None → end_of (length l) (front_of h (drop header_size l)) ≡ None
   no_output e = rw (end-bad (length l) (one_sized ok_output h.output (drop header_size l)) e)
 
   module _ {p₁ : ℕ} (x : SizedAt l ok_output h.output header_size p₁) where
-    pub no-owner : end_of (length l) (one_sized ok_owner h.owner (drop p₁ l)) ≡ Bad → end_of (length l) (front_of h (drop header_size l)) ≡ Bad
+    pub no-owner : end_of (length l) (one_sized ok_owner h.owner (drop p₁ l)) ≡ None → end_of (length l) (front_of h (drop header_size l)) ≡ None
     no-owner e = rw (x.read, end-bad (length l) (one_sized ok_owner h.owner (drop p₁ l)) e)
 
     pub up_to-group : {p₂ : ℕ} → SizedAt l ok_owner h.owner p₁ p₂ → end_of (length l) (one_sized ok_owner h.group (drop p₂ l)) ≡ end_of (length l) (front_of h (drop header_size l))
@@ -132,7 +131,7 @@ pub record FrontAt (k : ℕ) (l : List ℕ) (h : Head) (p : ℕ) : Type 0 where
   pub ends : p ≡ header_size + length output + length owner + length group
   pub within : p ≤ length l
 
-bind-end : {A B : Type 0} (n q : ℕ) (p : Parse A) (f : A → List ℕ → Parse B) → end_of n (bind p f) ≡ At q → (a : A) × (r : List ℕ) × (p ≡ got a r) × (end_of n (f a r) ≡ At q)
+bind-end : {A B : Type 0} (n q : ℕ) (p : Parse A) (f : A → List ℕ → Parse B) → end_of n (bind p f) ≡ Some q → (a : A) × (r : List ℕ) × (p ≡ got a r) × (end_of n (f a r) ≡ Some q)
 bind-end n q (got a r) f e = (a, r, refl, e)
 bind-end n q bad f e = let z : ◌≡◌ {A = ℕ} 0 1 = cc in absurd (omega arith)
 
@@ -144,7 +143,7 @@ sized-got l ok k at x r h w =
     let m : k ≤ length (drop at l) = leb-true k (length (drop at l)) (and_both (leb k (length (drop at l))) (ok (take k (drop at l))) t).0 in
     (sym b ∙ drop-drop k at l, sym (ap length a) ∙ length-take-le k (drop at l) m, omega (arith, length-drop at l))
 
-pub front_at : (k : ℕ) (l : List ℕ) (h : Head) (p : ℕ) → header_size ≤ length l → end_of (length l) (front_of h (drop header_size l)) ≡ At p → FrontAt k l h p
+pub front_at : (k : ℕ) (l : List ℕ) (h : Head) (p : ℕ) → header_size ≤ length l → end_of (length l) (front_of h (drop header_size l)) ≡ Some p → FrontAt k l h p
 front_at k l h p m e =
     let (x, r₁, w₁, e₁) = bind-end (length l) p (one_sized ok_output h.output (drop header_size l)) _ e in
     let (o, r₂, w₂, e₂) = bind-end (length l) p (one_sized ok_owner h.owner r₁) _ e₁ in
@@ -171,7 +170,7 @@ bind-bad : {A B C : Type 0} (p : Parse A) (f : A → List ℕ → Parse B) (g : 
 bind-bad (got a r) f g h e = h a r e
 bind-bad bad f g h e = refl
 
-pub bad-front : (k : ℕ) (l : List ℕ) (h : Head) → end_of (length l) (front_of h (drop header_size l)) ≡ Bad → ended (output_on k h (drop header_size l)) ≡ none
+pub bad-front : (k : ℕ) (l : List ℕ) (h : Head) → end_of (length l) (front_of h (drop header_size l)) ≡ None → ended (output_on k h (drop header_size l)) ≡ None
 bad-front k l h e =
     ap ended
     (bind-bad (one_sized ok_output h.output (drop header_size l)) (λ x q. bind (one_sized ok_owner h.owner q) (λ o r. one_sized ok_owner h.group r)) (owner_on k h)
@@ -181,19 +180,19 @@ bad-front k l h e =
 -- ---- the rows behind them
 
 module _ (k : ℕ) (l : List ℕ) (h : Head) {p₂ : ℕ} (f : FrontAt k l h p₂) where
-  pub bad-links : end_of (length l) (many (one_text ok_link) h.links (drop p₂ l)) ≡ Bad → ended (output_on k h (drop header_size l)) ≡ none
+  pub bad-links : end_of (length l) (many (one_text ok_link) h.links (drop p₂ l)) ≡ None → ended (output_on k h (drop header_size l)) ≡ None
   bad-links e = rw (f.read, end-bad (length l) (many (one_text ok_link) h.links (drop p₂ l)) e)
 
   module _ {p₃ : ℕ} (ls : LinksAt l h.links p₂ p₃) where
-    pub bad-properties : end_of (length l) (many one_prop h.properties (drop p₃ l)) ≡ Bad → ended (output_on k h (drop header_size l)) ≡ none
+    pub bad-properties : end_of (length l) (many one_prop h.properties (drop p₃ l)) ≡ None → ended (output_on k h (drop header_size l)) ≡ None
     bad-properties e = rw (f.read, ls.read, end-bad (length l) (many one_prop h.properties (drop p₃ l)) e)
 
     module _ {p₄ : ℕ} (ps : PropertiesAt l h.properties p₃ p₄) where
-      pub bad-tags : end_of (length l) (many (one_text ok_tag) h.tags (drop p₄ l)) ≡ Bad → ended (output_on k h (drop header_size l)) ≡ none
+      pub bad-tags : end_of (length l) (many (one_text ok_tag) h.tags (drop p₄ l)) ≡ None → ended (output_on k h (drop header_size l)) ≡ None
       bad-tags e = rw (f.read, ls.read, ps.read, end-bad (length l) (many (one_text ok_tag) h.tags (drop p₄ l)) e)
 
       module _ {p₅ : ℕ} (ts : TagsAt l h.tags p₄ p₅) where
-        pub bad-runs : end_of (length l) (many (one_run k) h.runs (drop p₅ l)) ≡ Bad → ended (output_on k h (drop header_size l)) ≡ none
+        pub bad-runs : end_of (length l) (many (one_run k) h.runs (drop p₅ l)) ≡ None → ended (output_on k h (drop header_size l)) ≡ None
         bad-runs e = rw (f.read, ls.read, ps.read, ts.read, end-bad (length l) (many (one_run k) h.runs (drop p₅ l)) e)
 
 -- every part was read, in the places of a layout
@@ -211,7 +210,7 @@ module _ (k : ℕ) (l : List ℕ) (h : Head) (lay : Layout) (r : ReadAt k l h la
   all_read : output_on k h (drop header_size l) ≡ got state_at (drop lay.end l)
   all_read = rw (r.front.read, r.links.read, r.properties.read, r.tags.read, r.runs.read)
 
-  pub bytes_left : lay.end < length l → ended (output_on k h (drop header_size l)) ≡ none
+  pub bytes_left : lay.end < length l → ended (output_on k h (drop header_size l)) ≡ None
   bytes_left m = rw (all_read, rest_at l lay.end m)
 
   pub none_left : length l ≤ lay.end → output_on k h (drop header_size l) ≡ got state_at []

@@ -13,10 +13,8 @@ use Rattle.lists.proofs.Moves.{ap_at}
 use Rattle.bits.specs.Bits.{number_at}
 use Rattle.entries.specs.Parse.{Parse, got, bad, bind, keep}
 use Rattle.entries.specs.Entry.{exactly}
-use Rattle.rows.specs.Entry.{head_len, name_len, rest_len, size, name, Placed}
+use Rattle.rows.specs.Entry.{head_len, name_len, rest_len, size, name}
 use Rattle.rows.specs.declared.Kind.TheVariants as kind
-use Rattle.rows.specs.declared.Entry.{Entry}
-use Rattle.rows.proofs.Turns.{place-name}
 use Rattle.rows.proofs.Readers.{Reads, leb-more, short, swap, head_cut, head_whole}
 use Rattle.bits.specs.Fields.{flag_at}
 use Rattle.outcome.specs.State.{Run, ok_run, run_at, run_on, one_run}
@@ -53,10 +51,3 @@ run-reads n = record { is = at }
         go false h =
             ap (λ (x : Parse (List ℕ)). bind x (run_on n)) (head_cut 2 bs (leb-false 2 (length bs) h))
             ∙ short (size kind.Run bs) (length bs) (ok_run_of n (take 2 bs) (name kind.Run bs)) (run_here bs) (drop (size kind.Run bs) bs) (omega (arith, leb-false 2 (length bs) h))
-
--- the content of a run, in the places that code has
-pub run_ok : (n : ℕ) (l : List ℕ) (p : ℕ) (e : Entry) → Placed kind.Run l p e
-    → ok_run_of n (take (e.name - p) (drop p l)) (take (e.rest - e.name) (drop e.name l)) ≡ ok_run_of n (take 2 (drop p l)) (name kind.Run (drop p l))
-run_ok n l p e w =
-    let h : e.name - p ≡ 2 = omega (arith, w.start) in
-    ap₂ (λ (i : ℕ) (t : List ℕ). ok_run_of n (take i (drop p l)) t) h (place-name kind.Run l p e w)

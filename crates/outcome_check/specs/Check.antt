@@ -1,7 +1,7 @@
 -- What the check of an outcome record answers.
 -- Assumes nothing.
 use Rattle.std.specs.Prelude.{ℕ, ◌≤◌, ◌≡◌, Bool, ◌&&◌, List, [], eqb, length, take, drop}
-use Rattle.std.proofs.Math.Option.{Option, none, some}
+use Rattle.std.specs.Prelude.{Option, None, Some}
 use Rattle.lists.specs.Bytes.{distinct}
 use Rattle.bits.specs.Bits.{number_at}
 use Rattle.entries.specs.Parse.{Parse, got, bind}
@@ -16,10 +16,6 @@ use Rattle.outcome_target.specs.Layout.{layout_of}
 use Rattle.outcome_target.specs.declared.Layout.{Layout}
 use Rattle.outcome_check.specs.declared.HeadText.{HeadText}
 use Rattle.outcome_check.specs.declared.HeadText.TheVariants as text
-use Rattle.outcome_check.specs.declared.PartsRead.{PartsRead}
-use Rattle.outcome_check.specs.declared.PartsRead.TheVariants as parts
-use Rattle.outcome_check.specs.declared.Checked.{Checked}
-use Rattle.outcome_check.specs.declared.Checked.TheVariants.{Sound, Faulty}
 
 -- the test of a text whose length the header gives
 abbrev pub ok_head_text : HeadText → List ℕ → Bool
@@ -51,10 +47,10 @@ apart_in l c lay =
     && distinct (names kind.Text c.tags (drop lay.tags l)))
 
 -- the parts behind the header: a state was read and nothing is left; or there is none
-abbrev pub PartsAre : ℕ → List ℕ → Counts → PartsRead → Type 0
-PartsAre n l c (parts.Read lay) = (s : State) × (output_on n (head_of (take header_size l)) (drop header_size l) ≡ got s []) × (lay ≡ layout_of s) × Standing l c lay × (apart_in l c lay ≡ apart s)
-PartsAre n l c parts.Faulty = ended (output_on n (head_of (take header_size l)) (drop header_size l)) ≡ none
+abbrev pub PartsAre : ℕ → List ℕ → Counts → Option Layout → Type 0
+PartsAre n l c (Some lay) = (s : State) × (output_on n (head_of (take header_size l)) (drop header_size l) ≡ got s []) × (lay ≡ layout_of s) × Standing l c lay × (apart_in l c lay ≡ apart s)
+PartsAre n l c None = ended (output_on n (head_of (take header_size l)) (drop header_size l)) ≡ None
 
-abbrev pub checked_of : Option State → Checked
-checked_of none = Faulty
-checked_of (some s) = Sound (layout_of s)
+abbrev pub checked_of : Option State → Option Layout
+checked_of None = None
+checked_of (Some s) = Some (layout_of s)

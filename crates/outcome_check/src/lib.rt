@@ -14,7 +14,7 @@ ghost use Rattle.outcome_check.specs.Check.{ok_head_text, front, ok_run_of, Part
 
 use bits::BitCursor;
 use outcome_target::{HEADER, Layout, Texts};
-use rows::{EntryRead, Kind, RowEnd};
+use rows::{EntryTest, Kind};
 
 // ---- the header
 
@@ -72,41 +72,22 @@ pub fn counts_in(head: &[u8]) -> Counts
 fn ok_mode(set: usize, mode: usize) -> bool
     ensures { result ≡ (eqb set 1 || eqb mode 0) }
 {
-    if set == 1 {
-        return true;
-    }
-    mode == 0
+    set == 1 || mode == 0
 }
 
 // Edition 2, watch set or not, unused bits zero, no mode without its mark, none that lets others write, no more than there may be of each.
 fn ok_counts(c: Counts) -> bool
     ensures { result ≡ ok_counts c }
 {
-    if c.edition != 2 {
-        return false;
-    }
-    if 2 < c.watch {
-        return false;
-    }
-    if c.unused != 0 {
-        return false;
-    }
-    if !ok_mode(c.mode_set, c.mode) {
-        return false;
-    }
-    if content::others_write(c.mode) {
-        return false;
-    }
-    if 16 < c.links {
-        return false;
-    }
-    if 32 < c.properties {
-        return false;
-    }
-    if 16 < c.tags {
-        return false;
-    }
-    c.runs <= 16
+    c.edition == 2
+        && c.watch <= 2
+        && c.unused == 0
+        && ok_mode(c.mode_set, c.mode)
+        && !content::others_write(c.mode)
+        && c.links <= 16
+        && c.properties <= 32
+        && c.tags <= 16
+        && c.runs <= 16
 }
 
 // ---- the parts
@@ -128,30 +109,23 @@ fn ok_head_text(text: HeadText, x: &[u8]) -> bool
 }
 
 // The place behind such a text of k bytes at `at`.
-fn check_head_text(rec: &[u8], at: usize, k: usize, text: HeadText) -> RowEnd
+fn check_head_text(rec: &[u8], at: usize, k: usize, text: HeadText) -> Option<usize>
     requires { at ≤ length rec.now }
     ensures { result ≡ end_of (length rec.now) (one_sized (ok_head_text text) k (drop at rec.now)) }
 {
-    if rec.len() - at < k {
-        return RowEnd::Bad;
+    if rec.len() - at < k || !ok_head_text(text, &rec[at..at + k]) {
+        return None;
     }
-    if !ok_head_text(text, &rec[at..at + k]) {
-        return RowEnd::Bad;
-    }
-    RowEnd::At(at + k)
+    Some(at + k)
 }
 
 // The place behind output, owner and group.
-fn check_front(rec: &[u8], c: Counts) -> RowEnd
+fn check_front(rec: &[u8], c: Counts) -> Option<usize>
     requires { header_size ≤ length rec.now }
     ensures { result ≡ end_of (length rec.now) (front c (drop header_size rec.now)) }
 {
-    let RowEnd::At(owner) = check_head_text(rec, HEADER, c.output, HeadText::Output) else {
-        return RowEnd::Bad;
-    };
-    let RowEnd::At(group) = check_head_text(rec, owner, c.owner, HeadText::Name) else {
-        return RowEnd::Bad;
-    };
+    let owner = check_head_text(rec, HEADER, c.output, HeadText::Output)?;
+    let group = check_head_text(rec, owner, c.owner, HeadText::Name)?;
     check_head_text(rec, group, c.group, HeadText::Name)
 }
 
@@ -164,26 +138,31 @@ fn ok_entry(list: Texts, x: &[u8]) -> bool
     }
 }
 
-// The place behind n links or tags from `at` on, each of them sound.
-fn check_texts(rec: &[u8], at: usize, n: usize, list: Texts) -> RowEnd
+#[derive(Clone, Copy)]
+struct TextTest {
+    list: Texts,
+}
+
+impl EntryTest for TextTest {
+    ghost use Rattle.rows.specs.declared.Kind.TheVariants as kinds;
+
+    const KIND: Kind = Kind::Text;
+
+    ghost KIND = { kinds.Text };
+
+    ghost ok = { λ t head x rest. ok_of t.list x };
+
+    fn holds(&self, _: &[u8], x: &[u8], _: &[u8]) -> bool {
+        ok_entry(self.list, x)
+    }
+}
+
+// The place behind n links or tags from `at` on, if each of them is sound.
+fn check_texts(rec: &[u8], at: usize, n: usize, list: Texts) -> Option<usize>
     requires { at ≤ length rec.now }
     ensures { result ≡ end_of (length rec.now) (many (one_text (ok_of list)) n (drop at rec.now)) }
 {
-    let mut p = at;
-    let mut left = n;
-    while 0 < left {
-        let EntryRead::Inside(entry) = rows::entry_at(rec, p, Kind::Text) else {
-            return RowEnd::Bad;
-        };
-        let name = entry.name;
-        let rest = entry.rest;
-        if !ok_entry(list, &rec[name..rest]) {
-            return RowEnd::Bad;
-        }
-        p = entry.end;
-        left -= 1;
-    }
-    RowEnd::At(p)
+    rows::check_entries(rec, at, n, &TextTest { list })
 }
 
 // A run's unused bit, place and template.
@@ -192,75 +171,56 @@ fn ok_run(head: &[u8], template: &[u8], chain: usize) -> bool
     ensures { result ≡ ok_run_of chain head.now template.now }
 {
     let h = rows::run_head(head);
-    if h.unused != 0 {
-        return false;
-    }
-    if 16 < h.place {
-        return false;
-    }
-    if chain < h.place {
-        return false;
-    }
-    if !rows::ok_text(template, 256) {
-        return false;
-    }
-    pieces::well_formed(template)
+    h.unused == 0
+        && h.place <= 16
+        && h.place <= chain
+        && rows::ok_text(template, 256)
+        && pieces::well_formed(template)
 }
 
-// The place behind n runs from `at` on, each of them sound beside a chain of `chain` devices.
-fn check_runs(rec: &[u8], at: usize, n: usize, chain: usize) -> RowEnd
+#[derive(Clone, Copy)]
+struct RunTest {
+    chain: usize,
+}
+
+impl EntryTest for RunTest {
+    ghost use Rattle.rows.specs.declared.Kind.TheVariants as kinds;
+
+    const KIND: Kind = Kind::Run;
+
+    ghost KIND = { kinds.Run };
+
+    ghost ok = { λ t head template rest. ok_run_of t.chain head template };
+
+    fn holds(&self, head: &[u8], template: &[u8], _: &[u8]) -> bool {
+        ok_run(head, template, self.chain)
+    }
+}
+
+// The place behind n runs from `at` on, if each of them is sound beside a chain of `chain` devices.
+fn check_runs(rec: &[u8], at: usize, n: usize, chain: usize) -> Option<usize>
     requires { at ≤ length rec.now }
     ensures { result ≡ end_of (length rec.now) (many (one_run chain) n (drop at rec.now)) }
 {
-    let mut p = at;
-    let mut left = n;
-    while 0 < left {
-        let EntryRead::Inside(entry) = rows::entry_at(rec, p, Kind::Run) else {
-            return RowEnd::Bad;
-        };
-        let name = entry.name;
-        let rest = entry.rest;
-        if !ok_run(&rec[p..name], &rec[name..rest], chain) {
-            return RowEnd::Bad;
-        }
-        p = entry.end;
-        left -= 1;
-    }
-    RowEnd::At(p)
+    rows::check_entries(rec, at, n, &RunTest { chain })
 }
 
 // ---- the record
 
-#[derive(Drop)]
-pub enum PartsRead {
-    Read(Layout),
-    Faulty,
-}
-
-// The parts behind the header, up to the record's end.
-fn check_parts(rec: &[u8], c: Counts, chain: usize) -> PartsRead
+// The parts behind the header, up to the record's end; none where one of them is not sound.
+fn check_parts(rec: &[u8], c: Counts, chain: usize) -> Option<Layout>
     requires { (header_size ≤ length rec.now) × Counted (take header_size rec.now) c }
     ensures { PartsAre chain rec.now c result }
 {
-    let RowEnd::At(links) = check_front(rec, c) else {
-        return PartsRead::Faulty;
-    };
-    let RowEnd::At(properties) = check_texts(rec, links, c.links, Texts::Links) else {
-        return PartsRead::Faulty;
-    };
-    let RowEnd::At(tags) = rows::check_properties(rec, properties, c.properties) else {
-        return PartsRead::Faulty;
-    };
-    let RowEnd::At(runs) = check_texts(rec, tags, c.tags, Texts::Tags) else {
-        return PartsRead::Faulty;
-    };
-    let RowEnd::At(end) = check_runs(rec, runs, c.runs, chain) else {
-        return PartsRead::Faulty;
-    };
+    let links = check_front(rec, c)?;
+    let properties = check_texts(rec, links, c.links, Texts::Links)?;
+    let tags = rows::check_properties(rec, properties, c.properties)?;
+    let runs = check_texts(rec, tags, c.tags, Texts::Tags)?;
+    let end = check_runs(rec, runs, c.runs, chain)?;
     if end < rec.len() {
-        return PartsRead::Faulty;
+        return None;
     }
-    PartsRead::Read(Layout {
+    Some(Layout {
         links,
         properties,
         tags,
@@ -274,37 +234,25 @@ fn entries_apart(rec: &[u8], c: Counts, layout: Layout) -> bool
     requires { Standing rec.now c layout }
     ensures { result ≡ apart_in rec.now c layout }
 {
-    if !rows::distinct(rec, layout.links, c.links, Kind::Text) {
-        return false;
-    }
-    if !rows::distinct(rec, layout.properties, c.properties, Kind::Property) {
-        return false;
-    }
-    rows::distinct(rec, layout.tags, c.tags, Kind::Text)
+    rows::distinct(rec, layout.links, c.links, Kind::Text)
+        && rows::distinct(rec, layout.properties, c.properties, Kind::Property)
+        && rows::distinct(rec, layout.tags, c.tags, Kind::Text)
 }
 
-#[derive(Drop)]
-pub enum Checked {
-    Sound(Layout),
-    Faulty,
-}
-
-// Whether a record is sound beside a chain of `chain` devices, and where its rows are.
-pub fn check(rec: &[u8], chain: usize) -> Checked
+// Where the rows of a record are that is sound beside a chain of `chain` devices; none where it is not sound.
+pub fn check(rec: &[u8], chain: usize) -> Option<Layout>
     ensures { result ≡ checked_of (decode chain rec.now) }
 {
     if rec.len() < HEADER {
-        return Checked::Faulty;
+        return None;
     }
     let c = counts_in(&rec[0..HEADER]);
     if !ok_counts(c) {
-        return Checked::Faulty;
+        return None;
     }
-    let PartsRead::Read(layout) = check_parts(rec, c, chain) else {
-        return Checked::Faulty;
-    };
+    let layout = check_parts(rec, c, chain)?;
     if !entries_apart(rec, c, layout) {
-        return Checked::Faulty;
+        return None;
     }
-    Checked::Sound(layout)
+    Some(layout)
 }

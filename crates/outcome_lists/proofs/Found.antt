@@ -3,6 +3,7 @@
 use Prim.Native.Nat.{ℕ, suc, ◌+◌, ◌-◌, ◌≤◌}
 use mathlib.Core.Path.{◌≡◌, refl, sym, ap, ap₂, ◌∙◌, subst}
 use mathlib.Core.Bool.{Bool, true, false}
+use Rattle.std.specs.Prelude.{Ok, Err}
 use mathlib.Core.List.{List, [], ◌∷◌, ◌++◌, map, append-nil}
 use native.Mathlib.Omega.{arith}
 use lib.ListN.{length, drop, length-append}
@@ -16,7 +17,7 @@ use Rattle.bits.specs.Bits.{number_at}
 use Rattle.rows.specs.Entry.{head_len}
 use Rattle.rows.specs.Row.{find_in}
 use Rattle.rows.specs.declared.Kind.{Kind}
-use Rattle.rows.specs.declared.Found.TheVariants.{At, Missing}
+use Rattle.rows.specs.declared.Found.{Found}
 use Rattle.rows.proofs.Search.{Written, Among, found_among, missing_among}
 use Rattle.outcome.specs.State.{State, Good}
 use Rattle.outcome_target.specs.Layout.{start_of, end_of, count_place, count_width, Rising}
@@ -28,11 +29,11 @@ use Rattle.outcome_target.proofs.Rows.{RowOf, row-end, row_count, row-bytes}
 use Rattle.row_edits.specs.Edits.{Cut}
 use Rattle.row_edits.proofs.Held.{cut_held}
 
--- what a cut of k bytes at p asks
-pub record Cuts (lay : Layout) (part : Section) (room p v k : ℕ) : Type 0 where
+-- what a cut of the entry that was found asks
+pub record Cuts (lay : Layout) (part : Section) (room : ℕ) (f : Found) : Type 0 where
   pub rising : Rising lay
-  pub over : p ≤ v + k
-  pub within : p + (v + k - p) ≤ end_of lay part
+  pub over : f.at ≤ f.value + f.len
+  pub within : f.at + (f.value + f.len - f.at) ≤ end_of lay part
   pub end : lay.end ≤ room
   pub most : lay.end ≤ fullest_outcome
 
@@ -50,30 +51,30 @@ module _ {A : Type 0} {part : Section} {enc : A → List ℕ} {list : State → 
       ∙ ap (find_in kind x at (length (list s))) (ap (λ (i : ℕ). drop i l) start ∙ row-bytes T n l lay s w)
 
   -- nothing has the name
-  pub found_missing : (p : ℕ) → find_in kind x at count (drop at l) ≡ Missing p → among x (map nm (list s)) ≡ false
+  pub found_missing : (p : ℕ) → find_in kind x at count (drop at l) ≡ Err p → among x (map nm (list s)) ≡ false
   found_missing p e = (missing_among W x (list s) at p (behind n l lay s w T.frame) each (sym search_is ∙ e)).0
 
-  pub missing_kept : (p : ℕ) → find_in kind x at count (drop at l) ≡ Missing p → list s ≡ reject (λ y. same_bytes (nm y) x) (list s)
+  pub missing_kept : (p : ℕ) → find_in kind x at count (drop at l) ≡ Err p → list s ≡ reject (λ y. same_bytes (nm y) x) (list s)
   missing_kept p e = sym (reject-none nm x (list s) (found_missing p e))
 
-  module _ (p v k : ℕ) (e : find_in kind x at count (drop at l) ≡ At p v k) where
-    pub entry_found : Among A kind enc nm rs x (list s) at p v k
-    entry_found = found_among W x (list s) at p v k (behind n l lay s w T.frame) each (sym search_is ∙ e)
+  module _ (f : Found) (e : find_in kind x at count (drop at l) ≡ Ok f) where
+    pub entry_found : Among A kind enc nm rs x (list s) at f
+    entry_found = found_among W x (list s) at f (behind n l lay s w T.frame) each (sym search_is ∙ e)
 
-    pub entry-ok : (i : Among A kind enc nm rs x (list s) at p v k) → ok i.entry ≡ true
+    pub entry-ok : (i : Among A kind enc nm rs x (list s) at f) → ok i.entry ≡ true
     entry-ok i = (and_both (ok i.entry) (all ok i.after) (all_split ok i.before (i.entry ∷ i.after) (ap (all ok) (sym i.whole) ∙ each)).1).0
 
-    size_is : (i : Among A kind enc nm rs x (list s) at p v k) → v + k - p ≡ length (cat enc (i.entry ∷ []))
+    size_is : (i : Among A kind enc nm rs x (list s) at f) → f.value + f.len - f.at ≡ length (cat enc (i.entry ∷ []))
     size_is i = omega (arith, i.value, i.size, entry-size W i.entry (entry-ok i), length-append (enc i.entry) [])
 
-    row-size : (i : Among A kind enc nm rs x (list s) at p v k) → length (cat enc (list s)) ≡ length (cat enc i.before) + (length (enc i.entry) + length (cat enc i.after))
+    row-size : (i : Among A kind enc nm rs x (list s) at f) → length (cat enc (list s)) ≡ length (cat enc i.before) + (length (enc i.entry) + length (cat enc i.after))
     row-size i =
         ap (λ (y : List A). length (cat enc y)) i.whole
         ∙ ap length (cat-append enc i.before (i.entry ∷ i.after))
         ∙ length-append (cat enc i.before) (enc i.entry ++ cat enc i.after)
         ∙ ap (λ (j : ℕ). length (cat enc i.before) + j) (length-append (enc i.entry) (cat enc i.after))
 
-    pub found-cuts : Cuts lay part (length l) p v k
+    pub found-cuts : Cuts lay part (length l) f
     found-cuts =
         let i = entry_found in
         let z = entry-size W i.entry (entry-ok i) in
@@ -94,7 +95,7 @@ module _ {A : Type 0} {part : Section} {enc : A → List ℕ} {list : State → 
         let i = entry_found in
         omega (arith, number, row_count T n l lay s w, ap length i.whole, length-append i.before (i.entry ∷ i.after))
 
-    pub found-held : (l' : List ℕ) (lay' : Layout) → length l' ≡ length l → Cut l lay part p (v + k - p) (count - 1) l' lay'
+    pub found-held : (l' : List ℕ) (lay' : Layout) → length l' ≡ length l → Cut l lay part f.at (f.value + f.len - f.at) (count - 1) l' lay'
         → Good n (anew s (reject (λ y. same_bytes (nm y) x) (list s))) → Held n l' lay' (anew s (reject (λ y. same_bytes (nm y) x) (list s)))
     found-held l' lay' same c good =
         let i = entry_found in
@@ -107,6 +108,6 @@ module _ {A : Type 0} {part : Section} {enc : A → List ℕ} {list : State → 
         omega (arith, number, row_count T n l lay s w, ap length i.whole, length-append i.before (i.entry ∷ i.after), length-append i.before i.after)
         in
         subst (λ (y : List A). Held n l' lay' (anew s y)) (sym o)
-        (cut_held T n l lay s w l' lay' same i.before (i.entry ∷ []) i.after p (v + k - p) (count - 1) i.whole
+        (cut_held T n l lay s w l' lay' same i.before (i.entry ∷ []) i.after f.at (f.value + f.len - f.at) (count - 1) i.whole
         (i.place ∙ ap (λ (j : ℕ). j + length (cat enc i.before)) start)
         (size_is i) m c (subst (λ (y : List A). Good n (anew s y)) o good))

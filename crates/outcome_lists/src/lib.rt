@@ -12,8 +12,8 @@ ghost use Rattle.outcome_target.specs.Texts.{ok_of, most_of, texts_in, with_text
 ghost use Rattle.outcome_target.specs.Held.{Holds, HoldsIf, Changed, Edited, EditedIf};
 ghost use Rattle.outcome_lists.specs.Lists.{emptied, run_of};
 
-use outcome_target::{Edit, Layout, Section, Texts};
-use rows::{Found, Kind};
+use outcome_target::{Layout, Section, Texts};
+use rows::Kind;
 
 // A row without entries.
 pub fn empty(t: &mut [u8], layout: Layout, section: Section) -> Layout
@@ -28,7 +28,7 @@ pub fn empty(t: &mut [u8], layout: Layout, section: Section) -> Layout
 // ---- links and tags
 
 // What is not there yet comes last; a 17th entry finds no room.
-pub fn add(t: &mut [u8], layout: Layout, list: Texts, x: &[u8]) -> Edit
+pub fn add(t: &mut [u8], layout: Layout, list: Texts, x: &[u8]) -> Option<Layout>
     requires { Holds t.old layout × (ok_of list x.now ≡ true) }
     ensures { Edited (with_texts list) (λ s. add_entry (most_of list) x.now (texts_in list s)) t.old layout t.new result }
 {
@@ -36,12 +36,12 @@ pub fn add(t: &mut [u8], layout: Layout, list: Texts, x: &[u8]) -> Edit
     let at = outcome_target::start_of(layout, section);
     let n = outcome_target::count_of(t, section);
     if rows::has(t, at, n, Kind::Text, x) {
-        return Edit::Done(layout);
+        return Some(layout);
     }
     if 16 <= n {
-        return Edit::Full;
+        return None;
     }
-    Edit::Done(row_edits::append_text(t, layout, section, n, x))
+    Some(row_edits::append_text(t, layout, section, n, x))
 }
 
 pub fn remove(t: &mut [u8], layout: Layout, list: Texts, x: &[u8]) -> Layout
@@ -52,8 +52,15 @@ pub fn remove(t: &mut [u8], layout: Layout, list: Texts, x: &[u8]) -> Layout
     let at = outcome_target::start_of(layout, section);
     let n = outcome_target::count_of(t, section);
     match rows::find(t, at, n, Kind::Text, x) {
-        Found::At(p, v, k) => row_edits::cut(t, layout, section, p, v + k - p, n - 1),
-        Found::Missing(_) => layout,
+        Ok(found) => row_edits::cut(
+            t,
+            layout,
+            section,
+            found.at,
+            found.value + found.len - found.at,
+            n - 1,
+        ),
+        Err(_) => layout,
     }
 }
 
@@ -66,14 +73,20 @@ fn bit_of(b: bool) -> usize
 }
 
 // A run behind the others; a 17th finds no room.
-pub fn add_run(t: &mut [u8], layout: Layout, builtin: bool, place: usize, template: &[u8]) -> Edit
+pub fn add_run(
+    t: &mut [u8],
+    layout: Layout,
+    builtin: bool,
+    place: usize,
+    template: &[u8],
+) -> Option<Layout>
     requires { HoldsIf (λ n. ok_run n (run_of builtin place template.now) ≡ true) t.old layout }
     ensures { EditedIf (λ n. ok_run n (run_of builtin place template.now) ≡ true) with_runs (λ s. append most_runs (run_of builtin place template.now) s.runs) t.old layout t.new result }
 {
     let n = outcome_target::count_of(t, Section::Runs);
     if n < 16 {
-        Edit::Done(row_edits::append_run(t, layout, n, bit_of(builtin), place, template))
+        Some(row_edits::append_run(t, layout, n, bit_of(builtin), place, template))
     } else {
-        Edit::Full
+        None
     }
 }

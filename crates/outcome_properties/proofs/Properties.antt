@@ -24,7 +24,8 @@ use Rattle.entries.specs.Entry.{Property, ok_prop, prop_fields, enc_prop, keys}
 use Rattle.entries.proofs.Entries.{prop_length}
 use Rattle.rows.specs.Row.{find_in}
 use Rattle.rows.specs.declared.Kind.TheVariants as kind
-use Rattle.rows.specs.declared.Found.TheVariants.{At, Missing}
+use Rattle.rows.specs.declared.Found.{Found}
+use Rattle.std.specs.Prelude.{Ok, Err}
 use Rattle.rows.proofs.Search.{Among, property-written}
 use Rattle.outcome.specs.State.{State, Properties, Good}
 use Rattle.outcome.specs.Change.{with_properties}
@@ -111,7 +112,7 @@ pub record Fits (lay : Layout) (room p k old new : ℕ) : Type 0 where
   pub small : lay.end + new < 4294967296
 
 module _ (n : ℕ) (l : List ℕ) (lay : Layout) (s : State) (w : Held n l lay s) (key : List ℕ) (at count : ℕ) (start : at ≡ start_of lay section.Properties) (number : count ≡ number_at l 72 6) where
-  pub property-among : (p : ℕ) → find_in kind.Property key at count (drop at l) ≡ Missing p → among key (keys s.properties) ≡ false
+  pub property-among : (p : ℕ) → find_in kind.Property key at count (drop at l) ≡ Err p → among key (keys s.properties) ≡ false
   property-among p e = found_missing properties-row property-written n l lay s w w.good.properties.each w.good.properties.apart key at count start number p e
 
   pub property_less : Good n (with_properties s (remove_property key s.properties))
@@ -132,11 +133,17 @@ module _ (n : ℕ) (l : List ℕ) (lay : Layout) (s : State) (w : Held n l lay s
         (set_good (s.properties ++ (property key value ∷ [])) (set_last key value s.properties h q))
 
     -- one that is there
-    module _ (p v old : ℕ) (e : find_in kind.Property key at count (drop at l) ≡ At p v old) where
-      there : Among Property kind.Property enc_prop (λ x. x.key) (λ x. x.value) key s.properties at p v old
-      there = entry_found properties-row property-written n l lay s w w.good.properties.each w.good.properties.apart key at count start number p v old e
+    module _ (f : Found) (e : find_in kind.Property key at count (drop at l) ≡ Ok f) where
+      abbrev p : ℕ
+      p = f.at
 
-      module _ (i : Among Property kind.Property enc_prop (λ x. x.key) (λ x. x.value) key s.properties at p v old) where
+      abbrev old : ℕ
+      old = f.len
+
+      there : Among Property kind.Property enc_prop (λ x. x.key) (λ x. x.value) key s.properties at f
+      there = entry_found properties-row property-written n l lay s w w.good.properties.each w.good.properties.apart key at count start number f e
+
+      module _ (i : Among Property kind.Property enc_prop (λ x. x.key) (λ x. x.value) key s.properties at f) where
         set_is : set_property key value s.properties ≡ ok (i.before ++ (property key value ∷ i.after))
         set_is = ap (set_property key value) i.whole ∙ set_there key value i.before i.entry i.after i.first i.same
 
@@ -154,7 +161,7 @@ module _ (n : ℕ) (l : List ℕ) (lay : Layout) (s : State) (w : Held n l lay s
 
         value_fits : Fits lay (length l) p (length key) old (length value)
         value_fits =
-            let c = found-cuts properties-row property-written n l lay s w w.good.properties.each w.good.properties.apart key at count start number p v old e in
+            let c = found-cuts properties-row property-written n l lay s w w.good.properties.each w.good.properties.apart key at count start number f e in
             let r = exchanged_room properties-row s n l lay w i.before i.entry i.after i.whole (property key value) (set_good (i.before ++ (property key value ∷ i.after)) set_is) in
             record {
               rising = c.rising;

@@ -8,29 +8,29 @@ ghost use Rattle.outcome.specs.Change.{with_properties};
 ghost use Rattle.outcome.specs.Edits.{property, remove_property, set_property};
 ghost use Rattle.outcome_target.specs.Held.{Holds, Changed, Edited};
 
-use outcome_target::{Edit, Layout, Section};
-use rows::{Found, Kind};
+use outcome_target::{Layout, Section};
+use rows::Kind;
 
 // A key that is there keeps its place, a new one comes last; a 33rd finds no room.
-pub fn set_property(t: &mut [u8], layout: Layout, key: &[u8], value: &[u8]) -> Edit
+pub fn set_property(t: &mut [u8], layout: Layout, key: &[u8], value: &[u8]) -> Option<Layout>
     requires { Holds t.old layout × (ok_prop (property key.now value.now) ≡ true) }
     ensures { Edited with_properties (λ s. set_property key.now value.now s.properties) t.old layout t.new result }
 {
     let n = outcome_target::count_of(t, Section::Properties);
     let at = layout.properties;
     match rows::find(t, at, n, Kind::Property, key) {
-        Found::At(p, _, old) => Edit::Done(row_edits::replace_value(
+        Ok(found) => Some(row_edits::replace_value(
             t,
             layout,
-            p,
+            found.at,
             key.len(),
-            old,
+            found.len,
             value,
         )),
-        Found::Missing(_) => if n < 32 {
-            Edit::Done(row_edits::append_property(t, layout, n, key, value))
+        Err(_) => if n < 32 {
+            Some(row_edits::append_property(t, layout, n, key, value))
         } else {
-            Edit::Full
+            None
         },
     }
 }
@@ -42,7 +42,14 @@ pub fn remove_property(t: &mut [u8], layout: Layout, key: &[u8]) -> Layout
     let n = outcome_target::count_of(t, Section::Properties);
     let at = layout.properties;
     match rows::find(t, at, n, Kind::Property, key) {
-        Found::At(p, v, k) => row_edits::cut(t, layout, Section::Properties, p, v + k - p, n - 1),
-        Found::Missing(_) => layout,
+        Ok(found) => row_edits::cut(
+            t,
+            layout,
+            Section::Properties,
+            found.at,
+            found.value + found.len - found.at,
+            n - 1,
+        ),
+        Err(_) => layout,
     }
 }

@@ -3,7 +3,7 @@
 use Prim.Native.Nat.{ℕ, ◌-◌}
 use mathlib.Core.Path.{◌≡◌, refl, sym, ap, ◌∙◌, subst}
 use mathlib.Core.List.{List, [], ◌++◌, append-nil}
-use mathlib.Core.Option.{some}
+use Rattle.std.specs.Prelude.{Some}
 use native.Mathlib.Omega.{arith}
 use lib.ListN.{length, take, drop, replicate, length-append}
 use lib.Seq.{take_at, drop_at}
@@ -45,7 +45,7 @@ held_output n l lay s w =
     subst (λ (x : List ℕ). OutputIs x s.output) (sym w.bytes) (output_laid n s w.good (replicate (length l - length (encode s)) 0))
 
 -- in a sound record
-pub decoded_output : (n : ℕ) (rec : List ℕ) (s : State) → Bytes rec → decode n rec ≡ some s → OutputIs rec s.output
+pub decoded_output : (n : ℕ) (rec : List ℕ) (s : State) → Bytes rec → decode n rec ≡ Some s → OutputIs rec s.output
 decoded_output n rec s b e =
     let (w, g) = back n rec s b e in
     subst (λ (x : List ℕ). OutputIs x s.output) (append-nil (encode s) ∙ w) (output_laid n s g [])

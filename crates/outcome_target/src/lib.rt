@@ -76,32 +76,26 @@ pub fn moved(layout: Layout, section: Section, old: usize, new: usize) -> Layout
 {
     match section {
         Section::Links => Layout {
-            links: layout.links,
             properties: layout.properties + new - old,
             tags: layout.tags + new - old,
             runs: layout.runs + new - old,
             end: layout.end + new - old,
+            ..layout
         },
         Section::Properties => Layout {
-            links: layout.links,
-            properties: layout.properties,
             tags: layout.tags + new - old,
             runs: layout.runs + new - old,
             end: layout.end + new - old,
+            ..layout
         },
         Section::Tags => Layout {
-            links: layout.links,
-            properties: layout.properties,
-            tags: layout.tags,
             runs: layout.runs + new - old,
             end: layout.end + new - old,
+            ..layout
         },
         Section::Runs => Layout {
-            links: layout.links,
-            properties: layout.properties,
-            tags: layout.tags,
-            runs: layout.runs,
             end: layout.end + new - old,
+            ..layout
         },
     }
 }
@@ -118,15 +112,6 @@ pub fn all_moved(layout: Layout, old: usize, new: usize) -> Layout
         runs: layout.runs + new - old,
         end: layout.end + new - old,
     }
-}
-
-// ---- edits
-
-// What an edit gives: where the rows of the new record are, or that there is no room for one more entry (32).
-#[derive(Drop)]
-pub enum Edit {
-    Done(Layout),
-    Full,
 }
 
 // ---- the header

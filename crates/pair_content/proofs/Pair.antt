@@ -4,6 +4,7 @@ use Prim.Native.Nat.{ℕ}
 use mathlib.Core.Path.{◌≡◌, refl, sym}
 use mathlib.Core.Bool.{true, false, not, ◌&&◌}
 use mathlib.Core.List.{List, [], ◌∷◌}
+use Rattle.std.specs.Prelude.{Ok}
 use native.Mathlib.Omega.{arith}
 use lib.Dec.{eqb, eqb-suc-zero}
 use lib.ListN.{length, drop}
@@ -21,8 +22,6 @@ use Rattle.keys.specs.Table.{key_of, operator_of}
 use Rattle.refusals.specs.Refusals.{refusal_of}
 use Rattle.refusals.specs.declared.Refusal as code
 use Rattle.pairs.specs.declared.Pair.{Pair}
-use Rattle.pairs.specs.declared.PairRead.{PairRead}
-use Rattle.pairs.specs.declared.PairRead.TheVariants.{Read, Refused}
 use Rattle.pairs.specs.Stages.{pair_written}
 use Rattle.pairs.specs.Answers.{unescaped, read_by}
 use Rattle.pairs.proofs.Whole.{read_written}
@@ -47,15 +46,15 @@ pub length-empty : (v : List ℕ) → eqb (length v) 0 ≡ is_empty v
 length-empty [] = refl
 length-empty (b ∷ v) = eqb-suc-zero (length v)
 
-module _ (line : List ℕ) (at : ℕ) (r : PairRead) (written : read_by line r ≡ pair_written (drop at line)) where
-  module _ (p : Pair) (is : r ≡ Read p) where
+module _ (line : List ℕ) (at : ℕ) where
+  module _ (p : Pair) (written : read_by line (Ok p) ≡ pair_written (drop at line)) where
     pub pair_sound : sound (key_of p.key) (operator_of p.operator) (unescaped p.coded (part line p.start p.end)) ≡ true
-        → read_by line (Read p) ≡ read_pair (drop at line)
-    pair_sound s = sym (rw (read_written (drop at line), ← written, is, s))
+        → read_by line (Ok p) ≡ read_pair (drop at line)
+    pair_sound s = sym (rw (read_written (drop at line), ← written, s))
 
     pub pair_unsound : sound (key_of p.key) (operator_of p.operator) (unescaped p.coded (part line p.start p.end)) ≡ false
         → refused content_bad ≡ read_pair (drop at line)
-    pair_unsound s = sym (rw (read_written (drop at line), ← written, is, s))
+    pair_unsound s = sym (rw (read_written (drop at line), ← written, s))
 
-  pub pair_refused : (f : code.Refusal) → r ≡ Refused f → refused (refusal_of f) ≡ read_pair (drop at line)
-  pair_refused f is = sym (rw (read_written (drop at line), ← written, is))
+  pub pair_refused : (f : code.Refusal) → refused (refusal_of f) ≡ pair_written (drop at line) → refused (refusal_of f) ≡ read_pair (drop at line)
+  pair_refused f written = sym (rw (read_written (drop at line), ← written))

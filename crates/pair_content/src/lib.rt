@@ -15,23 +15,15 @@ ghost use Rattle.pair_content.specs.Content.{ContentIs, pair_read, MarkedIn};
 
 use glob::Form;
 use keys::{Key, Operator};
-use pairs::{Pair, PairRead};
+use pairs::Pair;
 use refusals::Refusal;
-use signed::SettingRead;
 
 // ---- the value of an assignment
 
 fn is_setting(value: &[u8]) -> bool
     ensures { result ≡ is_some (setting_of value.now) }
 {
-    match signed::setting_of(value) {
-        SettingRead::EscapeNone => true,
-        SettingRead::EscapeReplace => true,
-        SettingRead::Watch => true,
-        SettingRead::NoWatch => true,
-        SettingRead::Priority(_) => true,
-        SettingRead::Faulty => false,
-    }
+    signed::setting_of(value).is_some()
 }
 
 // Whether a value that is assigned to a key has the form that the key asks for.
@@ -139,27 +131,29 @@ fn written_form(
 // ---- a pair
 
 // A pair that was read, and whether its value is marked as plain.
-#[derive(Drop)]
-pub enum Judged {
-    Read(Pair, bool),
-    Refused(Refusal),
+#[derive(Debug, Clone, Copy, PartialEq, Eq)]
+pub struct Judged {
+    pub pair: Pair,
+    pub plain: bool,
 }
 
 // The pair at a place, its content judged too.
-pub fn read_pair(line: &[u8], at: usize) -> Judged
+pub fn read_pair(line: &[u8], at: usize) -> Result<Judged, Refusal>
     requires { at ≤ length line.now }
     ensures { (read_by line.now (pair_read result) ≡ reading.read_pair (drop at line.now)) × ReadIn line.now (pair_read result) × MarkedIn line.now result }
 {
-    match pairs::read_pair(line, at) {
-        PairRead::Read(p) => {
-            let key = p.key;
-            let operator = p.operator;
-            match written_form(key, operator, line, p.coded, p.start, p.end, p.len) {
-                Form::Plain => Judged::Read(p, true),
-                Form::Sound => Judged::Read(p, false),
-                Form::Faulty => Judged::Refused(Refusal::ContentBad),
-            }
-        }
-        PairRead::Refused(f) => Judged::Refused(f),
+    let pair = pairs::read_pair(line, at)?;
+    match written_form(
+        pair.key,
+        pair.operator,
+        line,
+        pair.coded,
+        pair.start,
+        pair.end,
+        pair.len,
+    ) {
+        Form::Plain => Ok(Judged { pair, plain: true }),
+        Form::Sound => Ok(Judged { pair, plain: false }),
+        Form::Faulty => Err(Refusal::ContentBad),
     }
 }

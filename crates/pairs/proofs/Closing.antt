@@ -1,10 +1,10 @@
 -- The scan for a closing mark: what holds at each place, and one law for each way on.
 -- Assumes nothing.
 use Prim.Native.Nat.{ℕ, ◌+◌, ◌-◌, ◌≤◌, ◌<◌}
-use mathlib.Core.Path.{◌≡◌, refl, sym, ◌∙◌}
+use mathlib.Core.Path.{◌≡◌, refl, sym, subst, ◌∙◌}
 use mathlib.Core.Bool.{Bool, true, false, not, ◌&&◌}
 use mathlib.Core.List.{List, [], ◌∷◌, ◌++◌}
-use mathlib.Core.Option.{none, some}
+use Rattle.std.specs.Prelude.{None, Some}
 use native.Mathlib.Omega.{arith}
 use borrow.Author.Tests.{eq-eqb, ne_eqb, lt-ltb, le-ltb}
 use lib.Dec.{eqb}
@@ -54,7 +54,7 @@ module _ (s : List ℕ) (start : ℕ) where
         rw (ne_eqb (i + 1) start n, p)
 
     step : (t : Bool) → i < length s → (eqb (get_or s i 0) 34 && not (escaped_at s start i)) ≡ t
-        → close_end (escaped_at s start i) (drop i s) i ≡ pick t (some i) (close_end (escaped_at s start (i + 1)) (drop (i + 1) s) (i + 1))
+        → close_end (escaped_at s start i) (drop i s) i ≡ pick t (Some i) (close_end (escaped_at s start (i + 1)) (drop (i + 1) s) (i + 1))
     unfolding close_end
     step t h e = rw (rest_at s i h, e, behind)
 
@@ -98,22 +98,28 @@ module _ (s : List ℕ) (start : ℕ) where
     pub scan_closed : i < length s → get_or s i 0 ≡ 34 → (i ≡ start → ⊥) → (get_or s (i - 1) 0 ≡ 92 → ⊥) → Closes s start (record { end = i; marks = marks })
     scan_closed h m n b = closes h m (rw (ne_eqb i start n, ne_eqb (get_or s (i - 1) 0) 92 b))
 
-    pub scan_out : length s ≤ i → Closes s start (record { end = i; marks = marks })
+    out : length s ≤ i → Closes s start (record { end = i; marks = marks })
     unfolding close_end
-    scan_out h = record {
+    out h = record {
       place = sym c.whole ∙ rw (drop_of_length-le s h, le-ltb i (length s) h);
       from = c.from;
       within = c.within;
       marks = c.counted;
     }
 
+    pub scan_out : length s ≤ i → Closes s start (record { end = length s; marks = marks })
+    scan_out h =
+        let w = c.within in
+        let e : i ≡ length s = omega arith in
+        subst (λ (n : ℕ). Closes s start (record { end = n; marks = marks })) e (out h)
+
 -- ---- the value that was closed
 
 module _ (s : List ℕ) (start : ℕ) (c : Close) (h : Closes s start c) where
-  pub value_unclosed : length s ≤ c.end → quoted false (drop start s) ≡ none
+  pub value_unclosed : length s ≤ c.end → quoted false (drop start s) ≡ None
   value_unclosed l = quoted_at false (drop start s) start ∙ rw (h.place, le-ltb c.end (length s) l)
 
-  pub value_closed : c.end < length s → quoted false (drop start s) ≡ some (record { value = part s start c.end; rest = drop (c.end + 1) s })
+  pub value_closed : c.end < length s → quoted false (drop start s) ≡ Some (record { value = part s start c.end; rest = drop (c.end + 1) s })
   value_closed l =
       let f = h.from in
       let e : start + (c.end - start + 1) ≡ c.end + 1 = omega arith in

@@ -4,3 +4,4 @@ pub mod Reading
 pub mod Escapes
 pub mod Whole
 pub mod Unescaping
+pub mod Steps

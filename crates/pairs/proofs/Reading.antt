@@ -4,7 +4,7 @@ use Prim.Native.Nat.{ℕ, ◌+◌, ◌-◌, ◌≤◌, ◌<◌}
 use mathlib.Core.Path.{◌≡◌, refl, ◌∙◌}
 use mathlib.Core.Bool.{Bool, true, false, ◌&&◌}
 use mathlib.Core.List.{List}
-use mathlib.Core.Option.{Option, none, some}
+use Rattle.std.specs.Prelude.{Option, None, Some}
 use native.Mathlib.Nat.{add-zero}
 use native.Mathlib.Omega.{arith}
 use borrow.Author.Tests.{eq-eqb, ne_eqb, leb-true, leb-false}
@@ -55,12 +55,12 @@ module _ (s : List ℕ) (at : ℕ) (t : Takes) where
 -- each key takes what stands in braces, if it is allowed
 present-by : (t : Takes) (o : Option (Part (List ℕ))) (bs : List ℕ) → in_braces bs ≡ o
     → present t bs ≡ (found o argument_bad >>= λ (a : Part (List ℕ)). require (type_allowed t a.value) argument_bad >> ok a)
-present-by takes_none none bs e = refl
-present-by takes_none (some a) bs e = refl
-present-by takes_one none bs e = rw e
-present-by takes_one (some a) bs e = rw e
-present-by takes_type none bs e = rw e
-present-by takes_type (some a) bs e = rw e
+present-by takes_none None bs e = refl
+present-by takes_none (Some a) bs e = refl
+present-by takes_one None bs e = rw e
+present-by takes_one (Some a) bs e = rw e
+present-by takes_type None bs e = rw e
+present-by takes_type (Some a) bs e = rw e
 
 module _ (s : List ℕ) (a e : ℕ) (h : e ≡ span_at is_in_braces s a) where
   braces_are : in_braces (drop a s) ≡ close_brace (part s a e) (drop e s)
@@ -69,22 +69,22 @@ module _ (s : List ℕ) (a e : ℕ) (h : e ≡ span_at is_in_braces s a) where
 
   module _ (t : Takes) where
     pub brace_open : length s ≤ e → present t (drop a s) ≡ refused argument_bad
-    brace_open l = present-by t none (drop a s) (braces_are ∙ rw (drop_of_length-le s l))
+    brace_open l = present-by t None (drop a s) (braces_are ∙ rw (drop_of_length-le s l))
 
     module _ (f : a ≤ e) (l : e < length s) where
       pub brace_wrong : between 1 most_key (e - a) ≡ false → present t (drop a s) ≡ refused argument_bad
       brace_wrong b =
-          present-by t none (drop a s) (braces_are ∙ rw (rest_at s e l, part_length s a e f (omega arith), b))
+          present-by t None (drop a s) (braces_are ∙ rw (rest_at s e l, part_length s a e f (omega arith), b))
 
       pub brace_right : between 1 most_key (e - a) ≡ true
           → present t (drop a s) ≡ (require (type_allowed t (part s a e)) argument_bad >> ok (record { value = part s a e; rest = drop (e + 1) s }))
       brace_right b =
-          present-by t (some (record { value = part s a e; rest = drop (e + 1) s })) (drop a s)
+          present-by t (Some (record { value = part s a e; rest = drop (e + 1) s })) (drop a s)
           (braces_are ∙ rw (rest_at s e l, part_length s a e f (omega arith), b))
 
 -- ---- the operator
 
-pub operator_at : (s : List ℕ) (b : ℕ) (allowed : List Op) (r : OperatorRead)
+pub operator_at : (s : List ℕ) (b : ℕ) (allowed : List Op) (r : Option OperatorRead)
     → ((bs : List ℕ) → operator_by r bs ≡ op_of (get_or s b 0) (get_or s (b + 1) 0) (drop 1 bs) (drop 2 bs))
     → read_op allowed (drop b s)
     ≡ (found (operator_by r (drop b s)) operator_bad >>= λ (o : Part Op). require (allows allowed o.value) operator_bad >> ok o)
@@ -137,10 +137,10 @@ module _ (s : List ℕ) (at : ℕ) where
 
 -- behind an `e` and a mark
 module _ (bs : List ℕ) where
-  pub coded-faulty : coded 0 bs ≡ none → read_coded bs ≡ refused value_bad
+  pub coded-faulty : coded 0 bs ≡ None → read_coded bs ≡ refused value_bad
   unfolding read_coded
   coded-faulty e = rw e
 
-  pub coded-closed : (p : Part (List ℕ)) → coded 0 bs ≡ some p → read_coded bs ≡ (require (leb (length p.value) most_value) value_bad >> ok p)
+  pub coded-closed : (p : Part (List ℕ)) → coded 0 bs ≡ Some p → read_coded bs ≡ (require (leb (length p.value) most_value) value_bad >> ok p)
   unfolding read_coded
   coded-closed p e = rw e

@@ -4,7 +4,8 @@ use Prim.Native.Nat.{ℕ, ◌+◌, ◌≤◌, ◌<◌}
 use mathlib.Core.Path.{◌≡◌, refl, sym, ap, ◌∙◌}
 use mathlib.Core.Bool.{Bool, true, false, ◌&&◌}
 use mathlib.Core.List.{List, [], ◌∷◌, ◌++◌, append_assoc, append-nil}
-use mathlib.Core.Option.{none, none-ne-some, some-injective}
+use Rattle.std.specs.Prelude.{None, Some}
+use Rattle.std.proofs.lemmas.Option.{none-some, same_Some}
 use native.Mathlib.Numerals.{add-one}
 use native.Mathlib.Omega.{arith}
 use lib.Dec.{eqb}
@@ -14,7 +15,7 @@ use Rattle.lists.specs.Runs.{Part}
 use Rattle.lists.specs.Bytes.{part}
 use Rattle.rules.specs.Coded.{coded}
 use Rattle.rules.specs.Reading.{starts_mark, unescape, unescape_step}
-use Rattle.escapes.specs.declared.Closed.TheVariants.{At}
+use Rattle.escapes.specs.declared.Closed.{Closed}
 use Rattle.escapes.specs.Values.{decoded}
 use Rattle.escapes.specs.Answers.{ClosedIs}
 use Rattle.pairs.specs.Bounds.{WrittenAt, Put}
@@ -82,12 +83,12 @@ module _ (s : List ℕ) (start e : ℕ) (out₀ : List ℕ) (h : e ≤ length s)
 -- ---- a value behind an `e`
 
 module _ (line : List ℕ) (start end : ℕ) (w : WrittenAt line true start end) where
-  pub decoded-put : (e n : ℕ) (out out' : List ℕ) → ClosedIs line start out out' (At e n) → length (decoded (part line start end)) ≤ length out → Put (decoded (part line start end)) out' n
-  decoded-put e n out out' c h =
-      let v : decoded (part line start e) ≡ decoded (part line start end) =
-      ap (λ (p : Part (List ℕ)). p.value) (some-injective _ _ (sym c.0.closed ∙ w.closed)) in
+  pub decoded-put : (k : Closed) (out out' : List ℕ) → ClosedIs line start out out' (Some k) → length (decoded (part line start end)) ≤ length out → Put (decoded (part line start end)) out' k.len
+  decoded-put k out out' c h =
+      let v : decoded (part line start k.end) ≡ decoded (part line start end) =
+      ap (λ (p : Part (List ℕ)). p.value) (same_Some _ _ (sym c.0.closed ∙ w.closed)) in
       let l = ap length v in
       record { is = c.2 (omega (arith, c.1)) ∙ v; size = c.1 ∙ l }
 
-  pub never_faulty : coded 0 (drop start line) ≡ none → ⊥
-  never_faulty e = none-ne-some _ (sym e ∙ w.closed)
+  pub never_faulty : coded 0 (drop start line) ≡ None → ⊥
+  never_faulty e = none-some _ (sym e ∙ w.closed)

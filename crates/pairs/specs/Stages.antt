@@ -2,7 +2,7 @@
 -- Assumes nothing.
 use Rattle.std.specs.Prelude.{ℕ, Bool, true, false, List}
 use Rattle.lists.specs.Runs.{Part}
-use Rattle.lists.specs.Checked.{Checked, refused, ok, ◌>>=◌}
+use Rattle.lists.specs.Checked.{Checked, ok, ◌>>=◌}
 use Rattle.lists.specs.Refusal.{Refusal}
 use Rattle.rules.specs.Key.{Key, Op, Takes, takes_none, takes_one, takes_type, Row}
 use Rattle.rules.specs.Pair.{Pair}

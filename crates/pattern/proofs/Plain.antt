@@ -4,7 +4,7 @@ use Prim.Native.Nat.{ℕ}
 use mathlib.Core.Path.{◌≡◌, refl, ap, ◌∙◌}
 use mathlib.Core.Bool.{Bool, true, false, not, ◌&&◌, ◌||◌, or-false}
 use mathlib.Core.List.{List, [], ◌∷◌}
-use mathlib.Core.Option.{Option, none, some}
+use Rattle.std.specs.Prelude.{Option, None, Some}
 use borrow.Author.Tests.{not-true, eqb-false}
 use lib.Dec.{eqb}
 use Rattle.lists.specs.Lists.{is_some, all}
@@ -26,7 +26,7 @@ module _ (b : ℕ) where
   pub not_special : is_special b ≡ false → (b ≡ 42 → ⊥) × (b ≡ 63 → ⊥) × (b ≡ 91 → ⊥) × (b ≡ 124 → ⊥)
   not_special h = let n = tests h in (eqb-false b 42 n.0, eqb-false b 63 n.1, eqb-false b 91 n.2, eqb-false b 124 n.3)
 
-  plain_byte : (bs : List ℕ) → is_special b ≡ false → element_at b bs ≡ some (record { value = byte b; more = 0 })
+  plain_byte : (bs : List ℕ) → is_special b ≡ false → element_at b bs ≡ Some (record { value = byte b; more = 0 })
   plain_byte bs h = let n = tests h in rw (n.0, n.1, n.2)
 
 no_bar : (p : List ℕ) → is_plain p ≡ true → all (λ x. not (eqb x 124)) p ≡ true
@@ -44,8 +44,8 @@ plain-elements (b ∷ p) h =
     rw (elements_at b p (record { value = byte b; more = 0 }) (plain_byte b p (not-true (is_special b) q))) (go (elements p) (plain-elements p r))
   where
     go : (o : Option (List Element)) → is_some o ≡ true → is_some (before (byte b) o) ≡ true
-    go none e = e
-    go (some es) e = refl
+    go None e = e
+    go (Some es) e = refl
 
 plain_alternative : (p v : List ℕ) → is_plain p ≡ true → alternative_matches p v ≡ same_bytes p v
 unfolding same_bytes eats

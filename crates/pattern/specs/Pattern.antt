@@ -1,7 +1,7 @@
 -- Document 01, Patterns and templates: the elements of a pattern, what is well formed, and what matches.
 -- Assumes nothing.
 use Rattle.std.specs.Prelude.{ℕ, ◌+◌, Bool, true, false, not, ◌&&◌, ◌||◌, List, [], ◌∷◌, eqb, leb, length}
-use Rattle.std.proofs.Math.Option.{Option, none, some}
+use Rattle.std.specs.Prelude.{Option, None, Some}
 use Rattle.lists.specs.Lists.{pick, is_empty, is_some, all, any}
 use Rattle.lists.specs.Bytes.{between}
 use Rattle.lists.specs.Runs.{span, split_at}
@@ -25,11 +25,11 @@ pub data Element : Type 0 where
 -- ---- the members of a set
 
 abbrev pub single : ℕ → Option (Item Range)
-single x = some (record { value = record { low = x; high = x }; more = 0 })
+single x = Some (record { value = record { low = x; high = x }; more = 0 })
 
 -- a range that does not fall
 abbrev pub rising : ℕ → ℕ → Option (Item Range)
-rising x y = pick (leb x y) (some (record { value = record { low = x; high = y }; more = 2 })) none
+rising x y = pick (leb x y) (Some (record { value = record { low = x; high = y }; more = 2 })) None
 
 -- the member that begins with x: `x-y` if a dash and one more byte of the set follow, and then y is used up; else x alone
 abbrev pub member_at : ℕ → List ℕ → Option (Item Range)
@@ -48,22 +48,22 @@ abbrev pub is_inside : ℕ → Bool
 is_inside b = not (eqb b 93)
 
 abbrev pub closed : List ℕ → List ℕ → Option (List ℕ)
-closed body [] = none
-closed body (b ∷ rest) = some body
+closed body [] = None
+closed body (b ∷ rest) = Some body
 
 -- what stands between the brackets: a first byte, whatever it is, and the bytes up to the next `]`; none if there is no such one
 unfoldable pub body_of : List ℕ → Option (List ℕ)
-body_of [] = none
+body_of [] = None
 body_of (b ∷ bs) = let inside = span is_inside bs in closed (b ∷ inside.value) inside.rest
 
 abbrev pub set_of : Bool → ℕ → Option (List Range) → Option (Item Element)
-set_of opposite more none = none
-set_of opposite more (some rs) = some (record { value = set opposite rs; more = more })
+set_of opposite more None = None
+set_of opposite more (Some rs) = Some (record { value = set opposite rs; more = more })
 
 -- a set behind its opening bracket: n bytes that mark the opposite, its body, its closing bracket
 abbrev pub set_with : Bool → ℕ → Option (List ℕ) → Option (Item Element)
-set_with opposite n none = none
-set_with opposite n (some body) = set_of opposite (n + length body + 1) (members body)
+set_with opposite n None = None
+set_with opposite n (Some body) = set_of opposite (n + length body + 1) (members body)
 
 abbrev pub set_by : Bool → ℕ → List ℕ → Option (Item Element)
 set_by true b bs = set_with true 1 (body_of bs)
@@ -71,7 +71,7 @@ set_by false b bs = set_with false 0 (body_of (b ∷ bs))
 
 -- a set behind its opening bracket: `!` makes it the opposite
 abbrev pub set_at : List ℕ → Option (Item Element)
-set_at [] = none
+set_at [] = None
 set_at (b ∷ bs) = set_by (eqb b 33) b bs
 
 -- ---- the elements of an alternative
@@ -83,10 +83,10 @@ abbrev pub sign_of : ℕ → Sign
 sign_of b = pick (eqb b 42) star_sign (pick (eqb b 63) one_sign (pick (eqb b 91) set_sign no_sign))
 
 abbrev pub element_by : Sign → ℕ → List ℕ → Option (Item Element)
-element_by star_sign b bs = some (record { value = star; more = 0 })
-element_by one_sign b bs = some (record { value = one; more = 0 })
+element_by star_sign b bs = Some (record { value = star; more = 0 })
+element_by one_sign b bs = Some (record { value = one; more = 0 })
 element_by set_sign b bs = set_at bs
-element_by no_sign b bs = some (record { value = byte b; more = 0 })
+element_by no_sign b bs = Some (record { value = byte b; more = 0 })
 
 abbrev pub element_at : ℕ → List ℕ → Option (Item Element)
 element_at b bs = element_by (sign_of b) b bs
@@ -131,8 +131,8 @@ fits (byte a ∷ es) value = eats (takes (byte a)) (fits es) value
 fits (set opposite rs ∷ es) value = eats (takes (set opposite rs)) (fits es) value
 
 abbrev pub fits_of : Option (List Element) → List ℕ → Bool
-fits_of none value = false
-fits_of (some es) value = fits es value
+fits_of None value = false
+fits_of (Some es) value = fits es value
 
 -- an alternative matches a value; one with a fault matches nothing
 unfoldable pub alternative_matches : List ℕ → List ℕ → Bool

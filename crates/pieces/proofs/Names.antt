@@ -4,7 +4,7 @@ use Prim.Native.Nat.{ℕ, ◌+◌, ◌≤◌, ◌<◌}
 use mathlib.Core.Path.{◌≡◌, refl, sym, ◌∙◌}
 use mathlib.Core.Bool.{Bool, true, false}
 use mathlib.Core.List.{List, [], ◌∷◌}
-use mathlib.Core.Option.{none, some}
+use Rattle.std.specs.Prelude.{Option, None, Some}
 use native.Mathlib.Omega.{arith}
 use native.Mathlib.Decide.{dec_lt}
 use borrow.Author.Tests.{ne_eqb}
@@ -17,10 +17,9 @@ use Rattle.lists.specs.Quoted.{bytes}
 use Rattle.lists.proofs.Rest.{rest_at, byte_in}
 use Rattle.lists.proofs.Tests.{and_both}
 use Rattle.template.specs.Template.{Piece, Named, plain, whole, braced, kernel, number, devpath, id, driver, major, minor, result, attr, env, names, letters, name_in, text_in, with_text, formed, named_piece}
-use Rattle.pieces.specs.Read.{piece, fault, item_read, after_percent, after_dollar, if_named, meaning, PieceWithin, Ahead, Within}
+use Rattle.pieces.specs.Read.{piece, fault, item_read, after_percent, after_dollar, if_named, meaning, PieceWithin, Ahead, FoundWithin}
 use Rattle.pieces.specs.declared.Piece as P
 use Rattle.pieces.specs.declared.PieceRead.{PieceRead}
-use Rattle.pieces.specs.declared.PieceRead.TheVariants as Reads
 use Rattle.pieces.proofs.Braces.{open_at, braced-behind}
 
 -- a name that begins at a place ends inside
@@ -31,17 +30,17 @@ name-inside (x ∷ name) [] e = let z : ◌≡◌ {A = ℕ} 0 1 = cc in absurd (
 name-inside (x ∷ name) (y ∷ bs) e = let k = name-inside name bs (and_both (eqb x y) (starts name bs) e).1 in omega arith
 
 -- a name of which all but a test is known
-choose : (u : Bool) (name : List ℕ) (p : Piece) (bs : List ℕ) (i : ℕ) → item_read (named_piece (pick u (some (record { name = name; form = plain p })) none) bs) i ≡ pick u (piece p (i + length name)) fault
+choose : (u : Bool) (name : List ℕ) (p : Piece) (bs : List ℕ) (i : ℕ) → item_read (named_piece (pick u (Some (record { name = name; form = plain p })) None) bs) i ≡ pick u (piece p (i + length name)) fault
 choose true name p bs i = refl
 choose false name p bs i = refl
 
 choose_braced : (u : Bool) (name : List ℕ) (f : List ℕ → Piece) (bs : List ℕ) (i : ℕ)
-    → item_read (named_piece (pick u (some (record { name = name; form = braced f })) none) bs) i ≡ pick u (item_read (with_text f (length name) (text_in (drop (length name) bs))) i) fault
+    → item_read (named_piece (pick u (Some (record { name = name; form = braced f })) None) bs) i ≡ pick u (item_read (with_text f (length name) (text_in (drop (length name) bs))) i) fault
 choose_braced true name f bs i = refl
 choose_braced false name f bs i = refl
 
 choose_whole : (u : Bool) (name : List ℕ) (p : Piece) (bs : List ℕ) (i : ℕ)
-    → item_read (named_piece (pick u (some (record { name = name; form = whole p })) none) bs) i ≡ pick u (item_read (formed (whole p) (length name) (drop (length name) bs)) i) fault
+    → item_read (named_piece (pick u (Some (record { name = name; form = whole p })) None) bs) i ≡ pick u (item_read (formed (whole p) (length name) (drop (length name) bs)) i) fault
 choose_whole true name p bs i = refl
 choose_whole false name p bs i = refl
 
@@ -57,7 +56,7 @@ module _ (t : List ℕ) (i : ℕ) where
 
   -- one byte that stands in a table for a piece without a text
   pub one_byte : {b : ℕ} (table : List Named) (p : P.Piece) → get_or t i 0 ≡ b → 0 < b → PieceWithin p t
-      → name_in table (b ∷ drop (i + 1) t) ≡ some (record { name = b ∷ []; form = plain (meaning p t) })
+      → name_in table (b ∷ drop (i + 1) t) ≡ Some (record { name = b ∷ []; form = plain (meaning p t) })
       → (piece (meaning p t) (i + 1) ≡ item_read (named_piece (name_in table (drop i t)) (drop i t)) i) × Ahead p (i + 1) t i
   one_byte {b} table p e h w f =
       (rw (open_at t i b e h, f), record { forward = omega arith; inside = omega (arith, byte_in t i b e h); text = w })
@@ -181,7 +180,6 @@ module _ (t : List ℕ) (i : ℕ) where
         (λ q. S (omega arith) (omega arith)) (λ q. S (omega arith) (omega arith)) (λ q. S (omega arith) (omega arith)) (λ q. S (omega arith) (omega arith))
 
 -- bounds behind n bytes are bounds before them
-pub behind : (t : List ℕ) (i n : ℕ) (r : PieceRead) → Within r t (i + n) → Within r t i
-behind t i n (Reads.Read p next) w = record { forward = omega (arith, w.forward); inside = w.inside; text = w.text }
-behind t i n Reads.End w = tt
-behind t i n Reads.Fault w = tt
+pub behind : (t : List ℕ) (i n : ℕ) (r : Option PieceRead) → FoundWithin r t (i + n) → FoundWithin r t i
+behind t i n None w = tt
+behind t i n (Some r) w = record { forward = omega (arith, w.forward); inside = w.inside; text = w.text }

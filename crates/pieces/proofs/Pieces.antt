@@ -3,7 +3,7 @@
 use Prim.Native.Nat.{ℕ, suc, ◌+◌, ◌≤◌, ◌<◌}
 use mathlib.Core.Path.{◌≡◌, refl, sym, ap, ◌∙◌}
 use mathlib.Core.List.{List, [], ◌∷◌}
-use mathlib.Core.Option.{Option, none, some}
+use Rattle.std.specs.Prelude.{Option, None, Some}
 use native.Mathlib.Omega.{arith}
 use borrow.Author.Tests.{ne_eqb}
 use lib.ListN.{length, get_or, drop, drop_of_length-le}
@@ -34,27 +34,27 @@ module _ (t : List ℕ) (i : ℕ) where
 
   -- ---- the pieces from a place on
 
-  pub reads_end : read_at t i ≡ end → pieces (drop i t) ≡ some []
+  pub reads_end : read_at t i ≡ end → pieces (drop i t) ≡ Some []
   unfolding read_at
   reads_end r = go (drop i t) r
     where
       item : (o : Option (Item Piece)) (j : ℕ) → item_read o j ≡ end → ⊥
-      item none j e = let z : ◌≡◌ {A = ℕ} 0 1 = cc in omega arith
-      item (some it) j e = let z : ◌≡◌ {A = ℕ} 0 1 = cc in omega arith
+      item None j e = let z : ◌≡◌ {A = ℕ} 0 1 = cc in omega arith
+      item (Some it) j e = let z : ◌≡◌ {A = ℕ} 0 1 = cc in omega arith
 
-      go : (bs : List ℕ) → read_from bs i ≡ end → pieces bs ≡ some []
+      go : (bs : List ℕ) → read_from bs i ≡ end → pieces bs ≡ Some []
       go [] e = pieces_end
       go (b ∷ bs) e = absurd (item (piece_at b bs) (i + 1) e)
 
-  pub reads-fault : read_at t i ≡ fault → pieces (drop i t) ≡ none
+  pub reads-fault : read_at t i ≡ fault → pieces (drop i t) ≡ None
   unfolding read_at
   reads-fault r = go (drop i t) r
     where
-      item : (b : ℕ) (bs : List ℕ) (o : Option (Item Piece)) → piece_at b bs ≡ o → item_read o (i + 1) ≡ fault → pieces (b ∷ bs) ≡ none
-      item b bs none k e = pieces-bad b bs k
-      item b bs (some it) k e = let z : ◌≡◌ {A = ℕ} 0 1 = cc in absurd (omega arith)
+      item : (b : ℕ) (bs : List ℕ) (o : Option (Item Piece)) → piece_at b bs ≡ o → item_read o (i + 1) ≡ fault → pieces (b ∷ bs) ≡ None
+      item b bs None k e = pieces-bad b bs k
+      item b bs (Some it) k e = let z : ◌≡◌ {A = ℕ} 0 1 = cc in absurd (omega arith)
 
-      go : (bs : List ℕ) → read_from bs i ≡ fault → pieces bs ≡ none
+      go : (bs : List ℕ) → read_from bs i ≡ fault → pieces bs ≡ None
       go [] e = let z : ◌≡◌ {A = ℕ} 0 1 = cc in absurd (omega arith)
       go (b ∷ bs) e = item b bs (piece_at b bs) refl e
 
@@ -63,8 +63,8 @@ module _ (t : List ℕ) (i : ℕ) where
   reads-piece p next r = go (drop i t) refl r
     where
       item : (b : ℕ) (bs : List ℕ) (o : Option (Item Piece)) → drop i t ≡ b ∷ bs → piece_at b bs ≡ o → item_read o (i + 1) ≡ piece p next → pieces (b ∷ bs) ≡ before p (pieces (drop next t))
-      item b bs none d k e = let z : ◌≡◌ {A = ℕ} 0 1 = cc in absurd (omega arith)
-      item b bs (some it) d k e =
+      item b bs None d k e = let z : ◌≡◌ {A = ℕ} 0 1 = cc in absurd (omega arith)
+      item b bs (Some it) d k e =
           let v : it.value ≡ p = cc in
           let q : i + 1 + it.more ≡ next = cc in
           let a : i + suc it.more ≡ next = omega arith in
@@ -85,3 +85,6 @@ written_on t at i p h m n = record {
   within = omega arith;
   same = some-behind t i (written (get_or t i 0)) (i + 1) (read_written t i h m n) ∙ p.same;
 }
+
+pub written-out : (t : List ℕ) (at i : ℕ) → PassesWritten t at i → length t ≤ i → PassesWritten t at (length t)
+written-out t at i p h = let e : i ≡ length t = omega (arith, p.within) in rw (← e) p

@@ -1,18 +1,17 @@
 -- What the code answers of a template at a place, by what the definitions read.
 -- Assumes nothing.
 use Rattle.std.specs.Prelude.{ℕ, ◌+◌, ◌≤◌, ◌<◌, ◌≡◌, List, [], ◌∷◌, length, take, drop}
-use Rattle.std.proofs.Math.Option.{Option, none, some}
+use Rattle.std.specs.Prelude.{Option, None, Some, Result, Ok, Err}
 use Rattle.lists.specs.Lists.{pick, is_some}
 use Rattle.lists.specs.Bytes.{starts}
 use Rattle.lists.specs.Items.{Item}
 use Rattle.template.specs.Template as T
 use Rattle.template.specs.Template.{names, letters, name_in, named_piece, piece_at, pieces}
 use Rattle.pieces.specs.declared.Piece.{Piece}
-use Rattle.pieces.specs.declared.Piece.TheVariants.{Written, Kernel, Number, Devpath, Id, Driver, Major, Minor, Result, Attr, Env, Dollar, Percent}
+use Rattle.pieces.specs.declared.Piece.TheVariants as P
 use Rattle.pieces.specs.declared.PieceRead.{PieceRead}
-use Rattle.pieces.specs.declared.PieceRead.TheVariants as P
+use Rattle.pieces.specs.declared.Malformed.{Malformed}
 use Rattle.pieces.specs.declared.Text.{Text}
-use Rattle.pieces.specs.declared.Text.TheVariants as X
 
 -- a piece and the place behind it, or the template's end, or a fault
 pub data Read : Type 0 where
@@ -21,8 +20,8 @@ pub data Read : Type 0 where
 
 -- an item that begins before place i
 abbrev pub item_read : Option (Item T.Piece) → ℕ → Read
-item_read none i = fault
-item_read (some it) i = piece it.value (i + it.more)
+item_read None i = fault
+item_read (Some it) i = piece it.value (i + it.more)
 
 abbrev pub read_from : List ℕ → ℕ → Read
 read_from [] i = end
@@ -46,60 +45,68 @@ if_named name p template i = pick (starts name (drop i template)) (piece p (i + 
 -- ---- what the code's answers stand for
 
 abbrev pub meaning : Piece → List ℕ → T.Piece
-meaning (Written b) template = T.written b
-meaning Kernel template = T.kernel
-meaning Number template = T.number
-meaning Devpath template = T.devpath
-meaning Id template = T.id
-meaning Driver template = T.driver
-meaning Major template = T.major
-meaning Minor template = T.minor
-meaning Result template = T.result
-meaning (Attr start len) template = T.attr (take len (drop start template))
-meaning (Env start len) template = T.env (take len (drop start template))
-meaning Dollar template = T.dollar
-meaning Percent template = T.percent
+meaning (P.Written b) template = T.written b
+meaning P.Kernel template = T.kernel
+meaning P.Number template = T.number
+meaning P.Devpath template = T.devpath
+meaning P.Id template = T.id
+meaning P.Driver template = T.driver
+meaning P.Major template = T.major
+meaning P.Minor template = T.minor
+meaning P.Result template = T.result
+meaning (P.Attr start len) template = T.attr (take len (drop start template))
+meaning (P.Env start len) template = T.env (take len (drop start template))
+meaning P.Dollar template = T.dollar
+meaning P.Percent template = T.percent
 
-abbrev pub told : PieceRead → List ℕ → Read
-told (P.Read p next) template = piece (meaning p template) next
-told P.End template = end
-told P.Fault template = fault
+abbrev pub found_told : Option PieceRead → List ℕ → Read
+found_told None template = fault
+found_told (Some r) template = piece (meaning r.piece template) r.next
 
-abbrev pub text_told : Text → List ℕ → Option (List ℕ)
-text_told (X.At start len) template = some (take len (drop start template))
-text_told X.Fault template = none
+abbrev pub told : Result (Option PieceRead) Malformed → List ℕ → Read
+told (Ok (Some r)) template = piece (meaning r.piece template) r.next
+told (Ok None) template = end
+told (Err m) template = fault
+
+abbrev pub text_told : Option Text → List ℕ → Option (List ℕ)
+text_told None template = None
+text_told (Some t) template = Some (take t.len (drop t.start template))
 
 -- ---- bounds
 
 -- a text in braces lies inside
 abbrev pub PieceWithin : Piece → List ℕ → Type 0
-PieceWithin (Written b) template = Unit {0}
-PieceWithin Kernel template = Unit {0}
-PieceWithin Number template = Unit {0}
-PieceWithin Devpath template = Unit {0}
-PieceWithin Id template = Unit {0}
-PieceWithin Driver template = Unit {0}
-PieceWithin Major template = Unit {0}
-PieceWithin Minor template = Unit {0}
-PieceWithin Result template = Unit {0}
-PieceWithin (Attr start len) template = start + len ≤ length template
-PieceWithin (Env start len) template = start + len ≤ length template
-PieceWithin Dollar template = Unit {0}
-PieceWithin Percent template = Unit {0}
+PieceWithin (P.Written b) template = Unit {0}
+PieceWithin P.Kernel template = Unit {0}
+PieceWithin P.Number template = Unit {0}
+PieceWithin P.Devpath template = Unit {0}
+PieceWithin P.Id template = Unit {0}
+PieceWithin P.Driver template = Unit {0}
+PieceWithin P.Major template = Unit {0}
+PieceWithin P.Minor template = Unit {0}
+PieceWithin P.Result template = Unit {0}
+PieceWithin (P.Attr start len) template = start + len ≤ length template
+PieceWithin (P.Env start len) template = start + len ≤ length template
+PieceWithin P.Dollar template = Unit {0}
+PieceWithin P.Percent template = Unit {0}
 
 pub record Ahead (p : Piece) (next : ℕ) (template : List ℕ) (i : ℕ) : Type 0 where
   pub forward : i < next
   pub inside : next ≤ length template
   pub text : PieceWithin p template
 
-abbrev pub Within : PieceRead → List ℕ → ℕ → Type 0
-Within (P.Read p next) template i = Ahead p next template i
-Within P.End template i = Unit {0}
-Within P.Fault template i = Unit {0}
+abbrev pub FoundWithin : Option PieceRead → List ℕ → ℕ → Type 0
+FoundWithin None template i = Unit {0}
+FoundWithin (Some r) template i = Ahead r.piece r.next template i
 
-abbrev pub TextWithin : Text → List ℕ → ℕ → Type 0
-TextWithin (X.At start len) template i = (start ≡ i + 1) × (start + len < length template)
-TextWithin X.Fault template i = Unit {0}
+abbrev pub Within : Result (Option PieceRead) Malformed → List ℕ → ℕ → Type 0
+Within (Ok (Some r)) template i = Ahead r.piece r.next template i
+Within (Ok None) template i = Unit {0}
+Within (Err m) template i = Unit {0}
+
+abbrev pub TextWithin : Option Text → List ℕ → ℕ → Type 0
+TextWithin None template i = Unit {0}
+TextWithin (Some t) template i = (t.start ≡ i + 1) × (t.start + t.len < length template)
 
 -- what follows place r decides whether there is a fault from place i on
 pub record PassesWritten (template : List ℕ) (i r : ℕ) : Type 0 where

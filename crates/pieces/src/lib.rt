@@ -5,10 +5,10 @@
 ghost use Rattle.std.specs.Prelude.{◌≡◌, ◌+◌, ◌≤◌, ◌<◌, length, get_or, drop};
 ghost use Rattle.template.specs.Template.{result as output, attr, env, whole, formed, text_in, with_text, well_formed};
 ghost use Rattle.pieces.specs.Number.{DigitsOf};
-ghost use Rattle.pieces.specs.Read.{meaning, told, item_read, read_at, after_percent, after_dollar, if_named, PieceWithin, Within, text_told, TextWithin, PassesWritten};
+ghost use Rattle.pieces.specs.Read.{meaning, told, found_told, item_read, read_at, after_percent, after_dollar, if_named, PieceWithin, Within, FoundWithin, text_told, TextWithin, PassesWritten};
 
 // A piece of a template; of a text in braces its start and its length.
-#[derive(Drop)]
+#[derive(Debug, Clone, Copy, PartialEq, Eq)]
 pub enum Piece {
     Written(u8),
     Kernel,
@@ -25,122 +25,157 @@ pub enum Piece {
     Percent,
 }
 
-// A piece and the place behind it, or the template's end, or a fault.
-#[derive(Drop)]
-pub enum PieceRead {
-    Read(Piece, usize),
-    End,
-    Fault,
+// A piece and the place behind it.
+#[derive(Debug, Clone, Copy, PartialEq, Eq)]
+pub struct PieceRead {
+    pub piece: Piece,
+    pub next: usize,
 }
 
-// A text in braces: its start and its length.
-#[derive(Clone, Copy)]
-pub enum Text {
-    At(usize, usize),
-    Fault,
+// A sign that begins no piece.
+#[derive(Debug, Clone, Copy, PartialEq, Eq)]
+pub struct Malformed;
+
+// A text in braces.
+#[derive(Debug, Clone, Copy, PartialEq, Eq)]
+pub struct Text {
+    pub start: usize,
+    pub len: usize,
 }
 
 // ---- braces
 
-fn text_at(template: &[u8], at: usize) -> Text
+fn text_at(template: &[u8], at: usize) -> Option<Text>
     ensures { (text_told result template.now ≡ text_in (drop at template.now)) × TextWithin result template.now at }
 {
     if scan::byte_at(template, at) != b'{' {
-        return Text::Fault;
+        return None;
     }
     let start = at + 1;
     let end = scan::byte_end(template, start, b'}');
     if template.len() <= end {
-        return Text::Fault;
+        return None;
     }
     match end - start {
-        1..=64 => Text::At(start, end - start),
-        _ => Text::Fault,
+        1..=64 => Some(Text {
+            start,
+            len: end - start,
+        }),
+        _ => None,
     }
 }
 
-fn attr_at(template: &[u8], at: usize) -> PieceRead
-    ensures { (told result template.now ≡ item_read (with_text attr 0 (text_in (drop at template.now))) at) × Within result template.now at }
+fn attr_at(template: &[u8], at: usize) -> Option<PieceRead>
+    ensures { (found_told result template.now ≡ item_read (with_text attr 0 (text_in (drop at template.now))) at) × FoundWithin result template.now at }
 {
-    match text_at(template, at) {
-        Text::At(start, len) => PieceRead::Read(Piece::Attr(start, len), start + len + 1),
-        Text::Fault => PieceRead::Fault,
-    }
+    let text = text_at(template, at)?;
+    Some(PieceRead {
+        piece: Piece::Attr(text.start, text.len),
+        next: text.start + text.len + 1,
+    })
 }
 
-fn env_at(template: &[u8], at: usize) -> PieceRead
-    ensures { (told result template.now ≡ item_read (with_text env 0 (text_in (drop at template.now))) at) × Within result template.now at }
+fn env_at(template: &[u8], at: usize) -> Option<PieceRead>
+    ensures { (found_told result template.now ≡ item_read (with_text env 0 (text_in (drop at template.now))) at) × FoundWithin result template.now at }
 {
-    match text_at(template, at) {
-        Text::At(start, len) => PieceRead::Read(Piece::Env(start, len), start + len + 1),
-        Text::Fault => PieceRead::Fault,
-    }
+    let text = text_at(template, at)?;
+    Some(PieceRead {
+        piece: Piece::Env(text.start, text.len),
+        next: text.start + text.len + 1,
+    })
 }
 
 // ---- a program's output (document 02, Item 6)
 
 // The output behind a name of n bytes, which no brace may follow.
-fn result_at(template: &[u8], at: usize, n: usize) -> PieceRead
+fn result_at(template: &[u8], at: usize, n: usize) -> Option<PieceRead>
     requires { (at + n ≤ length template.now) × (0 < n) }
-    ensures { (told result template.now ≡ item_read (formed (whole output) n (drop (at + n) template.now)) at) × Within result template.now at }
+    ensures { (found_told result template.now ≡ item_read (formed (whole output) n (drop (at + n) template.now)) at) × FoundWithin result template.now at }
 {
     if scan::byte_at(template, at + n) == b'{' {
-        PieceRead::Fault
+        None
     } else {
-        PieceRead::Read(Piece::Result, at + n)
+        Some(PieceRead {
+            piece: Piece::Result,
+            next: at + n,
+        })
     }
 }
 
 // ---- behind a per cent sign
 
 // The piece of a letter.
-fn letter_at(template: &[u8], at: usize) -> PieceRead
+fn letter_at(template: &[u8], at: usize) -> Option<PieceRead>
     requires { (at ≤ length template.now) × (get_or template.now at 0 ≡ 37 → ⊥) }
-    ensures { (told result template.now ≡ after_percent template.now at) × Within result template.now at }
+    ensures { (found_told result template.now ≡ after_percent template.now at) × FoundWithin result template.now at }
 {
     match scan::byte_at(template, at) {
-        b'k' => PieceRead::Read(Piece::Kernel, at + 1),
-        b'n' => PieceRead::Read(Piece::Number, at + 1),
-        b'p' => PieceRead::Read(Piece::Devpath, at + 1),
-        b'b' => PieceRead::Read(Piece::Id, at + 1),
+        b'k' => Some(PieceRead {
+            piece: Piece::Kernel,
+            next: at + 1,
+        }),
+        b'n' => Some(PieceRead {
+            piece: Piece::Number,
+            next: at + 1,
+        }),
+        b'p' => Some(PieceRead {
+            piece: Piece::Devpath,
+            next: at + 1,
+        }),
+        b'b' => Some(PieceRead {
+            piece: Piece::Id,
+            next: at + 1,
+        }),
         b's' => attr_at(template, at + 1),
         b'E' => env_at(template, at + 1),
-        b'M' => PieceRead::Read(Piece::Major, at + 1),
-        b'm' => PieceRead::Read(Piece::Minor, at + 1),
+        b'M' => Some(PieceRead {
+            piece: Piece::Major,
+            next: at + 1,
+        }),
+        b'm' => Some(PieceRead {
+            piece: Piece::Minor,
+            next: at + 1,
+        }),
         b'c' => result_at(template, at, 1),
-        _ => PieceRead::Fault,
+        _ => None,
     }
 }
 
 // A letter, or a second per cent sign.
-fn after_percent(template: &[u8], at: usize) -> PieceRead
+fn after_percent(template: &[u8], at: usize) -> Option<PieceRead>
     requires { at ≤ length template.now }
-    ensures { (told result template.now ≡ after_percent template.now at) × Within result template.now at }
+    ensures { (found_told result template.now ≡ after_percent template.now at) × FoundWithin result template.now at }
 {
     match scan::byte_at(template, at) {
         b'a'..=b'z' | b'A'..=b'Z' => letter_at(template, at),
-        b'%' => PieceRead::Read(Piece::Percent, at + 1),
-        _ => PieceRead::Fault,
+        b'%' => Some(PieceRead {
+            piece: Piece::Percent,
+            next: at + 1,
+        }),
+        _ => None,
     }
 }
 
 // ---- behind a dollar sign
 
 // A piece if its name begins at a place.
-fn if_named(template: &[u8], at: usize, name: &[u8], p: Piece) -> PieceRead
+fn if_named(template: &[u8], at: usize, name: &[u8], p: Piece) -> Option<PieceRead>
     requires { (at ≤ length template.now) × (0 < length name.now) × PieceWithin p template.now }
-    ensures { (told result template.now ≡ if_named name.now (meaning p template.now) template.now at) × Within result template.now at }
+    ensures { (found_told result template.now ≡ if_named name.now (meaning p template.now) template.now at) × FoundWithin result template.now at }
 {
     if scan::starts_at(template, at, name) {
-        PieceRead::Read(p, at + name.len())
+        Some(PieceRead {
+            piece: p,
+            next: at + name.len(),
+        })
     } else {
-        PieceRead::Fault
+        None
     }
 }
 
-fn name_at(template: &[u8], at: usize) -> PieceRead
+fn name_at(template: &[u8], at: usize) -> Option<PieceRead>
     requires { (at ≤ length template.now) × (get_or template.now at 0 ≡ 36 → ⊥) }
-    ensures { (told result template.now ≡ after_dollar template.now at) × Within result template.now at }
+    ensures { (found_told result template.now ≡ after_dollar template.now at) × FoundWithin result template.now at }
 {
     match scan::byte_at(template, at) {
         b'k' => if_named(template, at, b"kernel", Piece::Kernel),
@@ -154,12 +189,12 @@ fn name_at(template: &[u8], at: usize) -> PieceRead
         b'a' => if scan::starts_at(template, at, b"attr") {
             attr_at(template, at + 4)
         } else {
-            PieceRead::Fault
+            None
         },
         b'e' => if scan::starts_at(template, at, b"env") {
             env_at(template, at + 3)
         } else {
-            PieceRead::Fault
+            None
         },
         b'm' => if scan::byte_at(template, at + 1) == b'a' {
             if_named(template, at, b"major", Piece::Major)
@@ -169,37 +204,45 @@ fn name_at(template: &[u8], at: usize) -> PieceRead
         b'r' => if scan::starts_at(template, at, b"result") {
             result_at(template, at, 6)
         } else {
-            PieceRead::Fault
+            None
         },
-        _ => PieceRead::Fault,
+        _ => None,
     }
 }
 
 // A name, which begins with a small letter, or a second dollar sign.
-fn after_dollar(template: &[u8], at: usize) -> PieceRead
+fn after_dollar(template: &[u8], at: usize) -> Option<PieceRead>
     requires { at ≤ length template.now }
-    ensures { (told result template.now ≡ after_dollar template.now at) × Within result template.now at }
+    ensures { (found_told result template.now ≡ after_dollar template.now at) × FoundWithin result template.now at }
 {
     match scan::byte_at(template, at) {
         b'a'..=b'z' => name_at(template, at),
-        b'$' => PieceRead::Read(Piece::Dollar, at + 1),
-        _ => PieceRead::Fault,
+        b'$' => Some(PieceRead {
+            piece: Piece::Dollar,
+            next: at + 1,
+        }),
+        _ => None,
     }
 }
 
 // ---- pieces
 
-pub fn piece_at(template: &[u8], at: usize) -> PieceRead
+// The piece at a place, or none at the end.
+pub fn piece_at(template: &[u8], at: usize) -> Result<Option<PieceRead>, Malformed>
     ensures { (told result template.now ≡ read_at template.now at) × Within result template.now at }
 {
     if template.len() <= at {
-        return PieceRead::End;
+        return Ok(None);
     }
-    match template[at] {
-        b'$' => after_dollar(template, at + 1),
-        b'%' => after_percent(template, at + 1),
-        b => PieceRead::Read(Piece::Written(b), at + 1),
-    }
+    let read = match template[at] {
+        b'$' => after_dollar(template, at + 1).ok_or(Malformed)?,
+        b'%' => after_percent(template, at + 1).ok_or(Malformed)?,
+        b => PieceRead {
+            piece: Piece::Written(b),
+            next: at + 1,
+        },
+    };
+    Ok(Some(read))
 }
 
 // The place behind the written bytes that stand from a place on.
@@ -207,18 +250,12 @@ fn written_end(template: &[u8], at: usize) -> usize
     requires { at ≤ length template.now }
     ensures { PassesWritten template.now at result }
 {
-    let mut i = at;
-    while i < template.len() {
-        match template[i] {
-            b'$' | b'%' => {
-                return i;
-            }
-            _ => {
-                i += 1;
-            }
+    for i in at..template.len() {
+        if matches!(template[i], b'$' | b'%') {
+            return i;
         }
     }
-    i
+    template.len()
 }
 
 pub fn well_formed(template: &[u8]) -> bool
@@ -227,15 +264,9 @@ pub fn well_formed(template: &[u8]) -> bool
     let mut i: usize = 0;
     loop {
         match piece_at(template, written_end(template, i)) {
-            PieceRead::Read(_, next) => {
-                i = next;
-            }
-            PieceRead::End => {
-                return true;
-            }
-            PieceRead::Fault => {
-                return false;
-            }
+            Ok(Some(read)) => i = read.next,
+            Ok(None) => return true,
+            Err(Malformed) => return false,
         }
     }
 }
@@ -243,7 +274,7 @@ pub fn well_formed(template: &[u8]) -> bool
 // ---- numbers
 
 // The digits of a number, at the end of an array.
-#[derive(Drop)]
+#[derive(Debug, Clone, Copy, PartialEq, Eq)]
 pub struct Digits {
     pub digits: [u8; 10],
     pub start: usize,

@@ -3,7 +3,7 @@
 
 #![tactic(auto)]
 
-use pieces::{Piece, PieceRead};
+use pieces::{Malformed, Piece};
 use std::io;
 use std::io::{Read, Stdout};
 
@@ -54,15 +54,15 @@ fn show_template(stdout: Stdout, template: &[u8]) {
     let mut i: usize = 0;
     loop {
         match pieces::piece_at(template, i) {
-            PieceRead::Read(p, next) => {
-                show_piece(stdout, template, p);
-                i = next;
+            Ok(Some(read)) => {
+                show_piece(stdout, template, read.piece);
+                i = read.next;
             }
-            PieceRead::End => {
+            Ok(None) => {
                 say(stdout, b"\n");
                 return;
             }
-            PieceRead::Fault => {
+            Err(Malformed) => {
                 return;
             }
         }

@@ -4,7 +4,8 @@ use Prim.Native.Nat.{ℕ, ◌≤◌}
 use mathlib.Core.Path.{◌≡◌, refl, sym, ap, ◌∙◌, subst}
 use mathlib.Core.Bool.{Bool, true, false}
 use mathlib.Core.List.{List, [], ◌∷◌, ◌++◌, append_assoc}
-use mathlib.Core.Option.{Option, none, some, none-ne-some}
+use Rattle.std.specs.Prelude.{Option, None, Some}
+use Rattle.std.proofs.lemmas.Option.{none-some}
 use native.Mathlib.Omega.{arith}
 use borrow.Author.Tests.{leb-true}
 use lib.Dec.{leb}
@@ -43,10 +44,10 @@ pub wish-laws : Laws Wish enc_wish ok_wish one_wish
 wish-laws = record { there = wish_there; back = wish-back }
 
 -- 1 to 16 device records, sound or not, to 65,535 bytes each, and links of at most 255
-pub laid_out : (ws : List Wish) → 1 ≤ length ws → length ws ≤ most_wishes → all ok_wish ws ≡ true → decode_wishes (encode_wishes ws) ≡ some ws
+pub laid_out : (ws : List Wish) → 1 ≤ length ws → length ws ≤ most_wishes → all ok_wish ws ≡ true → decode_wishes (encode_wishes ws) ≡ Some ws
 laid_out ws l m h = set_there wish-laws 1 most_wishes ws l m h
 
-pub laid_back : (bs : List ℕ) (ws : List Wish) → Bytes bs → decode_wishes bs ≡ some ws
+pub laid_back : (bs : List ℕ) (ws : List Wish) → Bytes bs → decode_wishes bs ≡ Some ws
     → (bs ≡ encode_wishes ws) × (all ok_wish ws ≡ true) × (1 ≤ length ws) × (length ws ≤ most_wishes)
 laid_back bs ws h e = set_back wish-laws 1 most_wishes bs ws h e
 
@@ -54,13 +55,13 @@ pub wishes_laid_out : WishesLaidOut
 wishes_laid_out = set_laid_out wish-laws 1 most_wishes
 
 -- no set has more, whatever its bytes
-pub wishes_few : (bs : List ℕ) (ws : List Wish) → decode_wishes bs ≡ some ws → length ws ≤ most_wishes
+pub wishes_few : (bs : List ℕ) (ws : List Wish) → decode_wishes bs ≡ Some ws → length ws ≤ most_wishes
 unfolding decode_set
-wishes_few [] ws e = absurd (none-ne-some ws e)
+wishes_few [] ws e = absurd (none-some ws e)
 wishes_few (n ∷ bs) ws e = at (between 1 most_wishes n) refl e
   where
-    at : (t : Bool) → between 1 most_wishes n ≡ t → elim t as (λ _. Option (List Wish)) [ true ↦ whole (many one_wish n bs) | false ↦ none ] ≡ some ws → length ws ≤ most_wishes
-    at false f e = absurd (none-ne-some ws e)
+    at : (t : Bool) → between 1 most_wishes n ≡ t → elim t as (λ _. Option (List Wish)) [ true ↦ whole (many one_wish n bs) | false ↦ None ] ≡ Some ws → length ws ≤ most_wishes
+    at false f e = absurd (none-some ws e)
     at true f e =
         let (_, l) = many-kept (λ _. true) one_wish (λ _ _ _ _. refl) n bs ws [] (whole-some (many one_wish n bs) ws e) in
         let q = leb-true n most_wishes (and_both (leb 1 n) (leb n most_wishes) f).1 in

@@ -5,7 +5,8 @@ use mathlib.Core.Path.{◌≡◌, refl, sym, ap, ap₂, ◌∙◌, subst}
 use mathlib.Core.Logic.{◌↔◌, inl, inr}
 use mathlib.Core.Bool.{Bool, true, false, ◌&&◌}
 use mathlib.Core.List.{List, [], ◌∷◌, ◌++◌, map, append_assoc}
-use mathlib.Core.Option.{some, some-injective}
+use Rattle.std.specs.Prelude.{Some}
+use Rattle.std.proofs.lemmas.Option.{same_Some}
 use native.Mathlib.Omega.{arith}
 use lib.Dec.{leb}
 use lib.ListN.{length, length-append, take}
@@ -73,7 +74,7 @@ no-answers = record { few = omega arith; each = refl; apart = refl }
 quiet_keeps : (d : Device) (l : List ℕ) (r : Rule) (s s' : State) (held : Bool) → read_line l ≡ rule r → Fine d s → step unanswered d r s ≡ ok (went s' held) → Fine d s'
 quiet_keeps d l r s s' held e (h, g) w = (h, step_good d h unanswered no-answers.each r s s' held (rule-sound l r e) g w)
 
-quiet-again : (d : Device) (s : State) → Fine d s → decode_for d (outcome.encode s) ≡ some s
+quiet-again : (d : Device) (s : State) → Fine d s → decode_for d (outcome.encode s) ≡ Some s
 unfolding decode_for
 quiet-again d s (h, g) = there (length (chain d)) s g
 
@@ -88,7 +89,7 @@ laws =
       fits = λ {d} {s} g. fits (length (chain d)) s g.1;
     }
 
-no_entries : sheet.decode (sheet.encode unanswered) ≡ some unanswered
+no_entries : sheet.decode (sheet.encode unanswered) ≡ Some unanswered
 unfolding sheet.decode sheet.encode
 no_entries = refl
 
@@ -186,7 +187,7 @@ plan-parts ns h m =
 
 -- each device was read from its record
 abbrev Sure : Naming → Type 0
-Sure n = D.decode n.bytes_lent ≡ some n.device
+Sure n = D.decode n.bytes_lent ≡ Some n.device
 
 run-fresh : (t : List ℕ) (n : Naming) → Parts quiet t → Sure n → run_fresh t n ≡ run_from quiet n.device next (outcome.fresh n.device) (rules_of reader t)
 unfolding run_checked decode_for
@@ -247,7 +248,7 @@ module _ (t : List ℕ) (n : Naming) (e : Sure n) where
           (unfold rules_of in run_sound quiet laws n.device (rules_of reader t) next (outcome.fresh n.device) tt r.parts.settled (lines_read quiet (lines t)) good)
 
   -- what an answer's record says
-  read_back : (h : Halt State) → Sound quiet laws n.device h → decode_for n.device (take (answered (ok h)).used (answered (ok h)).bytes) ≡ some h.state
+  read_back : (h : Halt State) → Sound quiet laws n.device h → decode_for n.device (take (answered (ok h)).used (answered (ok h)).bytes) ≡ Some h.state
   unfolding ran
   read_back h s = ap (decode_for n.device) (take-append_seam (outcome.encode h.state) _) ∙ laws.again s.good
 
@@ -274,10 +275,10 @@ module _ (t : List ℕ) (n : Naming) (e : Sure n) where
       let a : run t n.bytes_lent m.start (sheet.encode unanswered) fullest_outcome ≡ answered c = ap (λ (o : List ℕ). run t n.bytes_lent o (sheet.encode unanswered) fullest_outcome) q ∙ (unfold run in ap answered w) in
       at c s (sym (ap (λ (x : Answer). x.number) a) ∙ m.runs) (sym (ap (λ (x : Answer). decode_for n.device (take x.used x.bytes)) a) ∙ m.left)
     where
-      at : (c : Ran State) → Holds (Sound quiet laws n.device) c → (answered c).number ≡ 0 → decode_for n.device (take (answered c).used (answered c).bytes) ≡ some m.state → ends_with n.link c ≡ true
+      at : (c : Ran State) → Holds (Sound quiet laws n.device) c → (answered c).number ≡ 0 → decode_for n.device (take (answered c).used (answered c).bytes) ≡ Some m.state → ends_with n.link c ≡ true
       at (refused (line k f)) s z l = let (j, u) = refusal-number f in let y : number f ≡ 0 = (unfold ran in z) in absurd (omega arith)
       at (ok r) s z l =
-          let p : r.state ≡ m.state = some-injective r.state m.state (sym (read_back r s) ∙ l) in
+          let p : r.state ≡ m.state = same_Some r.state m.state (sym (read_back r s) ∙ l) in
           ap (λ (x : State). only n.link x.links) p ∙ ap (only n.link) m.linked ∙ same_refl n.link
 
   pub names_exact : (names t n ≡ true) ↔ Named t n
@@ -297,14 +298,14 @@ unfolding namings_from
 namings_sure k [] = (tt, refl)
 namings_sure k (w ∷ ws) =
     let Q : List Naming → Type 0 = λ ns. All Sure ns × (length ns ≡ suc (length ws)) in
-    holds-bind (λ (d : Device). D.decode w.device ≡ some d) Q (found (D.decode w.device) (of_record k device_bad)) _ (holds-found (D.decode w.device) (of_record k device_bad))
+    holds-bind (λ (d : Device). D.decode w.device ≡ Some d) Q (found (D.decode w.device) (of_record k device_bad)) _ (holds-found (D.decode w.device) (of_record k device_bad))
     (λ d e. holds-bind (λ (ns : List Naming). All Sure ns × (length ns ≡ length ws)) Q (namings_from (suc k) ws) _ (namings_sure (suc k) ws)
     (λ ns (s, l). ((e, s), ap suc l)))
 
 set_sure : (set : List ℕ) → Holds (λ (ns : List Naming). All Sure ns × (length ns ≤ 16)) (namings set)
 unfolding namings
 set_sure set =
-    holds-bind (λ (ws : List Wish). decode_wishes set ≡ some ws) (λ (ns : List Naming). All Sure ns × (length ns ≤ 16)) (found (decode_wishes set) (of_set set_bad)) _
+    holds-bind (λ (ws : List Wish). decode_wishes set ≡ Some ws) (λ (ns : List Naming). All Sure ns × (length ns ≤ 16)) (found (decode_wishes set) (of_set set_bad)) _
     (holds-found (decode_wishes set) (of_set set_bad))
     (λ ws e. let m = wishes_few set ws e in
     holds-map (λ (ns : List Naming). All Sure ns × (length ns ≡ length ws)) (λ (ns : List Naming). All Sure ns × (length ns ≤ 16)) (namings_from 1 ws) (namings_sure 1 ws)

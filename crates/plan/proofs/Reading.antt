@@ -4,7 +4,7 @@ use Prim.Native.Nat.{ℕ, ◌≤◌}
 use mathlib.Core.Path.{◌≡◌, refl, sym, ap, ap₂, ◌∙◌, subst}
 use mathlib.Core.Bool.{Bool, true, false, not, ◌&&◌, ◌||◌}
 use mathlib.Core.List.{List, [], ◌∷◌, ◌++◌, map, append_assoc}
-use mathlib.Core.Option.{some}
+use Rattle.std.specs.Prelude.{Some}
 use native.Mathlib.Omega.{arith}
 use lib.Dec.{eqb, leb}
 use lib.ListN.{length, length-append}
@@ -62,7 +62,7 @@ without_all c (b ∷ v) h = let (p, q) = neither (eqb b c) (holds c v) h in ap�
 
 -- ---- a value without marks and backslashes
 
-quoted-plain : (v rest : List ℕ) → holds 34 v ≡ false → holds 92 v ≡ false → quoted false (v ++ (34 ∷ rest)) ≡ some (record { value = v; rest = rest })
+quoted-plain : (v rest : List ℕ) → holds 34 v ≡ false → holds 92 v ≡ false → quoted false (v ++ (34 ∷ rest)) ≡ Some (record { value = v; rest = rest })
 unfolding quoted
 quoted-plain [] rest h k = refl
 quoted-plain (b ∷ v) rest h k =
@@ -106,11 +106,11 @@ path-plain v h =
     class_all plan_byte (λ b. not (is_special b))
     (λ b i. ap not (ap₂ ◌||◌ (ap₂ ◌||◌ (ap₂ ◌||◌ (not_in plan_byte 42 refl b i) (not_in plan_byte 63 refl b i)) (not_in plan_byte 91 refl b i)) (not_in plan_byte 124 refl b i))) v h
 
-written-piece : (b : ℕ) (bs : List ℕ) → link_byte b ≡ true → piece_at b bs ≡ some (record { value = written b; more = 0 })
+written-piece : (b : ℕ) (bs : List ℕ) → link_byte b ≡ true → piece_at b bs ≡ Some (record { value = written b; more = 0 })
 written-piece b bs h = rw (not_in link_byte 36 refl b h, not_in link_byte 37 refl b h)
 
 -- every byte is written as it stands
-pub link_pieces : (v : List ℕ) → all link_byte v ≡ true → pieces v ≡ some (map written v)
+pub link_pieces : (v : List ℕ) → all link_byte v ≡ true → pieces v ≡ Some (map written v)
 link_pieces [] h = pieces_end
 link_pieces (b ∷ v) h =
     let (p, q) = and_both (link_byte b) (all link_byte v) h in

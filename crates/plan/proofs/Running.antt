@@ -5,7 +5,7 @@ use mathlib.Core.Path.{◌≡◌, refl, sym, ap, ap₂, ◌∙◌}
 use mathlib.Core.Logic.{◌⊎◌, inl, inr}
 use mathlib.Core.Bool.{Bool, true, false, not, ◌&&◌, ◌||◌}
 use mathlib.Core.List.{List, [], ◌∷◌, map}
-use mathlib.Core.Option.{Option, none, some}
+use Rattle.std.specs.Prelude.{Option, None, Some}
 use native.Mathlib.Omega.{arith}
 use lib.Dec.{eqb, leb}
 use lib.ListN.{length}
@@ -86,7 +86,7 @@ module _ (a : Sheet) (d : Device) (path link : List ℕ) (p : all plan_byte path
   unfolding all_hold pair_holds key_holds value_holds
   holds-path s = ap (λ (t : Bool). t && true) (plain-matches path d.event.path (path-plain path p))
 
-  matched-path : (s : State) (t : Bool) → same_bytes path d.event.path ≡ t → matched d s (rule_of path link) ≡ pick t (some 0) none
+  matched-path : (s : State) (t : Bool) → same_bytes path d.event.path ≡ t → matched d s (rule_of path link) ≡ pick t (Some 0) None
   unfolding matched place_of has_parents
   matched-path s true e = rw (holds-path s ∙ ap (λ (t : Bool). t && true) e, matched)
   matched-path s false e = rw (holds-path s ∙ ap (λ (t : Bool). t && true) e, matched)

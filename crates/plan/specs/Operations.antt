@@ -1,7 +1,7 @@
 -- Document 02, Item 14: the lent set, and the answers of checker and planner: 1 (planner), 7, 3 with its position.
 -- Assumes nothing.
 use Rattle.std.specs.Prelude.{ℕ, suc, Bool, true, false, ◌&&◌, List, [], ◌∷◌, ◌++◌, leb, length}
-use Rattle.std.proofs.Math.Option.{Option, none, some}
+use Rattle.std.specs.Prelude.{Option, None, Some}
 use Rattle.lists.specs.Checked.{Checked, refused, ok, ◌>>=◌, ◌>>◌, require, found}
 use Rattle.lists.specs.Refusal.{target_short, set_bad, device_bad}
 use Rattle.lists.specs.Sizes.{most_text}
@@ -71,16 +71,16 @@ check set text = check_answer text (namings set)
 -- ---- the planner: the count is 1 for a plan, and 0 where it has none
 
 abbrev pub plan_for : Bool → List Naming → Option (List ℕ)
-plan_for true ns = some (plan_text ns)
-plan_for false ns = none
+plan_for true ns = Some (plan_text ns)
+plan_for false ns = None
 
 unfoldable pub plan_checked : List ℕ → ℕ → Checked Fault (Option (List ℕ))
 plan_checked set room = require (leb most_text room) (of_set target_short) >> (namings set >>= λ ns. ok (plan_for (due ns) ns))
 
 abbrev pub plan_answer : ℕ → Checked Fault (Option (List ℕ)) → Answer
 plan_answer room (refused f) = refusal room f
-plan_answer room (ok none) = acceptance room 0 0 0 []
-plan_answer room (ok (some text)) = acceptance room 0 0 1 text
+plan_answer room (ok None) = acceptance room 0 0 0 []
+plan_answer room (ok (Some text)) = acceptance room 0 0 1 text
 
 unfoldable pub plan : List ℕ → ℕ → Answer
 plan set room = plan_answer room (plan_checked set room)

@@ -1,7 +1,7 @@
 -- Document 02, Item 14: what is wanted of checker and planner.
 -- Assumes nothing.
 use Rattle.std.specs.Prelude.{ℕ, ◌≤◌, ◌≡◌, ◌↔◌, true, false, List, [], ◌∷◌, take}
-use Rattle.std.proofs.Math.Option.{none, some}
+use Rattle.std.specs.Prelude.{None, Some}
 use Rattle.lists.specs.Lists.{All}
 use Rattle.lists.specs.Checked.{ok}
 use Rattle.lists.specs.Sizes.{most_text, fullest_outcome}
@@ -32,14 +32,14 @@ pub record Named (text : List ℕ) (n : Naming) : Type 0 where
   pub begun : made (fresh n.bytes_lent fullest_outcome) ≡ start
   pub runs : (run_from text n start).number ≡ 0
   pub state : State
-  pub left : decode_for n.device (made (run_from text n start)) ≡ some state
+  pub left : decode_for n.device (made (run_from text n start)) ≡ Some state
   pub linked : state.links ≡ n.link ∷ []
 
 pub record Planning : Type 0 where
   -- the checker accepts exactly the texts that name every device as wanted
   pub exact : (set text : List ℕ) (ns : List Naming) → namings set ≡ ok ns → ((check set text).count ≡ 1) ↔ All (Named text) ns
   -- where a plan is due, there is one; otherwise there is none
-  pub planned : (set : List ℕ) (room : ℕ) (ns : List Naming) → most_text ≤ room → namings set ≡ ok ns → due ns ≡ true → plan_checked set room ≡ ok (some (plan_text ns))
-  pub none_else : (set : List ℕ) (room : ℕ) (ns : List Naming) → most_text ≤ room → namings set ≡ ok ns → due ns ≡ false → plan_checked set room ≡ ok none
+  pub planned : (set : List ℕ) (room : ℕ) (ns : List Naming) → most_text ≤ room → namings set ≡ ok ns → due ns ≡ true → plan_checked set room ≡ ok (Some (plan_text ns))
+  pub none_else : (set : List ℕ) (room : ℕ) (ns : List Naming) → most_text ≤ room → namings set ≡ ok ns → due ns ≡ false → plan_checked set room ≡ ok None
   -- the checker accepts a plan that was made, for the same set
   pub accepted : (set : List ℕ) (room : ℕ) → (plan set room).count ≡ 1 → (check set (take (plan set room).used (plan set room).bytes)).count ≡ 1

@@ -4,11 +4,12 @@ use Prim.Native.Nat.{ℕ, ◌<◌}
 use mathlib.Core.Path.{◌≡◌, refl, sym, ap, ap₂, ◌∙◌, subst}
 use mathlib.Core.Bool.{Bool, true, false, ◌&&◌}
 use mathlib.Core.List.{List, [], ◌∷◌}
-use mathlib.Core.Option.{some}
+use Rattle.std.specs.Prelude.{Some, Result}
 use lib.ListN.{length}
 use Rattle.device.specs.Device as D
 use Rattle.device_lookup.specs.Lookup.{OfDevice}
-use Rattle.reader.specs.declared.TextRead.{TextRead}
+use Rattle.reader.specs.declared.Counts.{Counts}
+use Rattle.refusals.specs.declared.LineRefusal.{LineRefusal}
 use Rattle.run_each.specs.Runs.{ReadAs}
 use Rattle.set_rows.specs.Places.{bytes_in}
 use Rattle.plan.specs.Plan.{Naming, names, accepts}
@@ -16,7 +17,7 @@ use Rattle.plan_rows.specs.declared.WishPlace.{WishPlace}
 use Rattle.plan_rows.specs.Namings.{namings_in, Whole}
 use Rattle.plan_rows.proofs.Walk.{Walking, Here}
 
-module _ (v r t : List ℕ) (read : TextRead) (set : List ℕ) where
+module _ (v r t : List ℕ) (read : Result Counts LineRefusal) (set : List ℕ) where
   -- the devices that are left decide
   abbrev pub Decide : List Naming → Type 0
   Decide ns = (text : List ℕ) → ReadAs text v r t read → accepts ns text ≡ accepts (namings_in set) text

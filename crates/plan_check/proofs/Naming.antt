@@ -4,7 +4,7 @@ use Prim.Native.Nat.{ℕ, ◌-◌, ◌≤◌}
 use mathlib.Core.Path.{◌≡◌, refl, sym, ap, ap₂, ◌∙◌, subst}
 use mathlib.Core.Bool.{Bool, true, false, ◌||◌}
 use mathlib.Core.List.{List, [], ◌∷◌}
-use mathlib.Core.Option.{some}
+use Rattle.std.specs.Prelude.{Some}
 use native.Mathlib.Omega.{arith}
 use lib.ListN.{length, take, replicate, length-append}
 use lib.Seq.{take-append_seam}
@@ -63,15 +63,15 @@ pub sheet_sound : is_some (sheet.decode (0 ∷ [])) ≡ true
 unfolding sheet.decode
 sheet_sound = refl
 
-pub sheet_none : sheet.decode (0 ∷ []) ≡ some unanswered
+pub sheet_none : sheet.decode (0 ∷ []) ≡ Some unanswered
 unfolding sheet.decode
 sheet_none = refl
 
-no_replies : sheet.decode (sheet.encode unanswered) ≡ some unanswered
+no_replies : sheet.decode (sheet.encode unanswered) ≡ Some unanswered
 unfolding sheet.decode sheet.encode
 no_replies = refl
 
-module _ (dev link : List ℕ) (d : Device) (is : D.decode dev ≡ some d) where
+module _ (dev link : List ℕ) (d : Device) (is : D.decode dev ≡ Some d) where
   abbrev pub naming : Naming
   naming = record { bytes_lent = dev; device = d; link = link }
 
@@ -135,7 +135,7 @@ module _ (n : ℕ) (l : List ℕ) (lay : Layout) (s : State) (w : target.Held n 
       let zeros : List ℕ = replicate (length l - length made) 0 in
       omega (arith, used_is n l lay s w, ap length w.bytes, length-append made zeros)
 
-  pub left_read : O.decode n (take lay.end l) ≡ some s
+  pub left_read : O.decode n (take lay.end l) ≡ Some s
   left_read =
       ap (O.decode n) (ap₂ take (used_is n l lay s w) w.bytes ∙ take-append_seam (O.encode s) _)
       ∙ there n s w.good

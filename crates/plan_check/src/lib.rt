@@ -15,10 +15,9 @@ ghost use Rattle.plan.specs.Operations.{check as check_answer};
 ghost use Rattle.plan_rows.specs.Namings.{namings_in, Whole};
 
 use outcome_target::{HEADER, Layout};
-use plan_rows::Judged;
-use reader::TextRead;
+use reader::Counts;
+use refusals::LineRefusal;
 use rows::Kind;
-use runner::TextRan;
 use set_answers::Given;
 
 // ---- one device
@@ -29,15 +28,12 @@ fn has_only(rec: &[u8], link: &[u8]) -> bool
     ensures { OfRecord rec.now (λ s. result ≡ only link.now s.links) }
 {
     let row = claims::claims_in(rec);
-    if row.count != 1 {
-        return false;
-    }
-    rows::has(rec, row.links, row.count, Kind::Text, link)
+    row.count == 1 && rows::has(rec, row.links, row.count, Kind::Text, link)
 }
 
 // A text that was read names a device as wanted; its fresh record and what the rules leave of it lie in the buffer.
 fn names(
-    read: TextRead,
+    read: Result<Counts, LineRefusal>,
     values: &[u8],
     rows: &[u16],
     rules: &[u16],
@@ -49,7 +45,7 @@ fn names(
     requires { Readable values.now rows.now rules.now jumps.now read × Sound device.now × (length t.old ≡ fullest_outcome) }
     ensures { (text : List ℕ) → ReadAs text values.now rows.now rules.now read → OfDevice device.now (λ d. result ≡ names_naming text (record { bytes_lent = device.now; device = d; link = link.now })) }
 {
-    let TextRead::Accepted(counts) = read else {
+    let Ok(counts) = read else {
         return false;
     };
     let begun = fresh::fresh(device, t);
@@ -74,18 +70,17 @@ fn names(
         t,
         layout,
     );
-    let TextRan::Ended(left, _, _) = ran else {
+    let Ok(ended) = ran else {
         return false;
     };
-    let end = left.end;
-    has_only(&t[..end], link)
+    has_only(&t[..ended.layout.end], link)
 }
 
 // ---- each device
 
 // It names each of the n devices of a set as wanted.
 fn names_each(
-    read: TextRead,
+    read: Result<Counts, LineRefusal>,
     values: &[u8],
     rows: &[u16],
     rules: &[u16],
@@ -97,27 +92,23 @@ fn names_each(
     requires { Readable values.now rows.now rules.now jumps.now read × Whole set.now × (n ≡ length (namings_in set.now)) × (length t.old ≡ fullest_outcome) }
     ensures { (text : List ℕ) → ReadAs text values.now rows.now rules.now read → result ≡ accepts (namings_in set.now) text }
 {
-    let mut p: usize = 1;
-    let mut left = n;
-    while 0 < left {
+    let mut p = 1;
+    for _ in 0..n {
         let place = plan_rows::wish_in(set, p);
-        let device = place.device;
-        let link = place.link;
         let named = names(
             read,
             values,
             rows,
             rules,
             jumps,
-            set_rows::bytes_of(set, device),
-            set_rows::bytes_of(set, link),
+            set_rows::bytes_of(set, place.device),
+            set_rows::bytes_of(set, place.link),
             t,
         );
         if !named {
             return false;
         }
-        p = link.end;
-        left -= 1;
+        p = place.link.end;
     }
     true
 }
@@ -169,9 +160,8 @@ fn accepts_any(text: &[u8], set: &[u8], n: usize) -> bool
 pub fn check(set: &[u8], text: &[u8]) -> Given
     ensures { answered result [] ≡ check_answer set.now text.now }
 {
-    let judged = plan_rows::judge(set);
-    if let Judged::Refused(why, position) = judged {
-        return set_answers::refused(why, position, 0);
+    if let Err(fault) = plan_rows::judge(set) {
+        return set_answers::refused(fault.refusal, fault.position, fault.line);
     }
     if accepts_any(text, set, set_rows::count_of(set)) {
         return set_answers::accepted(0, 0, 0, 1);

@@ -1,10 +1,10 @@
 -- Devices that differ, and when a plan is due, device by device.
 -- Assumes nothing.
-use Prim.Native.Nat.{ℕ, ◌-◌, ◌≤◌, ◌<◌}
-use mathlib.Core.Path.{◌≡◌, refl, sym, ap, ap₂, ◌∙◌, subst}
+use Prim.Native.Nat.{ℕ, ◌-◌}
+use mathlib.Core.Path.{◌≡◌, refl, sym, ap, ap₂, ◌∙◌}
 use mathlib.Core.Bool.{Bool, true, false, not, ◌&&◌, ◌||◌}
-use mathlib.Core.List.{List, [], ◌∷◌, map}
-use mathlib.Core.Option.{some}
+use mathlib.Core.List.{List, ◌∷◌, map}
+use Rattle.std.specs.Prelude.{Some}
 use native.Mathlib.Omega.{arith}
 use lib.ListN.{length}
 use Rattle.lists.specs.Lists.{all}
@@ -31,11 +31,11 @@ module _ (set : List ℕ) (p n : ℕ) (path link : List ℕ) where
   abbrev pub Apart : List Naming → Type 0
   Apart ms = (ns : List Naming) → Standing set p ns → length ns ≡ n → apart path link ms ≡ apart path link ns
 
-  pub apart-first : Stands set p n → Walking Apart set p n
-  apart-first w = record {
+  pub apart-first : Stands set p n → (m : ℕ) → m ≡ n → Walking Apart set p m
+  apart-first w m same = record {
     namings = w.namings;
     standing = w.standing;
-    counted = w.counted;
+    counted = w.counted ∙ sym same;
     so_far = λ ns v e. ap (apart path link) (standing-one set p w.namings ns w.standing v (w.counted ∙ sym e));
   }
 
@@ -80,7 +80,7 @@ module _ (set : List ℕ) where
   due-whole n w e = record { namings = namings_in set; standing = w.standing; counted = sym e; so_far = refl }
 
   module _ (ms : List Naming) (w : Due ms) (r : WishPlace) (here : Here set r ms) (dev link : List ℕ) (i : dev ≡ bytes_in set r.device) (j : link ≡ bytes_in set r.link) where
-    device_is : D.decode dev ≡ some here.naming.device
+    device_is : D.decode dev ≡ Some here.naming.device
     device_is = ap D.decode (i ∙ here.device) ∙ here.sound
 
     pub others_stand : (left : ℕ) → length ms ≡ left → Stands set r.link.end (left - 1)

@@ -4,7 +4,7 @@ use Prim.Native.Nat.{ℕ, zero, suc, ◌+◌, ◌-◌, ◌≤◌, ◌<◌}
 use mathlib.Core.Path.{◌≡◌, refl, sym, ap, ◌∙◌, subst}
 use mathlib.Core.Bool.{true, false}
 use mathlib.Core.List.{List, [], ◌∷◌}
-use mathlib.Core.Option.{Option, none, some}
+use Rattle.std.specs.Prelude.{Option, None, Some}
 use native.Mathlib.Omega.{arith}
 use native.Mathlib.Numerals.{add-one}
 use lib.ListN.{length, drop, get_or}
@@ -29,19 +29,19 @@ use Rattle.plan_rows.specs.Namings.{wish_of, Stand, or_none, namings_in, Whole}
 
 -- why devices are refused, if they are
 abbrev fault_of : Checked Fault (List Naming) → Option Fault
-fault_of (refused f) = some f
-fault_of (ok ns) = none
+fault_of (refused f) = Some f
+fault_of (ok ns) = None
 
-fault_of_lem : (c : Checked Fault (List Naming)) (f : Fault) → fault_of c ≡ some f → c ≡ refused f
+fault_of_lem : (c : Checked Fault (List Naming)) (f : Fault) → fault_of c ≡ Some f → c ≡ refused f
 fault_of_lem (refused g) f e = let q : g ≡ f = cc in ap refused q
 fault_of_lem (ok ns) f e = let z : ◌≡◌ {A = ℕ} 0 1 = cc in absurd (omega arith)
 
-no-fault : (c : Checked Fault (List Naming)) → fault_of c ≡ none → (ns : List Naming) × (c ≡ ok ns)
+no-fault : (c : Checked Fault (List Naming)) → fault_of c ≡ None → (ns : List Naming) × (c ≡ ok ns)
 no-fault (refused f) e = let z : ◌≡◌ {A = ℕ} 0 1 = cc in absurd (omega arith)
 no-fault (ok ns) e = (ns, refl)
 
 -- a sound device leaves it to the others
-sound-first : (n : ℕ) (w : Wish) (ws : List Wish) (d : Device) → D.decode w.device ≡ some d → fault_of (namings_from n (w ∷ ws)) ≡ fault_of (namings_from (suc n) ws)
+sound-first : (n : ℕ) (w : Wish) (ws : List Wish) (d : Device) → D.decode w.device ≡ Some d → fault_of (namings_from n (w ∷ ws)) ≡ fault_of (namings_from (suc n) ws)
 unfolding namings_from
 sound-first n w ws d e = rw e (more (namings_from (suc n) ws))
   where
@@ -49,7 +49,7 @@ sound-first n w ws d e = rw e (more (namings_from (suc n) ws))
     more (refused g) = refl
     more (ok ns) = refl
 
-faulty-first : (n : ℕ) (w : Wish) (ws : List Wish) → D.decode w.device ≡ none → namings_from n (w ∷ ws) ≡ refused (of_record n device_bad)
+faulty-first : (n : ℕ) (w : Wish) (ws : List Wish) → D.decode w.device ≡ None → namings_from n (w ∷ ws) ≡ refused (of_record n device_bad)
 unfolding namings_from
 faulty-first n w ws e = rw e
 
@@ -101,7 +101,7 @@ module _ (set : List ℕ) (p i count : ℕ) (w : Left set p i count) (h : i < co
         fault_of_lem (namings set) (of_record (i + 1) device_bad)
         (sym fault-here
         ∙ ap fault_of (faulty-first (suc i) (wish_in set r) here.others (ap D.decode (sym e) ∙ is_none (D.decode dev) f))
-        ∙ ap (λ (n : ℕ). some (of_record n device_bad)) (sym (add-one i)))
+        ∙ ap (λ (n : ℕ). Some (of_record n device_bad)) (sym (add-one i)))
 
     pub left-sound : (dev : List ℕ) → dev ≡ (wish_in set r).device → is_some (D.decode dev) ≡ true → Left set r.link.end (i + 1) count
     left-sound dev e f =
@@ -122,9 +122,9 @@ bound : {A B : Type 0} (c : Checked Fault A) (k : A → Checked Fault B) (b : B)
 bound (refused f) k b e = let z : ◌≡◌ {A = ℕ} 0 1 = cc in absurd (omega arith)
 bound (ok a) k b e = (a, refl, e)
 
-found_ok : {A : Type 0} (o : Option A) (f : Fault) (a : A) → found o f ≡ ok a → o ≡ some a
-found_ok none f a e = let z : ◌≡◌ {A = ℕ} 0 1 = cc in absurd (omega arith)
-found_ok (some b) f a e = let q : b ≡ a = cc in ap some q
+found_ok : {A : Type 0} (o : Option A) (f : Fault) (a : A) → found o f ≡ ok a → o ≡ Some a
+found_ok None f a e = let z : ◌≡◌ {A = ℕ} 0 1 = cc in absurd (omega arith)
+found_ok (Some b) f a e = let q : b ≡ a = cc in ap Some q
 
 -- the naming of a device and those behind it
 record Split (k : ℕ) (w : Wish) (ws : List Wish) (ns : List Naming) : Type 0 where
@@ -133,7 +133,7 @@ record Split (k : ℕ) (w : Wish) (ws : List Wish) (ns : List Naming) : Type 0 w
   split : ns ≡ naming ∷ others
   device : naming.bytes_lent ≡ w.device
   link : naming.link ≡ w.link
-  sound : D.decode naming.bytes_lent ≡ some naming.device
+  sound : D.decode naming.bytes_lent ≡ Some naming.device
   behind : namings_from (suc k) ws ≡ ok others
 
 split_of : (k : ℕ) (w : Wish) (ws : List Wish) (ns : List Naming) → namings_from k (w ∷ ws) ≡ ok ns → Split k w ws ns
@@ -192,6 +192,6 @@ left-none set p i count w h =
     let (ns, f) = no-fault (namings set) (sym w.fault ∙ at w.wishes e) in
     whole_of set ns f
   where
-    at : (ws : List Wish) → length ws ≡ 0 → fault_of (namings_from (suc i) ws) ≡ none
+    at : (ws : List Wish) → length ws ≡ 0 → fault_of (namings_from (suc i) ws) ≡ None
     at [] z = refl
     at (x ∷ ws) z = absurd (omega arith)

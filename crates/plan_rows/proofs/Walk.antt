@@ -1,9 +1,10 @@
 -- A walk over the devices of a set that is not refused.
 -- Assumes nothing.
-use Prim.Native.Nat.{ℕ, zero, suc, ◌-◌, ◌≤◌, ◌<◌}
+use Prim.Native.Nat.{ℕ, suc, ◌<◌}
 use mathlib.Core.Path.{◌≡◌, refl, sym, ap, ap₂, ◌∙◌, subst}
 use mathlib.Core.List.{List, [], ◌∷◌}
-use mathlib.Core.Option.{some, some-injective}
+use Rattle.std.specs.Prelude.{Some}
+use Rattle.std.proofs.lemmas.Option.{same_Some}
 use native.Mathlib.Omega.{arith}
 use lib.ListN.{length, drop}
 use Rattle.entries.specs.Parse.{got}
@@ -33,7 +34,7 @@ stand_one bs (n ∷ ns) (m ∷ ms) (z, f, v) (y, g, u) e =
     let a : n.bytes_lent ≡ m.bytes_lent = ap (λ (x : Wish). x.device) w in
     let b : n.link ≡ m.link = ap (λ (x : Wish). x.link) w in
     let c : z ≡ y = cc in
-    let d : n.device ≡ m.device = some-injective n.device m.device (sym f.sound ∙ ap D.decode a ∙ g.sound) in
+    let d : n.device ≡ m.device = same_Some n.device m.device (sym f.sound ∙ ap D.decode a ∙ g.sound) in
     ap₂ (λ (x : Naming) (xs : List Naming). x ∷ xs) (λ i. record { bytes_lent = a i; device = d i; link = b i })
     (stand_one z ns ms v (subst (λ (x : List ℕ). Stand x ms) (sym c) u) (omega arith))
 
@@ -47,7 +48,7 @@ pub record Here (set : List ℕ) (r : WishPlace) (ns : List Naming) : Type 0 whe
   pub split : ns ≡ naming ∷ others
   pub device : bytes_in set r.device ≡ naming.bytes_lent
   pub link : bytes_in set r.link ≡ naming.link
-  pub sound : D.decode naming.bytes_lent ≡ some naming.device
+  pub sound : D.decode naming.bytes_lent ≡ Some naming.device
   pub behind : Standing set r.link.end others
 
 pub standing-from : (set : List ℕ) (p : ℕ) (ns : List Naming) → Standing set p ns → 0 < length ns → WishFrom set p
@@ -80,8 +81,8 @@ module _ (P : List Naming → Type 0) (set : List ℕ) (p n : ℕ) (w : Walking 
   pub walk_here : 0 < n → (r : WishPlace) → WishIs set p r → Here set r w.namings
   walk_here h r is = here_of set p r is w.namings w.standing (omega (arith, w.counted))
 
-  pub walk_next : (r : WishPlace) (here : Here set r w.namings) → P here.others → Walking P set r.link.end (n - 1)
-  walk_next r here x = record { namings = here.others; standing = here.behind; counted = omega (arith, ap length here.split, w.counted); so_far = x }
+  pub walk_next : (r : WishPlace) (here : Here set r w.namings) → P here.others → (m : ℕ) → n ≡ suc m → Walking P set r.link.end m
+  walk_next r here x m e = record { namings = here.others; standing = here.behind; counted = omega (arith, ap length here.split, w.counted); so_far = x }
 
   pub walk_last : n ≡ 0 → P []
   walk_last z = subst P (empty w.namings (w.counted ∙ z)) w.so_far

@@ -1,8 +1,8 @@
 -- A device and its wanted link, by the places that code has.
 -- Assumes nothing.
 use Prim.Native.Nat.{ℕ, ◌+◌, ◌-◌, ◌≤◌, ◌<◌}
-use mathlib.Core.Path.{◌≡◌, refl, sym, ap, ap₂, ◌∙◌, subst}
-use mathlib.Core.Bool.{Bool, true, false, ◌&&◌}
+use mathlib.Core.Path.{◌≡◌, sym, ap, ap₂, ◌∙◌, subst}
+use mathlib.Core.Bool.{true, ◌&&◌}
 use mathlib.Core.List.{List}
 use native.Mathlib.Nat.{min-le_left}
 use native.Mathlib.Omega.{arith}
@@ -12,7 +12,7 @@ use lib.Seq.{get_or-drop}
 use lib.ListN.{length, take, drop, get_or, length-drop, length-take}
 use Rattle.lists.specs.Bytes.{Bytes}
 use Rattle.lists.proofs.Tests.{both_and}
-use Rattle.entries.specs.Parse.{Parse, got, bad, bind, keep}
+use Rattle.entries.specs.Parse.{Parse, got, bad, bind}
 use Rattle.entries.specs.Entry.{one_text}
 use Rattle.entries.proofs.Rows.{through}
 use Rattle.entries.proofs.Entries.{keep_there}
@@ -26,7 +26,7 @@ use Rattle.set_rows.specs.Places.{bytes_in, LongFrom, LongIs}
 use Rattle.set_rows.specs.declared.Part.{Part}
 use Rattle.plan.specs.Operations.{Wish, most_wanted, short_link, one_wish}
 use Rattle.plan_rows.specs.declared.WishPlace.{WishPlace}
-use Rattle.plan_rows.specs.Places.{wish_in, WishFrom, WishIs}
+use Rattle.plan_rows.specs.Places.{WishFrom, WishIs}
 
 -- ---- the link
 

@@ -1,16 +1,15 @@
 -- The devices of a lent set beside the links that they are to have.
 -- Assumes nothing.
 use Rattle.std.specs.Prelude.{ℕ, ◌≤◌, ◌≡◌, List, [], ◌∷◌, length, drop, get_or}
-use Rattle.std.proofs.Math.Option.{some}
+use Rattle.std.specs.Prelude.{Some, Result, Ok, Err}
 use Rattle.lists.specs.Checked.{Checked, refused, ok}
 use Rattle.entries.specs.Parse.{got}
 use Rattle.device.specs.Device as D
-use Rattle.refusals.specs.Refusals.{refusal_of}
-use Rattle.sets.specs.Answer.{Fault, of_record}
+use Rattle.refusals.specs.declared.SetRefusal.{SetRefusal}
+use Rattle.set_answers.specs.Answers.{fault_of}
+use Rattle.sets.specs.Answer.{Fault}
 use Rattle.plan.specs.Plan.{Naming}
 use Rattle.plan.specs.Operations.{most_wishes, Wish, one_wish, namings}
-use Rattle.plan_rows.specs.declared.Judged.{Judged}
-use Rattle.plan_rows.specs.declared.Judged.TheVariants as judged
 
 -- ---- from a place on
 
@@ -20,7 +19,7 @@ wish_of n = record { device = n.bytes_lent; link = n.link }
 -- a naming at the front, and what follows it
 pub record First (bs : List ℕ) (n : Naming) (z : List ℕ) : Type 0 where
   pub read : one_wish bs ≡ got (wish_of n) z
-  pub sound : D.decode n.bytes_lent ≡ some n.device
+  pub sound : D.decode n.bytes_lent ≡ Some n.device
 
 -- namings, one behind the other
 abbrev pub Stand : List ℕ → List Naming → Type 0
@@ -50,6 +49,6 @@ pub record Whole (set : List ℕ) : Type 0 where
   pub held : namings set ≡ ok (namings_in set)
   pub standing : Standing set 1 (namings_in set)
 
-abbrev pub JudgedIs : List ℕ → Judged → Type 0
-JudgedIs set judged.Sound = Whole set
-JudgedIs set (judged.Refused why n) = (namings set ≡ refused (of_record n (refusal_of why))) × (n ≤ most_wishes)
+abbrev pub JudgedIs : List ℕ → Result (Unit {0}) SetRefusal → Type 0
+JudgedIs set (Ok u) = Whole set
+JudgedIs set (Err f) = (namings set ≡ refused (fault_of f)) × (f.position ≤ most_wishes) × (f.line ≡ 0)

@@ -1,12 +1,11 @@
 -- Where the devices and the wanted links of a lent set stand, as code reads them.
 -- Assumes nothing.
 use Rattle.std.specs.Prelude.{ℕ, ◌≤◌, ◌≡◌, List, length, drop}
+use Rattle.std.specs.Prelude.{Option, None, Some}
 use Rattle.entries.specs.Parse.{got, bad}
 use Rattle.set_rows.specs.Places.{bytes_in, Inside}
 use Rattle.plan.specs.Operations.{Wish, one_wish}
 use Rattle.plan_rows.specs.declared.WishPlace.{WishPlace}
-use Rattle.plan_rows.specs.declared.WishRead.{WishRead}
-use Rattle.plan_rows.specs.declared.WishRead.TheVariants as wish
 
 abbrev pub wish_in : List ℕ → WishPlace → Wish
 wish_in set r = record { device = bytes_in set r.device; link = bytes_in set r.link }
@@ -24,6 +23,6 @@ pub record WishIs (set : List ℕ) (p : ℕ) (r : WishPlace) : Type 0 where
   pub link : Inside set r.link
   pub read : one_wish (drop p set) ≡ got (wish_in set r) (drop r.link.end set)
 
-abbrev pub WishReads : List ℕ → ℕ → WishRead → Type 0
-WishReads set p (wish.Inside r) = WishIs set p r
-WishReads set p wish.Outside = one_wish (drop p set) ≡ bad
+abbrev pub WishReads : List ℕ → ℕ → Option WishPlace → Type 0
+WishReads set p (Some r) = WishIs set p r
+WishReads set p None = one_wish (drop p set) ≡ bad

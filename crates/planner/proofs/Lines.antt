@@ -1,9 +1,9 @@
 -- A plan, line by line, and a line part by part.
 -- Assumes nothing.
-use Prim.Native.Nat.{ℕ, ◌+◌, ◌-◌, ◌≤◌, ◌<◌}
+use Prim.Native.Nat.{ℕ, suc, ◌+◌, ◌≤◌, ◌<◌}
 use mathlib.Core.Path.{◌≡◌, refl, sym, ap, ap₂, ◌∙◌, subst}
 use mathlib.Core.List.{List, [], ◌∷◌, ◌++◌, append_assoc}
-use mathlib.Core.Option.{some}
+use Rattle.std.specs.Prelude.{Some}
 use native.Mathlib.Omega.{arith}
 use lib.ListN.{length}
 use Rattle.lists.specs.Quoted.{bytes}
@@ -60,8 +60,8 @@ module _ (set l₀ l : List ℕ) (u : ℕ) (ms : List Naming) (w : Left set l₀
     pub line_room : length (plan_text (namings_in set)) ≤ length l₀ → u + length (plan_line path link) ≤ length l
     line_room h = part_room (plan_line path link) (plan_text here.others) line-here (omega (arith, h))
 
-    pub line-next : (v : ℕ) (l' : List ℕ) → Placed (plan_line path link) l u v l' → (left : ℕ) → length ms ≡ left → Walking (Left set l₀ l' v) set r.link.end (left - 1)
-    line-next v l' p left e = record {
+    pub line-next : (v : ℕ) (l' : List ℕ) → Placed (plan_line path link) l u v l' → (m : ℕ) → length ms ≡ suc m → Walking (Left set l₀ l' v) set r.link.end m
+    line-next v l' p m e = record {
       namings = here.others;
       standing = here.behind;
       counted = omega (arith, ap length here.split, e);

@@ -11,7 +11,6 @@ ghost use Rattle.plan.specs.Operations.{plan as plan_answer};
 ghost use Rattle.plan_rows.specs.Namings.{namings_in, Whole};
 ghost use Rattle.planner.specs.Lines.{plan_line};
 
-use plan_rows::Judged;
 use refusals::Refusal;
 use set_answers::Given;
 
@@ -32,17 +31,13 @@ fn put_plan(set: &[u8], n: usize, out: &mut [u8]) -> usize
     requires { Whole set.now × (n ≡ length (namings_in set.now)) × (length (plan_text (namings_in set.now)) ≤ length out.old) }
     ensures { Placed (plan_text (namings_in set.now)) out.old 0 result out.new }
 {
-    let mut p: usize = 1;
-    let mut used: usize = 0;
-    let mut left = n;
-    while 0 < left {
+    let mut p = 1;
+    let mut used = 0;
+    for _ in 0..n {
         let place = plan_rows::wish_in(set, p);
-        let device = place.device;
-        let wanted = place.link;
-        let path = plan_due::event_path(set_rows::bytes_of(set, device));
-        used = put_line(out, used, path, set_rows::bytes_of(set, wanted));
-        p = wanted.end;
-        left -= 1;
+        let path = plan_due::event_path(set_rows::bytes_of(set, place.device));
+        used = put_line(out, used, path, set_rows::bytes_of(set, place.link));
+        p = place.link.end;
     }
     used
 }
@@ -57,9 +52,8 @@ pub fn plan(set: &[u8], target: &mut [u8]) -> Given
     if target.len() < MOST_TEXT {
         return set_answers::refused(Refusal::TargetShort, 0, 0);
     }
-    let judged = plan_rows::judge(set);
-    if let Judged::Refused(why, position) = judged {
-        return set_answers::refused(why, position, 0);
+    if let Err(fault) = plan_rows::judge(set) {
+        return set_answers::refused(fault.refusal, fault.position, fault.line);
     }
     let n = set_rows::count_of(set);
     if !plan_due::due(set, n) {

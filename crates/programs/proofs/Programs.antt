@@ -4,7 +4,7 @@ use Prim.Native.Nat.{ℕ, ◌+◌, ◌≤◌}
 use mathlib.Core.Path.{◌≡◌, refl, sym, ◌∙◌, ap, subst}
 use mathlib.Core.Bool.{Bool, true, false, not, ◌&&◌}
 use mathlib.Core.List.{List}
-use mathlib.Core.Option.{Option, none, some}
+use Rattle.std.specs.Prelude.{Option, None, Some, Result, Ok, Err}
 use native.Mathlib.Omega.{arith}
 use lib.Dec.{leb}
 use lib.ListN.{length, take, drop}
@@ -18,6 +18,7 @@ use Rattle.lists.proofs.Tests.{and_both, both_and}
 use Rattle.lists.proofs.Bytes.{chomp-clean, chomp-size}
 use Rattle.rules.specs.Key.{PROGRAM, same_key, Op}
 use Rattle.rules.specs.Pair.{Pair}
+use Rattle.refusals.specs.declared.Refusal.{Refusal}
 use Rattle.refusals.specs.declared.Refusal.TheVariants.{CommandMissing}
 use Rattle.device.specs.Device.{Device}
 use Rattle.outcome.specs.Content.{ok_output}
@@ -27,10 +28,8 @@ use Rattle.outcome_target.specs.Held as target
 use Rattle.outcome_target.specs.declared.Layout.{Layout}
 use Rattle.sheet.specs.Sheet.{Reply, Sheet, ok_reply, decode, reply_to}
 use Rattle.sheet.proofs.RoundTrip.{reply_sizes, reply_output}
-use Rattle.sheet_check.specs.Replies as replies
 use Rattle.sheet_check.specs.Replies.{Told, AnswersTo}
-use Rattle.sheet_check.specs.declared.Replied.{Replied}
-use Rattle.sheet_check.specs.declared.Replied.TheVariants as reply
+use Rattle.sheet_check.specs.declared.Reply as answers
 use Rattle.text.specs.Engine.{Stepped, went}
 use Rattle.engine.specs.Substitute.{filled}
 use Rattle.engine.specs.Assign.{source_of}
@@ -77,38 +76,35 @@ module _ (a : Sheet) (o : Op) (command : List ℕ) (s : State) where
       let r = w.reply in
       rw (w.is, stored-by r s, w.success, w.output)
 
-  replied_missing : reply_to command a ≡ none → replied a o command s ≡ refused refusal.command_missing
+  replied_missing : reply_to command a ≡ None → replied a o command s ≡ refused refusal.command_missing
   replied_missing e = rw e
 
-module _ (o : Op) (command sheet : List ℕ) (x : Replied) (c : AnswersTo command sheet x) where
+module _ (o : Op) (command sheet : List ℕ) where
   -- a reply is on it
-  module _ (good : Bool) (start len : ℕ) (q : x ≡ reply.At good start len) where
-    told : (a : Sheet) → decode sheet ≡ some a → Told sheet (reply_to command a) good start len
-    told a e = subst (λ (y : Replied). replies.Says sheet (reply_to command a) y) q (c a e)
+  module _ (x : answers.Reply) (c : AnswersTo command sheet (Some x)) where
+    pub told_output : (a : Sheet) → decode sheet ≡ Some a → ok_output (take x.len (drop x.start sheet)) ≡ true
+    told_output a e = let w = c a e in subst (λ (y : List ℕ). ok_output y ≡ true) w.output (output_sound w.reply w.sound)
 
-    pub told_output : (a : Sheet) → decode sheet ≡ some a → ok_output (take len (drop start sheet)) ≡ true
-    told_output a e = let w = told a e in subst (λ (y : List ℕ). ok_output y ≡ true) w.output (output_sound w.reply w.sound)
+    pub told-within : (a : Sheet) → decode sheet ≡ Some a → x.start + x.len ≤ length sheet
+    told-within a e = (c a e).within
 
-    pub told-within : (a : Sheet) → decode sheet ≡ some a → start + len ≤ length sheet
-    told-within a e = (told a e).within
-
-    module _ (t : List ℕ) (lay : Layout) (t' : List ℕ) (lay' : Layout) (w : target.Changed (stored_by good (take len (drop start sheet))) t lay t' lay') where
-      pub reply_holds : program_holds o good ≡ true → Replies o command sheet t lay t' (answer.Held lay')
+    module _ (t : List ℕ) (lay : Layout) (t' : List ℕ) (lay' : Layout) (w : target.Changed (stored_by x.success (take x.len (drop x.start sheet))) t lay t' lay') where
+      pub reply_holds : program_holds o x.success ≡ true → Replies o command sheet t lay t' (Ok (answer.Held lay'))
       reply_holds h a e n s k =
-          (stored_by good (take len (drop start sheet)) s, replied_at a o command s sheet good start len (told a e) ∙ ap (λ b. ok (went (stored_by good (take len (drop start sheet)) s) b)) h, w n s k)
+          (stored_by x.success (take x.len (drop x.start sheet)) s, replied_at a o command s sheet x.success x.start x.len (c a e) ∙ ap (λ b. ok (went (stored_by x.success (take x.len (drop x.start sheet)) s) b)) h, w n s k)
 
-      pub reply_fails : program_holds o good ≡ false → Replies o command sheet t lay t' (answer.Failed lay')
+      pub reply_fails : program_holds o x.success ≡ false → Replies o command sheet t lay t' (Ok (answer.Failed lay'))
       reply_fails h a e n s k =
-          (stored_by good (take len (drop start sheet)) s, replied_at a o command s sheet good start len (told a e) ∙ ap (λ b. ok (went (stored_by good (take len (drop start sheet)) s) b)) h, w n s k)
+          (stored_by x.success (take x.len (drop x.start sheet)) s, replied_at a o command s sheet x.success x.start x.len (c a e) ∙ ap (λ b. ok (went (stored_by x.success (take x.len (drop x.start sheet)) s) b)) h, w n s k)
 
   -- none is (35)
-  pub reply_missing : x ≡ reply.Missing → (t : List ℕ) (lay : Layout) → Replies o command sheet t lay t (answer.Refused CommandMissing)
-  reply_missing q t lay a e n s k = replied_missing a o command s (subst (λ (y : Replied). replies.Says sheet (reply_to command a) y) q (c a e))
+  pub reply_missing : AnswersTo command sheet None → (t : List ℕ) (lay : Layout) → Replies o command sheet t lay t (Err CommandMissing)
+  reply_missing c t lay a e n s k = replied_missing a o command s (c a e)
 
 -- ---- a PROGRAM
 
 module _ (a : Sheet) (d : Device) (place : ℕ) (o : Op) (v : List ℕ) (s : State) where
-  pub command_says : (x : List ℕ) → filled false (source_of d place s) v ≡ ok x → (n : ℕ) (t' : List ℕ) (y : Asked) → Says n t' y (replied a o x s) → Says n t' y (asked_by a d place o v s)
+  pub command_says : (x : List ℕ) → filled false (source_of d place s) v ≡ ok x → (n : ℕ) (t' : List ℕ) (y : Result Asked Refusal) → Says n t' y (replied a o x s) → Says n t' y (asked_by a d place o v s)
   command_says x q n t' y h = let e : replied a o x s ≡ asked_by a d place o v s = rw q in subst (Says n t' y) e h
 
   pub command_long : filled false (source_of d place s) v ≡ refused refusal.substitution_long → asked_by a d place o v s ≡ refused refusal.substitution_long
@@ -125,5 +121,5 @@ module _ (a : Sheet) (d : Device) (place : ℕ) (p : Pair) (s : State) where
   unfolding ask_pair asked
   pair_asked e = rw (e, ask_pair)
 
-  pub pair_says : same_key p.key PROGRAM ≡ true → (n : ℕ) (t' : List ℕ) (y : Asked) → Says n t' y (asked_by a d place p.op p.value s) → Says n t' y (ask_pair a d place p s)
+  pub pair_says : same_key p.key PROGRAM ≡ true → (n : ℕ) (t' : List ℕ) (y : Result Asked Refusal) → Says n t' y (asked_by a d place p.op p.value s) → Says n t' y (ask_pair a d place p s)
   pair_says e n t' y h = subst (Says n t' y) (pair_asked e) h

@@ -4,7 +4,7 @@ use Prim.Native.Nat.{ℕ, ◌+◌, ◌-◌, ◌≤◌, ◌<◌}
 use mathlib.Core.Path.{◌≡◌, refl, sym, ◌∙◌, ap, subst}
 use mathlib.Core.Bool.{Bool, true, false}
 use mathlib.Core.List.{List}
-use mathlib.Core.Option.{some}
+use Rattle.std.specs.Prelude.{Some, Result, Ok, Err}
 use lib.ListN.{length}
 use Rattle.lists.specs.Lists.{is_some, all}
 use Rattle.lists.specs.Checked.{Checked, refused, ok, ◌>>=◌}
@@ -63,44 +63,44 @@ module _ (v r : List ℕ) (i n : ℕ) (x : List ℕ) where
 
 -- ---- a rule
 
-module _ (r : Rule) (place : ℕ) (sheet dev : List ℕ) (places : Chain) (t : List ℕ) (lay : Layout) (t' : List ℕ) (x : Asked)
+module _ (r : Rule) (place : ℕ) (sheet dev : List ℕ) (places : Chain) (t : List ℕ) (lay : Layout) (t' : List ℕ) (x : Result Asked Refusal)
     (c : AsksBeside (λ a d s. ask_all a d place r s) sheet dev places t lay t' x) where
-  says : (y : Asked) → x ≡ y → (a : Sheet) → decode sheet ≡ some a → (d : Device) (s : State) → Denotes dev places t lay d s → Says (length (chain d)) t' y (ask_all a d place r s)
-  says y q a e d s z = subst (λ (x : Asked). Says (length (chain d)) t' x (ask_all a d place r s)) q (c a e d s z)
+  says : (y : Result Asked Refusal) → x ≡ y → (a : Sheet) → decode sheet ≡ Some a → (d : Device) (s : State) → Denotes dev places t lay d s → Says (length (chain d)) t' y (ask_all a d place r s)
+  says y q a e d s z = subst (λ (x : Result Asked Refusal). Says (length (chain d)) t' x (ask_all a d place r s)) q (c a e d s z)
 
-  abbrev Judged : Asked → Type 0
+  abbrev Judged : Result Asked Refusal → Type 0
   Judged y = AsksBeside (λ a d s. judged_by a d place r s) sheet dev places t lay t' y
 
   abbrev on : Checked refusal.Refusal (Stepped State) → Checked refusal.Refusal (Stepped State)
   on c = c >>= λ x. asked_then x (λ s'. ok (went s' (results_hold s' r)))
 
   -- a program did not hold, or was refused
-  pub judged_failed : (lay' : Layout) → x ≡ asked.Failed lay' → Judged (asked.Failed lay')
-  judged_failed lay' q a e d s z = let (s', f, y) = says (asked.Failed lay') q a e d s z in (s', ap on f, y)
+  pub judged_failed : (lay' : Layout) → x ≡ Ok (asked.Failed lay') → Judged (Ok (asked.Failed lay'))
+  judged_failed lay' q a e d s z = let (s', f, y) = says (Ok (asked.Failed lay')) q a e d s z in (s', ap on f, y)
 
-  pub judged-refused : (y : Refusal) → x ≡ asked.Refused y → Judged (asked.Refused y)
+  pub judged-refused : (y : Refusal) → x ≡ Err y → Judged (Err y)
   judged-refused y q a e d s z =
-      let f : ask_all a d place r s ≡ refused (refusal_of y) = says (asked.Refused y) q a e d s z in
+      let f : ask_all a d place r s ≡ refused (refusal_of y) = says (Err y) q a e d s z in
       ap on f
 
   -- all programs hold: the output that is stored stands in the target
-  pub output_within : is_some (decode sheet) ≡ true → Ready dev places t lay → (lay' : Layout) → x ≡ asked.Held lay' → header_size + number_at t' 88 10 ≤ length t'
+  pub output_within : is_some (decode sheet) ≡ true → Ready dev places t lay → (lay' : Layout) → x ≡ Ok (asked.Held lay') → header_size + number_at t' 88 10 ≤ length t'
   output_within h (d, s, z) lay' q =
       let (a, e) = is-some (decode sheet) h in
-      let (s', f, y) = says (asked.Held lay') q a e d s z in
+      let (s', f, y) = says (Ok (asked.Held lay')) q a e d s z in
       (held_output (length (chain d)) t' lay' s' y).within
 
-  module _ (lay' : Layout) (q : x ≡ asked.Held lay') (output : List ℕ) (is : output ≡ output_in t') (b : Bool) (f : b ≡ results_on output r) where
-    after : (a : Sheet) → decode sheet ≡ some a → (d : Device) (s : State) → Denotes dev places t lay d s
+  module _ (lay' : Layout) (q : x ≡ Ok (asked.Held lay')) (output : List ℕ) (is : output ≡ output_in t') (b : Bool) (f : b ≡ results_on output r) where
+    after : (a : Sheet) → decode sheet ≡ Some a → (d : Device) (s : State) → Denotes dev places t lay d s
         → (s' : State) × (judged_by a d place r s ≡ ok (went s' b)) × Denotes dev places t' lay' d s'
     after a e d s z =
-        let (s', g, y) = says (asked.Held lay') q a e d s z in
+        let (s', g, y) = says (Ok (asked.Held lay')) q a e d s z in
         let z' : Denotes dev places t' lay' d s' = record { device = z.device; chained = z.chained; held = y } in
         let h : results_hold s' r ≡ b = sym (f ∙ ap (λ o. results_on o r) (is ∙ (held_output (length (chain d)) t' lay' s' y).is) ∙ results_on_lem s' r) in
         (s', ap on g ∙ ap (λ b. ok (went s' b)) h, z')
 
-    pub judged-held : b ≡ true → Judged (asked.Held lay')
+    pub judged-held : b ≡ true → Judged (Ok (asked.Held lay'))
     judged-held h a e d s z = let (s', g, z') = after a e d s z in (s', g ∙ ap (λ b. ok (went s' b)) h, z'.held)
 
-    pub judged_missed : b ≡ false → Judged (asked.Failed lay')
+    pub judged_missed : b ≡ false → Judged (Ok (asked.Failed lay'))
     judged_missed h a e d s z = let (s', g, z') = after a e d s z in (s', g ∙ ap (λ b. ok (went s' b)) h, z'.held)

@@ -4,7 +4,7 @@ use Prim.Native.Nat.{ℕ, ◌+◌, ◌-◌, ◌≤◌, ◌<◌}
 use mathlib.Core.Path.{◌≡◌, refl, sym, ◌∙◌, ap, subst}
 use mathlib.Core.Bool.{true, false}
 use mathlib.Core.List.{List, [], ◌∷◌}
-use mathlib.Core.Option.{some}
+use Rattle.std.specs.Prelude.{Some, Result, Ok, Err}
 use native.Mathlib.Omega.{arith}
 use lib.ListN.{length}
 use Rattle.lists.specs.Lists.{is_some}
@@ -35,7 +35,7 @@ module _ (v r : List ℕ) (from to : ℕ) (sheet t₀ dev : List ℕ) (places : 
   abbrev pairs : ℕ → Rule
   pairs i = pairs_from v r i (to - i)
 
-  abbrev All : List ℕ → Asked → Type 0
+  abbrev All : List ℕ → Result Asked Refusal → Type 0
   All t x = AsksBeside (λ a d s. ask_all a d place (pairs from) s) sheet dev places t₀ lay₀ t x
 
   -- they give what all pairs give
@@ -43,7 +43,7 @@ module _ (v r : List ℕ) (from to : ℕ) (sheet t₀ dev : List ℕ) (places : 
     pub room : length t ≡ length t₀
     pub ordered : i ≤ to
     pub sound : Assignables (pairs i)
-    pub going : (a : Sheet) → decode sheet ≡ some a → (d : Device) (s₀ : State) → Denotes dev places t₀ lay₀ d s₀
+    pub going : (a : Sheet) → decode sheet ≡ Some a → (d : Device) (s₀ : State) → Denotes dev places t₀ lay₀ d s₀
         → (s : State) × Denotes dev places t lay d s × (ask_all a d place (pairs i) s ≡ ask_all a d place (pairs from) s₀)
 
   pub going_start : RuleRows v r from to → Going t₀ lay₀ from
@@ -54,7 +54,7 @@ module _ (v r : List ℕ) (from to : ℕ) (sheet t₀ dev : List ℕ) (places : 
     still_ready q (d, s₀, h) = let (a, e) = is-some (decode sheet) q in let (s, z, f) = g.going a e d s₀ h in (d, s, z)
 
     -- behind the last row
-    pub going_end : to ≤ i → All t (asked.Held lay)
+    pub going_end : to ≤ i → All t (Ok (asked.Held lay))
     unfolding ask_all
     going_end h a e d s₀ k =
         let (s, z, b) = g.going a e d s₀ k in
@@ -74,29 +74,29 @@ module _ (v r : List ℕ) (from to : ℕ) (sheet t₀ dev : List ℕ) (places : 
       unfolding ask_all
       all-next a d s = ap (λ (ps : Rule). ask_all a d place ps s) (rows-here v r i to e got h)
 
-      module _ (t' : List ℕ) (x : Asked) (c : AsksBeside (λ a d s. ask_pair a d place (entry_of v e) s) sheet dev places t lay t' x) where
-        says : (y : Asked) → x ≡ y → (a : Sheet) → decode sheet ≡ some a → (d : Device) (s : State) → Denotes dev places t lay d s → Says (length (chain d)) t' y (ask_pair a d place (entry_of v e) s)
-        says y q a f d s z = subst (λ (x : Asked). Says (length (chain d)) t' x (ask_pair a d place (entry_of v e) s)) q (c a f d s z)
+      module _ (t' : List ℕ) (x : Result Asked Refusal) (c : AsksBeside (λ a d s. ask_pair a d place (entry_of v e) s) sheet dev places t lay t' x) where
+        says : (y : Result Asked Refusal) → x ≡ y → (a : Sheet) → decode sheet ≡ Some a → (d : Device) (s : State) → Denotes dev places t lay d s → Says (length (chain d)) t' y (ask_pair a d place (entry_of v e) s)
+        says y q a f d s z = subst (λ (x : Result Asked Refusal). Says (length (chain d)) t' x (ask_pair a d place (entry_of v e) s)) q (c a f d s z)
 
-        pub going_on : (lay' : Layout) → x ≡ asked.Held lay' → length t' ≡ length t → Going t' lay' (i + 1)
+        pub going_on : (lay' : Layout) → x ≡ Ok (asked.Held lay') → length t' ≡ length t → Going t' lay' (i + 1)
         going_on lay' q u = record {
           room = u ∙ g.room;
           ordered = omega arith;
           sound = sound-here.1;
           going = λ a f d s₀ k.
               let (s, z, b) = g.going a f d s₀ k in
-              let (s', w, y) = says (asked.Held lay') q a f d s z in
+              let (s', w, y) = says (Ok (asked.Held lay')) q a f d s z in
               (s', record { device = z.device; chained = z.chained; held = y }, sym (all-next a d s ∙ ap (on a d) w) ∙ b);
         }
 
-        pub going_failed : (lay' : Layout) → x ≡ asked.Failed lay' → All t' (asked.Failed lay')
+        pub going_failed : (lay' : Layout) → x ≡ Ok (asked.Failed lay') → All t' (Ok (asked.Failed lay'))
         going_failed lay' q a f d s₀ k =
             let (s, z, b) = g.going a f d s₀ k in
-            let (s', w, y) = says (asked.Failed lay') q a f d s z in
+            let (s', w, y) = says (Ok (asked.Failed lay')) q a f d s z in
             (s', sym b ∙ all-next a d s ∙ ap (on a d) w, y)
 
-        pub going_refused : (y : Refusal) → x ≡ asked.Refused y → All t' (asked.Refused y)
+        pub going_refused : (y : Refusal) → x ≡ Err y → All t' (Err y)
         going_refused y q a f d s₀ k =
             let (s, z, b) = g.going a f d s₀ k in
-            let w : ask_pair a d place (entry_of v e) s ≡ refused (refusal_of y) = says (asked.Refused y) q a f d s z in
+            let w : ask_pair a d place (entry_of v e) s ≡ refused (refusal_of y) = says (Err y) q a f d s z in
             sym b ∙ all-next a d s ∙ ap (on a d) w

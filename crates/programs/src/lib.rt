@@ -16,19 +16,16 @@ ghost use Rattle.assignment.specs.Assignment.{Readable, RuleRows};
 ghost use Rattle.programs.specs.Programs.{stored_by, Replies, asked_by, judged_by, result_on, results_on, AsksBeside};
 
 use device_lookup::Chain;
-use insertion::Put;
 use keys::Operator;
 use outcome_target::Layout;
 use refusals::Refusal;
-use sheet_check::Replied;
 use table::Entry;
 
-// The keys that were asked hold, or one of them does not, and the record is left in a layout; or one is refused.
-#[derive(Drop)]
+// The keys that were asked hold, or one of them does not; the record is left in a layout.
+#[derive(Clone, Copy)]
 pub enum Asked {
     Held(Layout),
     Failed(Layout),
-    Refused(Refusal),
 }
 
 // ---- one program
@@ -37,12 +34,8 @@ fn program_holds(operator: Operator, success: bool) -> bool
     ensures { result ≡ engine.program_holds (operator_of operator) success }
 {
     match operator {
-        Operator::Equal => success,
         Operator::Unequal => !success,
-        Operator::Assign => success,
-        Operator::Add => success,
-        Operator::Remove => success,
-        Operator::Final => success,
+        _ => success,
     }
 }
 
@@ -65,20 +58,17 @@ fn ask_command(
     operator: Operator,
     command: &[u8],
     sheet: &[u8],
-) -> Asked
+) -> Result<Asked, Refusal>
     requires { Holds t.old layout × (is_some (decode sheet.now) ≡ true) }
     ensures { Replies (operator_of operator) command.now sheet.now t.old layout t.new result }
 {
-    match sheet_check::find(sheet, command) {
-        Replied::At(success, start, len) => {
-            let left = store(t, layout, success, &sheet[start..start + len]);
-            if program_holds(operator, success) {
-                Asked::Held(left)
-            } else {
-                Asked::Failed(left)
-            }
-        }
-        Replied::Missing => Asked::Refused(Refusal::CommandMissing),
+    let reply = sheet_check::find(sheet, command).ok_or(Refusal::CommandMissing)?;
+    let output = &sheet[reply.start..reply.start + reply.len];
+    let left = store(t, layout, reply.success, output);
+    if program_holds(operator, reply.success) {
+        Ok(Asked::Held(left))
+    } else {
+        Ok(Asked::Failed(left))
     }
 }
 
@@ -92,15 +82,15 @@ fn ask(
     sheet: &[u8],
     operator: Operator,
     value: &[u8],
-) -> Asked
+) -> Result<Asked, Refusal>
     requires { Ready dev.now chain t.old layout × (place ≤ chain.len) × (is_some (decode sheet.now) ≡ true) × (well_formed value.now ≡ true) }
     ensures { AsksBeside (λ a d s. asked_by a d place (operator_of operator) value.now s) sheet.now dev.now chain t.old layout t.new result }
 {
     let mut out = [0u8; 512];
-    match filling::fill(value, dev, chain, place, t, layout, false, &mut out) {
-        Put::Done(k) => ask_command(t, layout, operator, &out[..k], sheet),
-        Put::Full => Asked::Refused(Refusal::SubstitutionLong),
-    }
+    let k = filling::fill(value, dev, chain, place, t, layout, false, &mut out).ok_or(
+        Refusal::SubstitutionLong,
+    )?;
+    ask_command(t, layout, operator, &out[..k], sheet)
 }
 
 // ---- the programs of a rule
@@ -115,16 +105,12 @@ fn ask_pair(
     chain: Chain,
     place: usize,
     sheet: &[u8],
-) -> Asked
+) -> Result<Asked, Refusal>
     requires { Readable values.now entry × Ready dev.now chain t.old layout × (place ≤ chain.len) × (is_some (decode sheet.now) ≡ true) }
     ensures { AsksBeside (λ a d s. engine.ask_pair a d place (entry_of values.now entry) s) sheet.now dev.now chain t.old layout t.new result }
 {
-    let key = entry.key;
-    let operator = entry.operator;
-    let middle = entry.middle;
-    let end = entry.end;
-    if !kinds::is_program(key) {
-        return Asked::Held(layout);
+    if !kinds::is_program(entry.key) {
+        return Ok(Asked::Held(layout));
     }
     ask(
         t,
@@ -133,8 +119,8 @@ fn ask_pair(
         chain,
         place,
         sheet,
-        operator,
-        &values[middle..end],
+        entry.operator,
+        &values[entry.middle..entry.end],
     )
 }
 
@@ -150,24 +136,20 @@ fn ask_all(
     chain: Chain,
     place: usize,
     sheet: &[u8],
-) -> Asked
+) -> Result<Asked, Refusal>
     requires { RuleRows values.now rows.now from to × Ready dev.now chain t.old layout × (place ≤ chain.len) × (is_some (decode sheet.now) ≡ true) }
     ensures { AsksBeside (λ a d s. engine.ask_all a d place (pairs_from values.now rows.now from (to - from)) s) sheet.now dev.now chain t.old layout t.new result }
 {
     let mut layout = layout;
-    let mut i = from;
-    while i < to {
+    for i in from..to {
         let entry = table::pair_at(rows, i);
-        match ask_pair(values, entry, t, layout, dev, chain, place, sheet) {
-            Asked::Held(left) => {
-                layout = left;
-                i += 1;
-            }
-            Asked::Failed(left) => return Asked::Failed(left),
-            Asked::Refused(refusal) => return Asked::Refused(refusal),
+        let asked = ask_pair(values, entry, t, layout, dev, chain, place, sheet)?;
+        match asked {
+            Asked::Held(left) => layout = left,
+            Asked::Failed(left) => return Ok(Asked::Failed(left)),
         }
     }
-    Asked::Held(layout)
+    Ok(Asked::Held(layout))
 }
 
 // ---- RESULT
@@ -177,28 +159,25 @@ fn result_holds(values: &[u8], entry: Entry, output: &[u8]) -> bool
     requires { EntryIn values.now entry }
     ensures { result ≡ result_on output.now (entry_of values.now entry) }
 {
-    let key = entry.key;
-    let operator = entry.operator;
-    let plain = entry.plain;
-    let middle = entry.middle;
-    let end = entry.end;
-    if !kinds::is_result(key) {
+    if !kinds::is_result(entry.key) {
         return true;
     }
-    match_values::value_holds(operator, &values[middle..end], plain, output)
+    match_values::value_holds(
+        entry.operator,
+        &values[entry.middle..entry.end],
+        entry.plain,
+        output,
+    )
 }
 
 fn results_hold(values: &[u8], rows: &[u16], from: usize, to: usize, output: &[u8]) -> bool
     requires { (from ≤ to) × Segment values.now rows.now to }
     ensures { result ≡ results_on output.now (pairs_from values.now rows.now from (to - from)) }
 {
-    let mut i = from;
-    while i < to {
-        let entry = table::pair_at(rows, i);
-        if !result_holds(values, entry, output) {
+    for i in from..to {
+        if !result_holds(values, table::pair_at(rows, i), output) {
             return false;
         }
-        i += 1;
     }
     true
 }
@@ -217,19 +196,19 @@ pub fn ask_rule(
     chain: Chain,
     place: usize,
     sheet: &[u8],
-) -> Asked
+) -> Result<Asked, Refusal>
     requires { RuleRows values.now rows.now from to × Ready dev.now chain t.old layout × (place ≤ chain.len) × (is_some (decode sheet.now) ≡ true) }
     ensures { AsksBeside (λ a d s. judged_by a d place (pairs_from values.now rows.now from (to - from)) s) sheet.now dev.now chain t.old layout t.new result }
 {
-    match ask_all(values, rows, from, to, t, layout, dev, chain, place, sheet) {
+    let asked = ask_all(values, rows, from, to, t, layout, dev, chain, place, sheet)?;
+    match asked {
         Asked::Held(left) => {
             if results_hold(values, rows, from, to, outcome_readers::output_of(t)) {
-                Asked::Held(left)
+                Ok(Asked::Held(left))
             } else {
-                Asked::Failed(left)
+                Ok(Asked::Failed(left))
             }
         }
-        Asked::Failed(left) => Asked::Failed(left),
-        Asked::Refused(refusal) => Asked::Refused(refusal),
+        Asked::Failed(left) => Ok(Asked::Failed(left)),
     }
 }

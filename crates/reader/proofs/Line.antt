@@ -19,7 +19,7 @@ use Rattle.text.specs.Reading.{read_lent}
 use Rattle.rules.specs.Reading.{read_unblank, read_line, read_pairs, rule_read, reader}
 use Rattle.pairs.proofs.Reading.{unblank_at}
 use Rattle.rule_lines.specs.declared.Fill.{Fill}
-use Rattle.rule_lines.specs.Filling.{Room}
+use Rattle.rule_lines.specs.Filling.{start, Room}
 use Rattle.rule_lines.specs.Answers.{Grown}
 
 -- NUL, whatever else stands on the line
@@ -68,5 +68,5 @@ pub grown_from : (from : ℕ) (s : Fill) (v r : List ℕ) (m k : ℕ) (s' : Fill
 grown_from from s v r m k s' v' r' m' g = record { held = g.held; kept = g.kept; used = g.used; rows = g.rows; room = g.room }
 
 -- the next line starts without a label and a jump
-pub room_start : (m k : ℕ) (v r : List ℕ) (s : Fill) → k ≤ m → Room m v r s → Room k v r (record { label = 0; goto = 0; rows = s.rows; used = s.used })
+pub room_start : (m k : ℕ) (v r : List ℕ) (s : Fill) → k ≤ m → Room m v r s → Room k v r (start s.rows s.used)
 room_start m k v r s h x = record { values = omega (arith, x.values); small = x.small; few = x.few; rows = omega (arith, x.rows) }

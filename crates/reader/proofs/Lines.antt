@@ -22,10 +22,10 @@ use Rattle.lines.specs.Ends.{end_from}
 use Rattle.table.specs.Table.{rule_at, rules_from, Rows}
 use Rattle.table.specs.Rules.{RuleIn}
 use Rattle.rule_lines.specs.declared.Fill.{Fill}
-use Rattle.rule_lines.specs.Filling.{held}
+use Rattle.rule_lines.specs.Filling.{start, held}
 use Rattle.rule_lines.specs.Answers.{Grown}
 use Rattle.reader.specs.declared.Counts.{Counts}
-use Rattle.reader.specs.Read.{collected, reads_at, start, Filled, UpTo, RulePut}
+use Rattle.reader.specs.Read.{collected, reads_at, Filled, UpTo, RulePut}
 use Rattle.reader.proofs.Rules.{rules-kept, rule_in_kept, rule_new, rule_in_new}
 use Rattle.table.proofs.Rules.{rules_snoc}
 

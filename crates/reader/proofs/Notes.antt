@@ -28,9 +28,9 @@ use Rattle.lines.proofs.Held.{end-within}
 use Rattle.table.specs.Table.{rules_from}
 use Rattle.table.specs.Puts.{Added}
 use Rattle.rule_lines.specs.declared.Fill.{Fill}
-use Rattle.rule_lines.specs.Filling.{held}
+use Rattle.rule_lines.specs.Filling.{start, held}
 use Rattle.rule_lines.specs.Answers.{Grown}
-use Rattle.reader.specs.Read.{reads_at, start, RulePut}
+use Rattle.reader.specs.Read.{reads_at, RulePut}
 use Rattle.reader.specs.declared.Counts.{Counts}
 use Rattle.reader.proofs.Lines.{filled_none, filled_more, rules-more, reads-step}
 use Rattle.reader.specs.declared.Place.{Place}

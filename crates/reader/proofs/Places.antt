@@ -3,10 +3,11 @@
 use Prim.Native.Nat.{ℕ, ◌+◌, ◌-◌, ◌≤◌, ◌<◌}
 use mathlib.Core.Path.{◌≡◌, refl, sym, ap, ◌∙◌}
 use mathlib.Core.Bool.{Bool, true, false}
-use mathlib.Core.Logic.{⊎_elim}
+use mathlib.Core.Logic.{◌⊎◌, ⊎_elim}
 use mathlib.Core.List.{List, [], ◌∷◌}
 use native.Mathlib.Omega.{arith}
 use lib.ListN.{length}
+use Rattle.std.specs.Prelude.{Result, Ok, Err}
 use Rattle.lists.specs.Checked.{refused, line}
 use Rattle.lists.specs.Refusal.{Refusal, number, line_bad, line_open, rule_extra}
 use Rattle.lists.specs.Sizes.{most_rules, most_text}
@@ -19,18 +20,19 @@ use Rattle.text.proofs.Unjoined.{unjoined-size}
 use Rattle.rules.specs.Pair.{Rule}
 use Rattle.rules.specs.Reading.{read_line, reader}
 use Rattle.lines.specs.declared.Line.{Line}
-use Rattle.lines.specs.declared.LineFound.TheVariants as answer
-use Rattle.lines.specs.Ends.{end_from, held_in, Found, FoundIs}
+use Rattle.lines.specs.declared.LineFault.{LineFault}
+use Rattle.lines.specs.Ends.{end_from, held_in, Reaches, BadLine, Found, FaultAt}
 use Rattle.lines.proofs.Held.{end-within, newlines-size}
 use Rattle.rule_lines.specs.declared.Fill.{Fill}
-use Rattle.rule_lines.specs.Filling.{held, Room}
+use Rattle.rule_lines.specs.Filling.{start, held, Room}
 use Rattle.rule_lines.specs.Answers.{Grown}
 use Rattle.table.specs.Puts.{Kept, Added}
 use Rattle.reader.specs.declared.Counts.{Counts}
 use Rattle.reader.specs.declared.Place.{Place}
-use Rattle.reader.specs.declared.Taken.{Taken}
-use Rattle.reader.specs.declared.Taken.TheVariants as taken
-use Rattle.reader.specs.Read.{collected, start, Fits, RulePut, NotedTo, RuleNoted, FaultTaken, Stands, Before, Reads, TakenIs}
+use Rattle.refusals.specs.declared.Refusal as code
+use Rattle.refusals.specs.declared.Refusal.TheVariants.{RuleExtra}
+use Rattle.refusals.specs.Refusals.{refusal_of}
+use Rattle.reader.specs.Read.{collected, Fits, RulePut, NotedTo, RuleNoted, FaultTaken, Stands, Before, Reads, TakenIs}
 use Rattle.reader.proofs.Line.{nul_fault, line-long, lent_open, lent-joined, room_less, room_start}
 use Rattle.reader.proofs.Lines.{filled_more, upto_skip, upto_fault, upto_extra, upto_rule}
 use Rattle.reader.proofs.Notes.{note_room, noted-skip, noted-fault, noted_extra, noted-rule}
@@ -46,19 +48,24 @@ stands_with x copy copy' at number v r c s e =
 
 -- ---- what a line reads to
 
--- 20
-pub read_open : (x copy : List ℕ) (at e n : ℕ) → FoundIs x copy at (answer.Open e n) → read_lent reader (part x at e) ≡ text.fault line_open
-read_open x copy at e n j = lent_open (part x at e) j.2
+-- 20, or 10
+pub read_fault : (x : List ℕ) (at : ℕ) (f : LineFault) → FaultAt x at f
+    → (f.extent.end ≡ end_from x at) × (newlines (part x at f.extent.end) ≡ f.extent.newlines) × (read_lent reader (part x at f.extent.end) ≡ text.fault (refusal_of f.refusal))
+read_fault x at f w = ⊎_elim opened bad w
+  where
+    opened : (refusal_of f.refusal ≡ line_open) × Reaches x at f.extent true
+        → (f.extent.end ≡ end_from x at) × (newlines (part x at f.extent.end) ≡ f.extent.newlines) × (read_lent reader (part x at f.extent.end) ≡ text.fault (refusal_of f.refusal))
+    opened (q, j) = (j.0, j.1, lent_open (part x at f.extent.end) j.2 ∙ ap text.fault (sym q))
 
--- 10
-pub read_bad : (x copy : List ℕ) (at e n : ℕ) → FoundIs x copy at (answer.Bad e n) → read_lent reader (part x at e) ≡ text.fault line_bad
-read_bad x copy at e n (j, b) =
-    let bytes = unjoined (part x at e) in
-    lent-joined (part x at e) j.2 ∙ ⊎_elim (line-long bytes) (nul_fault bytes) b
+    bad : (refusal_of f.refusal ≡ line_bad) × Reaches x at f.extent false × BadLine (part x at f.extent.end)
+        → (f.extent.end ≡ end_from x at) × (newlines (part x at f.extent.end) ≡ f.extent.newlines) × (read_lent reader (part x at f.extent.end) ≡ text.fault (refusal_of f.refusal))
+    bad (q, j, b) =
+        let bytes = unjoined (part x at f.extent.end) in
+        (j.0, j.1, lent-joined (part x at f.extent.end) j.2 ∙ ⊎_elim (line-long bytes) (nul_fault bytes) b ∙ ap text.fault (sym q))
 
 -- one that is read
-pub reads_as : (x copy : List ℕ) (at : ℕ) (found : Line) → Found x copy at found → read_lent reader (part x at found.end) ≡ read_line (held_in x copy at found)
-reads_as x copy at found f = lent-joined (part x at found.end) f.joined_at.2 ∙ ap read_line (sym f.held)
+pub reads_as : (x copy : List ℕ) (at : ℕ) (found : Line) → Found x copy at found → read_lent reader (part x at found.extent.end) ≡ read_line (held_in x copy at found)
+reads_as x copy at found f = lent-joined (part x at found.extent.end) f.joined_at.2 ∙ ap read_line (sym f.held)
 
 -- ---- what fits
 
@@ -74,19 +81,19 @@ module _ (x copy : List ℕ) (at number : ℕ) (v r : List ℕ) (c : Counts) (s 
     bytes = held_in x copy at found
 
     abbrev lent : List ℕ
-    lent = part x at found.end
+    lent = part x at found.extent.end
 
-    pub within : (at ≤ found.end) × (found.end ≤ length x)
-    within = end-within x at found.end s.starts f.joined_at.0
+    pub within : (at ≤ found.extent.end) × (found.extent.end ≤ length x)
+    within = end-within x at found.extent.end s.starts f.joined_at.0
 
     -- what its bytes hold fits, and then what those behind it hold
-    pub line_room : Room (length x - found.end + length bytes + 1) v r (start c.rows c.used)
+    pub line_room : Room (length x - found.extent.end + length bytes + 1) v r (start c.rows c.used)
     line_room =
         let (from, to) = within in
-        room_less _ _ v r (start c.rows c.used) (omega (arith, ap length f.held, unjoined-size lent, length_part x at found.end to)) s.fits
+        room_less _ _ v r (start c.rows c.used) (omega (arith, ap length f.held, unjoined-size lent, length_part x at found.extent.end to)) s.fits
 
-    pub next_small : (number + found.newlines ≤ found.end + 1) × (found.end ≤ most_text)
-    next_small = ((line_small found.end found.newlines f.joined_at.0 f.joined_at.1).2, omega (arith, s.short, within.1))
+    pub next_small : (number + found.extent.newlines ≤ found.extent.end + 1) × (found.extent.end ≤ most_text)
+    next_small = ((line_small found.extent.end found.extent.newlines f.joined_at.0 f.joined_at.1).2, omega (arith, s.short, within.1))
 
 -- ---- what a line adds
 
@@ -108,7 +115,7 @@ module _ (x copy v r t l s : List ℕ) (strict : Bool) (d : Place) (w : Reads x 
   room_here y z = note_room x v r t l s d (w.before.noting z) w.stands.starts e q w.stands.short y
 
   goes_on : (v' r' t' l' s' : List ℕ) (used : ℕ) (c : Counts) → Before x v' r' t' l' s' strict (behind used c) → Fits (length x - e) v' r' c
-      → TakenIs x d v' r' t' l' s' strict (taken.Next (behind used c))
+      → TakenIs x d v' r' t' l' s' strict (Ok (behind used c))
   goes_on v' r' t' l' s' used c before fits =
       let (from, to, small, few, most) = bounds in
       (omega arith, omega arith, omega arith, before, room_less _ _ v' r' (start c.rows c.used) (omega arith) fits)
@@ -118,7 +125,7 @@ module _ (x copy v r t l s : List ℕ) (strict : Bool) (d : Place) (w : Reads x 
 
   -- ---- skipped
 
-  pub taken_skip : here ≡ text.skip → TakenIs x d v r t l s strict (taken.Next (behind d.used d.counts))
+  pub taken_skip : here ≡ text.skip → TakenIs x d v r t l s strict (Ok (behind d.used d.counts))
   taken_skip y =
       goes_on v r t l s d.used d.counts
       (record {
@@ -131,25 +138,27 @@ module _ (x copy v r t l s : List ℕ) (strict : Bool) (d : Place) (w : Reads x 
   -- ---- struck, for a fault of reading or 18
 
   module _ (v' r' s' : List ℕ) (kept : Kept d.counts.used d.counts.rows v r v' r') where
-    struck : (f : Refusal) (o : Taken) → (strict ≡ true → collected x ≡ refused (line d.number f))
-        → (NotedTo x v' r' t l s d → Added (d.number ∷ number f ∷ []) d.used s s'
+    struck : (g : code.Refusal) (o : Result Place code.Refusal) → (strict ≡ true → collected x ≡ refused (line d.number (refusal_of g)))
+        → (NotedTo x v' r' t l s d → Added (d.number ∷ number (refusal_of g) ∷ []) d.used s s'
         → NotedTo x v' r' t l s' (record { at = e + 1; number = d.number + newlines (part x d.at e) + 1; counts = d.counts; used = d.used + 2 }))
-        → FaultTaken s s' d e k f strict o → TakenIs x d v' r' t l s' strict o
-    struck f (taken.Refused g) whole more (z, same) = (z, rw same (whole z))
-    struck f (taken.Next p) whole more (z, is, put) =
+        → FaultTaken s s' d (record { extent = record { end = e; newlines = k }; refusal = g }) strict o → TakenIs x d v' r' t l s' strict o
+    struck g (Err h) whole more (z, same) = (z, rw same (whole z))
+    struck g (Ok p) whole more (z, is, put) =
         let notes = rw j at (more (noted-kept x v r v' r' t l s d (w.before.noting z) kept) put) in
         rw is (goes_on v' r' t l s' (d.used + 2) d.counts
         (record { filled = notes.filled; strictly = λ y. absurd (two_modes y z); noting = λ y. notes })
         (room_kept (length x - e) v r v' r' d.counts stays kept))
 
-    pub taken_fault : (f : Refusal) (o : Taken) → here ≡ text.fault f → FaultTaken s s' d e k f strict o → TakenIs x d v' r' t l s' strict o
-    taken_fault f o y =
-        struck f o (λ z. upto_fault x v r t l d.at e d.number d.counts (w.before.strictly z) w.stands.starts q f y)
-        (λ notes put. noted-fault x v' r' t l s d notes w.stands.starts e q s' (number f) put f y refl)
+    pub taken_fault : (g : code.Refusal) (o : Result Place code.Refusal) → here ≡ text.fault (refusal_of g)
+        → FaultTaken s s' d (record { extent = record { end = e; newlines = k }; refusal = g }) strict o → TakenIs x d v' r' t l s' strict o
+    taken_fault g o y =
+        struck g o (λ z. upto_fault x v r t l d.at e d.number d.counts (w.before.strictly z) w.stands.starts q (refusal_of g) y)
+        (λ notes put. noted-fault x v' r' t l s d notes w.stands.starts e q s' (number (refusal_of g)) put (refusal_of g) y refl)
 
-    pub taken_extra : (p : Rule) (o : Taken) → here ≡ text.rule p → most_rules ≤ d.counts.rules → FaultTaken s s' d e k rule_extra strict o → TakenIs x d v' r' t l s' strict o
+    pub taken_extra : (p : Rule) (o : Result Place code.Refusal) → here ≡ text.rule p → most_rules ≤ d.counts.rules
+        → FaultTaken s s' d (record { extent = record { end = e; newlines = k }; refusal = RuleExtra }) strict o → TakenIs x d v' r' t l s' strict o
     taken_extra p o y m =
-        struck rule_extra o (λ z. upto_extra x v r t l d.at e d.number d.counts (w.before.strictly z) w.stands.starts q p y m)
+        struck RuleExtra o (λ z. upto_extra x v r t l d.at e d.number d.counts (w.before.strictly z) w.stands.starts q p y m)
         (λ notes put. noted_extra x v' r' t l s d notes w.stands.starts e q s' 18 put p y m refl)
 
   -- ---- a rule
@@ -164,7 +173,7 @@ module _ (x copy v r t l s : List ℕ) (strict : Bool) (d : Place) (w : Reads x 
     noting_rule used false z (is, note) notes =
         rw (is, ← j) (noted-rule x v r t l s d notes w.stands.starts e q s' 0 note v' r' t' l' fill m (length x - e) g y put few refl)
 
-    pub taken_rule : (used : ℕ) → RuleNoted d.number d.used strict s s' used → TakenIs x d v' r' t' l' s' strict (taken.Next (behind used more))
+    pub taken_rule : (used : ℕ) → RuleNoted d.number d.used strict s s' used → TakenIs x d v' r' t' l' s' strict (Ok (behind used more))
     taken_rule used noted =
         goes_on v' r' t' l' s' used more
         (record {

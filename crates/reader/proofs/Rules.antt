@@ -4,7 +4,7 @@ use Prim.Native.Nat.{ℕ, zero, suc, ◌+◌, ◌-◌, ◌*◌, ◌≤◌, ◌<�
 use mathlib.Core.Path.{◌≡◌, refl, sym, ap, ap₂, ◌∙◌}
 use mathlib.Core.Bool.{Bool, true, false}
 use mathlib.Core.List.{List, [], ◌∷◌, ◌++◌}
-use mathlib.Core.Option.{none, some}
+use Rattle.std.specs.Prelude.{None, Some}
 use native.Mathlib.Numerals.{add-one}
 use native.Mathlib.Omega.{arith}
 use borrow.Author.Tests.{eqb-false, ltb-true, ltb-false}
@@ -29,11 +29,11 @@ module _ (v r v' r' : List ℕ) (n used : ℕ) (rs : Rows v r n used) (kept : Ke
   mark_kept : (m : ℕ) → m ≤ n → value_in v' r' m ≡ value_in v r m
   mark_kept m h = go (eqb m 0) refl
     where
-      go : (b : Bool) → eqb m 0 ≡ b → pick b none (some (pair_at v' r' (m - 1)).value) ≡ pick b none (some (pair_at v r (m - 1)).value)
+      go : (b : Bool) → eqb m 0 ≡ b → pick b None (Some (pair_at v' r' (m - 1)).value) ≡ pick b None (Some (pair_at v r (m - 1)).value)
       go true e = refl
       go false e =
           let d = eqb-false m 0 e in
-          ap (λ (q : Pair). some q.value) (row_kept v r v' r' n used rs kept (m - 1) (omega arith))
+          ap (λ (q : Pair). Some q.value) (row_kept v r v' r' n used rs kept (m - 1) (omega arith))
 
   module _ (t l t' l' : List ℕ) (count : ℕ) (same : (k : ℕ) → k < count * 4 → get_or t' k 0 ≡ get_or t k 0) (alike : (k : ℕ) → k < count → get_or l' k 0 ≡ get_or l k 0)
       (rules : (i : ℕ) → i < count → RuleIn v r t l n i) where

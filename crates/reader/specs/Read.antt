@@ -1,6 +1,7 @@
 -- What the code's answers stand for, and what is known while the lines of a text are read into a table.
 -- Assumes nothing.
 use Rattle.std.specs.Prelude.{ℕ, ◌+◌, ◌-◌, ◌*◌, ◌≤◌, ◌<◌, ◌≡◌, Bool, true, false, List, [], ◌∷◌, ◌++◌, map, length, get_or, take}
+use Rattle.std.specs.Prelude.{Option, None, Some, Result, Ok, Err}
 use Rattle.lists.specs.Checked.{Checked, refused, ok, ◌>>=◌, Placed, line, in_place}
 use Rattle.lists.specs.Refusal.{Refusal, number}
 use Rattle.lists.specs.Sizes.{most_rules, most_text}
@@ -9,35 +10,27 @@ use Rattle.text.specs.Reading.{read_lent, collect, reads}
 use Rattle.text.specs.Rules.{rules_in}
 use Rattle.text.proofs.Places.{lines_at}
 use Rattle.rules.specs.Pair.{Rule}
+use Rattle.refusals.specs.declared.Refusal as code
+use Rattle.refusals.specs.declared.LineRefusal.{LineRefusal}
 use Rattle.refusals.specs.Refusals.{refusal_of}
+use Rattle.lines.specs.declared.LineFault.{LineFault}
 use Rattle.rules.specs.Reading.{read_line, reader}
 use Rattle.striking.specs.Striking.{most_strikes, past_most}
 use Rattle.table.specs.Table.{rules_from, Rows}
-use Rattle.table.specs.Rules.{RuleIn, Rules}
+use Rattle.table.specs.Rules.{RuleIn, Rules, mark_of}
 use Rattle.table.specs.Puts.{Four, Kept, Added}
 use Rattle.rule_lines.specs.declared.Fill.{Fill}
-use Rattle.rule_lines.specs.Filling.{held, Room}
+use Rattle.rule_lines.specs.Filling.{start, held, Room}
 use Rattle.rule_lines.specs.Answers.{Grown}
-use Rattle.reader.specs.declared.LineRead.{LineRead}
-use Rattle.reader.specs.declared.LineRead.TheVariants as lines
 use Rattle.reader.specs.declared.Counts.{Counts}
 use Rattle.reader.specs.declared.Place.{Place}
-use Rattle.reader.specs.declared.Taken.{Taken}
-use Rattle.reader.specs.declared.Taken.TheVariants as taken
-use Rattle.reader.specs.declared.Why.{Why}
-use Rattle.reader.specs.declared.Why.TheVariants as why
-use Rattle.reader.specs.declared.LinesRead.{LinesRead}
-use Rattle.reader.specs.declared.LinesRead.TheVariants as all
 
 -- ---- a line
 
-abbrev pub start : ℕ → ℕ → Fill
-start n used = record { label = 0; goto = 0; rows = n; used = used }
-
-abbrev pub LineIs : List ℕ → ℕ → ℕ → ℕ → List ℕ → List ℕ → List ℕ → List ℕ → LineRead → Type 0
-LineIs bs beyond n used v r v' r' lines.Skipped = (read_line bs ≡ text.skip) × (v' ≡ v) × (r' ≡ r)
-LineIs bs beyond n used v r v' r' (lines.Fault f) = (read_line bs ≡ text.fault (refusal_of f)) × Kept used n v r v' r'
-LineIs bs beyond n used v r v' r' (lines.Rule s) =
+abbrev pub LineIs : List ℕ → ℕ → ℕ → ℕ → List ℕ → List ℕ → List ℕ → List ℕ → Result (Option Fill) code.Refusal → Type 0
+LineIs bs beyond n used v r v' r' (Ok None) = (read_line bs ≡ text.skip) × (v' ≡ v) × (r' ≡ r)
+LineIs bs beyond n used v r v' r' (Err f) = (read_line bs ≡ text.fault (refusal_of f)) × Kept used n v r v' r'
+LineIs bs beyond n used v r v' r' (Ok (Some s)) =
     (read_line bs ≡ text.rule (held v' r' n s)) × Grown n (start n used) v r (beyond + length bs + 1) s v' r' beyond
 
 -- ---- the lines
@@ -77,8 +70,8 @@ pub record Lends (n : ℕ) (v r : List ℕ) : Type 0 where
   pub rows : (n + 1) * 4 ≤ length r * 7
 
 pub record RulePut (i number from : ℕ) (s : Fill) (t l t' l' : List ℕ) : Type 0 where
-  pub four : Four (i * 4) number from s.rows s.goto t t'
-  pub label : get_or l' i 0 ≡ s.label
+  pub four : Four (i * 4) number from s.rows (mark_of s.goto) t t'
+  pub label : get_or l' i 0 ≡ mark_of s.label
   pub before : (k : ℕ) → k < i → get_or l' k 0 ≡ get_or l k 0
   pub size : length l' ≡ length l
 
@@ -117,10 +110,12 @@ RuleNoted number used true s s' r = Unit {0}
 RuleNoted number used false s s' r = (r ≡ used + 2) × Added (number ∷ 0 ∷ []) used s s'
 
 -- a fault refuses the text, or is noted
-abbrev pub FaultTaken : List ℕ → List ℕ → Place → ℕ → ℕ → Refusal → Bool → Taken → Type 0
-FaultTaken s s' d e k f strict (taken.Refused g) = (strict ≡ true) × (refusal_of g ≡ f)
-FaultTaken s s' d e k f strict (taken.Next p) =
-    (strict ≡ false) × (p ≡ record { at = e + 1; number = d.number + k + 1; counts = d.counts; used = d.used + 2 }) × Added (d.number ∷ number f ∷ []) d.used s s'
+abbrev pub FaultTaken : List ℕ → List ℕ → Place → LineFault → Bool → Result Place code.Refusal → Type 0
+FaultTaken s s' d f strict (Err g) = (strict ≡ true) × (g ≡ f.refusal)
+FaultTaken s s' d f strict (Ok p) =
+    (strict ≡ false)
+    × (p ≡ record { at = f.extent.end + 1; number = d.number + f.extent.newlines + 1; counts = d.counts; used = d.used + 2 })
+    × Added (d.number ∷ number (refusal_of f.refusal) ∷ []) d.used s s'
 
 -- ---- before a line is read, at a place
 
@@ -142,9 +137,9 @@ pub record Reads (x bs v r t l s : List ℕ) (strict : Bool) (d : Place) : Type 
   pub before : Before x v r t l s strict d
 
 -- the line at a place
-abbrev pub TakenIs : List ℕ → Place → List ℕ → List ℕ → List ℕ → List ℕ → List ℕ → Bool → Taken → Type 0
-TakenIs x d v r t l s strict (taken.Refused f) = (strict ≡ true) × (collected x ≡ refused (line d.number (refusal_of f)))
-TakenIs x d v r t l s strict (taken.Next p) =
+abbrev pub TakenIs : List ℕ → Place → List ℕ → List ℕ → List ℕ → List ℕ → List ℕ → Bool → Result Place code.Refusal → Type 0
+TakenIs x d v r t l s strict (Err f) = (strict ≡ true) × (collected x ≡ refused (line d.number (refusal_of f)))
+TakenIs x d v r t l s strict (Ok p) =
     (d.at < p.at) × (p.at ≤ length x + 1) × (p.number ≤ p.at + 1) × Before x v r t l s strict p × Fits (length x + 1 - p.at) v r p.counts
 
 -- all lines, noted
@@ -155,11 +150,11 @@ pub record AllNoted (x v r t l s : List ℕ) (d : Place) : Type 0 where
   pub list : noted (counted x) ≡ take d.used s
   pub within : d.used ≤ length s
 
--- where the lines end, and why
-abbrev pub EndedIs : List ℕ → List ℕ → List ℕ → List ℕ → List ℕ → List ℕ → Bool → Place → Why → Type 0
-EndedIs x v r t l s strict d (why.Fault f) = (strict ≡ true) × (d.number < 65536) × (collected x ≡ refused (line d.number (refusal_of f)))
-EndedIs x v r t l s strict d why.Whole = Filled v r t l d.counts × (strict ≡ true → collected x ≡ ok (rules_from v r t 0 d.counts.rules)) × (strict ≡ false → AllNoted x v r t l s d)
+-- where the lines end, or the line whose fault refuses the text
+abbrev pub EndedIs : List ℕ → List ℕ → List ℕ → List ℕ → List ℕ → List ℕ → Bool → Result Place LineRefusal → Type 0
+EndedIs x v r t l s strict (Err f) = (strict ≡ true) × (f.line < 65536) × (collected x ≡ refused (line f.line (refusal_of f.refusal)))
+EndedIs x v r t l s strict (Ok d) = Filled v r t l d.counts × (strict ≡ true → collected x ≡ ok (rules_from v r t 0 d.counts.rules)) × (strict ≡ false → AllNoted x v r t l s d)
 
-abbrev pub LinesAre : List ℕ → List ℕ → List ℕ → List ℕ → List ℕ → LinesRead → Type 0
-LinesAre x v r t l (all.Refused f n) = (n < 65536) × (collected x ≡ refused (line n (refusal_of f)))
-LinesAre x v r t l (all.Rules c) = (collected x ≡ ok (rules_from v r t 0 c.rules)) × (c.rules ≤ most_rules) × Rows v r c.rows c.used × ((i : ℕ) → i < c.rules → RuleIn v r t l c.rows i)
+abbrev pub LinesAre : List ℕ → List ℕ → List ℕ → List ℕ → List ℕ → Result Counts LineRefusal → Type 0
+LinesAre x v r t l (Err f) = (f.line < 65536) × (collected x ≡ refused (line f.line (refusal_of f.refusal)))
+LinesAre x v r t l (Ok c) = (collected x ≡ ok (rules_from v r t 0 c.rules)) × (c.rules ≤ most_rules) × Rows v r c.rows c.used × ((i : ℕ) → i < c.rules → RuleIn v r t l c.rows i)

@@ -11,42 +11,35 @@ ghost use Rattle.refusals.specs.Refusals.{refusal_of};
 ghost use Rattle.lines.specs.Ends.{Found};
 ghost use Rattle.table.specs.Table.{Rows};
 ghost use Rattle.table.specs.Puts.{Added};
-ghost use Rattle.rule_lines.specs.Filling.{Room};
+ghost use Rattle.rule_lines.specs.Filling.{start, Room};
+ghost use Rattle.table.specs.Rules.{mark_of};
 ghost use Rattle.reader.specs.Texts.{TextIs};
-ghost use Rattle.reader.specs.Read.{start, LineIs, RulePut, Lends, RuleNoted, FaultTaken, Reads, TakenIs, EndedIs, AllNoted, LinesAre};
+ghost use Rattle.reader.specs.Read.{LineIs, RulePut, Lends, RuleNoted, FaultTaken, Reads, TakenIs, EndedIs, AllNoted, LinesAre};
 
-use jumps::Settled;
-use lines::{Line, LineFound};
-use refusals::Refusal;
-use rule_lines::{Fill, PairsRead};
+use lines::{Extent, Line, LineFault};
+use refusals::{LineRefusal, Refusal};
+use rule_lines::Fill;
 
-#[derive(Drop)]
-pub enum LineRead {
-    Skipped,
-    Fault(Refusal),
-    Rule(Fill),
-}
-
-// A line without its newline, and without NUL, behind n rows.
-fn read_line(line: &[u8], values: &mut [u8], rows: &mut [u16], n: usize, used: usize) -> LineRead
+// A line without its newline, and without NUL, behind n rows: its rule, unless it is skipped.
+fn read_line(
+    line: &[u8],
+    values: &mut [u8],
+    rows: &mut [u16],
+    n: usize,
+    used: usize,
+) -> Result<Option<Fill>, Refusal>
     requires { (holds 0 line.now ≡ false) × Rows values.old rows.old n used × Room (length line.now + 1) values.old rows.old (start n used) }
     ensures { (beyond : ℕ) → Room (beyond + length line.now + 1) values.old rows.old (start n used) → LineIs line.now beyond n used values.old rows.old values.new rows.new result }
 {
     let at = scan::blank_end(line, 0);
-    let first = scan::byte_at(line, at);
     if 1024 < line.len() {
-        return LineRead::Fault(Refusal::LineBad);
+        return Err(Refusal::LineBad);
     }
-    if line.len() <= at {
-        return LineRead::Skipped;
+    if line.len() <= at || line[at] == b'#' {
+        return Ok(None);
     }
-    if first == b'#' {
-        return LineRead::Skipped;
-    }
-    match rule_lines::read_pairs(line, at, values, rows, n, used) {
-        PairsRead::Refused(f) => LineRead::Fault(f),
-        PairsRead::Read(fill) => LineRead::Rule(fill),
-    }
+    let fill = rule_lines::read_pairs(line, at, values, rows, n, used)?;
+    Ok(Some(fill))
 }
 
 // ---- the rules
@@ -60,11 +53,12 @@ pub struct Counts {
 }
 
 fn put_rule(rules: &mut [u16], labels: &mut [u16], i: usize, number: usize, from: usize, fill: Fill)
-    requires { (i < most_rules) × (length rules.old ≡ most_rules * 4) × (length labels.old ≡ most_rules) × (number < 65536) × (from ≤ fill.rows) × (fill.rows < 65536) × (fill.label ≤ fill.rows) × (fill.goto ≤ fill.rows) }
+    requires { (i < most_rules) × (length rules.old ≡ most_rules * 4) × (length labels.old ≡ most_rules) × (number < 65536) × (from ≤ fill.rows) × (fill.rows < 65536) × (mark_of fill.label ≤ fill.rows) × (mark_of fill.goto ≤ fill.rows) }
     ensures { RulePut i number from fill rules.old labels.old rules.new labels.new }
 {
-    table::put_four(rules, i * 4, number, from, fill.rows, fill.goto);
-    labels[i] = table::short(fill.label);
+    let goto = usize::from(table::mark(fill.goto));
+    table::put_four(rules, i * 4, number, from, fill.rows, goto);
+    labels[i] = table::mark(fill.label);
 }
 
 // ---- notes of lines (document 02, Item 12)
@@ -110,36 +104,38 @@ pub struct Place {
     pub used: usize,
 }
 
-#[derive(Drop)]
-pub enum Taken {
-    Refused(Refusal),
-    Next(Place),
+impl Place {
+    // The place behind a line.
+    fn behind(self, line: Extent) -> Self
+        requires { (self.number + line.newlines ≤ line.end + 1) × (line.end ≤ most_text) }
+        ensures { result ≡ record { at = line.end + 1; number = self.number + line.newlines + 1; counts = self.counts; used = self.used } }
+    {
+        Place {
+            at: line.end + 1,
+            number: self.number + line.newlines + 1,
+            ..self
+        }
+    }
 }
 
 // A line with a fault, up to its end: the text is refused, or the fault is noted.
 fn take_fault(
     list: &mut [u16],
     place: Place,
-    end: usize,
-    newlines: usize,
-    fault: Refusal,
+    fault: LineFault,
     strict: bool,
-) -> Taken
-    requires { (place.number + newlines ≤ end + 1) × (place.number < 65536) × (end ≤ most_text) × (strict ≡ false → place.used + 2 ≤ length list.old) }
-    ensures { FaultTaken list.old list.new place end newlines (refusal_of fault) strict result }
+) -> Result<Place, Refusal>
+    requires { (place.number + fault.extent.newlines ≤ fault.extent.end + 1) × (place.number < 65536) × (fault.extent.end ≤ most_text) × (strict ≡ false → place.used + 2 ≤ length list.old) }
+    ensures { FaultTaken list.old list.new place fault strict result }
 {
     if strict {
-        return Taken::Refused(fault);
+        return Err(fault.refusal);
     }
-    let used = put_note(list, place.used, place.number, fault_number(fault));
-    let counts = place.counts;
-    let next = Place {
-        at: end + 1,
-        number: place.number + newlines + 1,
-        counts,
+    let used = put_note(list, place.used, place.number, fault_number(fault.refusal));
+    Ok(Place {
         used,
-    };
-    Taken::Next(next)
+        ..place.behind(fault.extent)
+    })
 }
 
 // Reads a line into the table, behind those before it.
@@ -154,55 +150,34 @@ fn take_held<'a>(
     list: &mut [u16],
     place: Place,
     strict: bool,
-) -> Taken
+) -> Result<Place, Refusal>
     requires { Reads text.now copy.now values.old rows.old rules.old labels.old list.old strict place × Found text.now copy.now place.at line }
     ensures { TakenIs text.now place values.new rows.new rules.new labels.new list.new strict result }
 {
-    let counts = place.counts;
-    let begin = place.at;
-    let count = counts.rules;
-    match read_line(
-        lines::bytes_of(text, copy, begin, line),
-        values,
-        rows,
-        counts.rows,
-        counts.used,
-    ) {
-        LineRead::Skipped => {
-            let next = Place {
-                at: line.end + 1,
-                number: place.number + line.newlines + 1,
-                counts,
-                used: place.used,
-            };
-            Taken::Next(next)
-        }
-        LineRead::Fault(f) => take_fault(list, place, line.end, line.newlines, f, strict),
-        LineRead::Rule(fill) => {
+    let count = place.counts.rules;
+    let from = place.counts.rows;
+    let extent = line.extent;
+    let bytes = lines::bytes_of(text, copy, place.at, line);
+    match read_line(bytes, values, rows, from, place.counts.used) {
+        Ok(None) => Ok(place.behind(extent)),
+        Err(refusal) => take_fault(list, place, LineFault { extent, refusal }, strict),
+        Ok(Some(fill)) => {
             if 512 <= count {
-                return take_fault(
-                    list,
-                    place,
-                    line.end,
-                    line.newlines,
-                    Refusal::RuleExtra,
-                    strict,
-                );
+                let refusal = Refusal::RuleExtra;
+                return take_fault(list, place, LineFault { extent, refusal }, strict);
             }
-            put_rule(rules, labels, count, place.number, counts.rows, fill);
+            put_rule(rules, labels, count, place.number, from, fill);
             let used = note_rule(list, place.used, place.number, strict);
-            let after = Counts {
+            let counts = Counts {
                 rules: count + 1,
                 rows: fill.rows,
                 used: fill.used,
             };
-            let next = Place {
-                at: line.end + 1,
-                number: place.number + line.newlines + 1,
-                counts: after,
+            Ok(Place {
+                counts,
                 used,
-            };
-            Taken::Next(next)
+                ..place.behind(extent)
+            })
         }
     }
 }
@@ -218,44 +193,16 @@ fn take_line(
     list: &mut [u16],
     place: Place,
     strict: bool,
-) -> Taken
+) -> Result<Place, Refusal>
     requires { Reads text.now copy.old values.old rows.old rules.old labels.old list.old strict place }
     ensures { TakenIs text.now place values.new rows.new rules.new labels.new list.new strict result }
 {
     match lines::find_line(text, place.at, copy) {
-        LineFound::At(line) => take_held(
+        Ok(line) => take_held(
             text, copy, line, values, rows, rules, labels, list, place, strict,
         ),
-        LineFound::Open(end, newlines) => take_fault(
-            list,
-            place,
-            end,
-            newlines,
-            Refusal::LineOpen,
-            strict,
-        ),
-        LineFound::Bad(end, newlines) => take_fault(
-            list,
-            place,
-            end,
-            newlines,
-            Refusal::LineBad,
-            strict,
-        ),
+        Err(fault) => take_fault(list, place, fault, strict),
     }
-}
-
-// Whether all lines are behind a place, or why not.
-#[derive(Drop)]
-pub enum Why {
-    Whole,
-    Fault(Refusal),
-}
-
-#[derive(Drop)]
-pub struct Ended {
-    pub place: Place,
-    pub why: Why,
 }
 
 // Reads the lines up to the end of the text, or, read strictly, to the first that has a fault.
@@ -267,9 +214,9 @@ fn take_lines(
     labels: &mut [u16],
     list: &mut [u16],
     strict: bool,
-) -> Ended
+) -> Result<Place, LineRefusal>
     requires { (length text.now ≤ most_text) × Lends (length text.now) values.old rows.old × (length rules.old ≡ most_rules * 4) × (length labels.old ≡ most_rules) × (strict ≡ false → most_strikes * 2 ≤ length list.old) }
-    ensures { EndedIs text.now values.new rows.new rules.new labels.new list.new strict result.place result.why }
+    ensures { EndedIs text.now values.new rows.new rules.new labels.new list.new strict result }
 {
     let mut copy = [0u8; 1024];
     let mut place = Place {
@@ -286,21 +233,16 @@ fn take_lines(
         match take_line(
             text, &mut copy, values, rows, rules, labels, list, place, strict,
         ) {
-            Taken::Refused(f) => {
-                return Ended {
-                    place,
-                    why: Why::Fault(f),
-                };
-            }
-            Taken::Next(next) => {
-                place = next;
+            Ok(next) => place = next,
+            Err(refusal) => {
+                return Err(LineRefusal {
+                    refusal,
+                    line: place.number,
+                });
             }
         }
     }
-    Ended {
-        place,
-        why: Why::Whole,
-    }
+    Ok(place)
 }
 
 // Reads all lines, each fault noted.
@@ -315,14 +257,7 @@ pub fn note_lines(
     requires { (length text.now ≤ most_text) × Lends (length text.now) values.old rows.old × (length rules.old ≡ most_rules * 4) × (length labels.old ≡ most_rules) × (most_strikes * 2 ≤ length list.old) }
     ensures { AllNoted text.now values.new rows.new rules.new labels.new list.new result }
 {
-    let ended = take_lines(text, values, rows, rules, labels, list, false);
-    ended.place
-}
-
-#[derive(Drop)]
-pub enum LinesRead {
-    Refused(Refusal, usize),
-    Rules(Counts),
+    take_lines(text, values, rows, rules, labels, list, false).unwrap()
 }
 
 // Reads all lines strictly.
@@ -332,30 +267,16 @@ fn read_lines(
     rows: &mut [u16],
     rules: &mut [u16],
     labels: &mut [u16],
-) -> LinesRead
+) -> Result<Counts, LineRefusal>
     requires { (length text.now ≤ most_text) × Lends (length text.now) values.old rows.old × (length rules.old ≡ most_rules * 4) × (length labels.old ≡ most_rules) }
     ensures { LinesAre text.now values.new rows.new rules.new labels.new result }
 {
     let mut none = [0u16; 1];
-    let ended = take_lines(text, values, rows, rules, labels, &mut none, true);
-    let place = ended.place;
-    let why = ended.why;
-    match why {
-        Why::Fault(f) => LinesRead::Refused(f, place.number),
-        Why::Whole => {
-            let counts = place.counts;
-            LinesRead::Rules(counts)
-        }
-    }
+    let place = take_lines(text, values, rows, rules, labels, &mut none, true)?;
+    Ok(place.counts)
 }
 
 // ---- a text
-
-#[derive(Clone, Copy)]
-pub enum TextRead {
-    Refused(Refusal, usize),
-    Accepted(Counts),
-}
 
 // Reads a text into a table, with its jumps.
 pub fn read_text(
@@ -365,25 +286,22 @@ pub fn read_text(
     rules: &mut [u16],
     labels: &mut [u16],
     jumps: &mut [u16],
-) -> TextRead
+) -> Result<Counts, LineRefusal>
     requires { (length text.now ≤ most_text → Lends (length text.now) values.old rows.old) × (length rules.old ≡ most_rules * 4) × (length labels.old ≡ most_rules) × (length jumps.old ≡ most_rules) }
     ensures { TextIs text.now values.new rows.new rules.new labels.new jumps.new result }
 {
     if 32768 < text.len() {
-        return TextRead::Refused(Refusal::TextLong, 0);
+        return Err(LineRefusal {
+            refusal: Refusal::TextLong,
+            line: 0,
+        });
     }
-    match read_lines(text, values, rows, rules, labels) {
-        LinesRead::Refused(f, n) => TextRead::Refused(f, n),
-        LinesRead::Rules(counts) => match jumps::settle(
-            values,
-            rows,
-            rules,
-            labels,
-            jumps,
-            counts.rules,
-        ) {
-            Settled::All => TextRead::Accepted(counts),
-            Settled::Missing(n) => TextRead::Refused(Refusal::LabelMissing, n),
-        },
+    let counts = read_lines(text, values, rows, rules, labels)?;
+    match jumps::settle(values, rows, rules, labels, jumps, counts.rules) {
+        Ok(()) => Ok(counts),
+        Err(line) => Err(LineRefusal {
+            refusal: Refusal::LabelMissing,
+            line,
+        }),
     }
 }

@@ -16,8 +16,7 @@ ghost use Rattle.std.specs.Prelude.{◌≤◌, length};
 ghost use Rattle.device_lookup.specs.Lookup.{Sound, Standing, OfDevice, Within, Chained};
 
 use answers::Given;
-use device_lookup::{Chain, Value};
-use outcome_check::Checked;
+use device_lookup::{Chain, Span};
 use std::io;
 use std::io::{Read, Stdout};
 
@@ -234,10 +233,7 @@ enum Kind {
 }
 
 fn is_sound(rec: &[u8], chain: usize) -> bool {
-    match outcome_check::check(rec, chain) {
-        Checked::Sound(_) => true,
-        Checked::Faulty => false,
-    }
+    outcome_check::check(rec, chain).is_some()
 }
 
 fn judge(kind: Kind, rec: &[u8], chain: usize) -> bool {
@@ -424,12 +420,12 @@ fn agree_text(want: &[u8], n: usize, text: &[u8]) -> usize {
     agree(want, b, b']')
 }
 
-fn agree_value(want: &[u8], n: usize, rec: &[u8], v: Value) -> usize
+fn agree_value(want: &[u8], n: usize, rec: &[u8], v: Option<Span>) -> usize
     requires { Within v (length rec.now) }
 {
     match v {
-        Value::At(_, _) => agree_text(want, n, device_lookup::part_of(rec, v)),
-        Value::Missing => agree_all(want, n, b" missing"),
+        Some(_) => agree_text(want, n, device_lookup::part_of(rec, v)),
+        None => agree_all(want, n, b" missing"),
     }
 }
 

@@ -1,13 +1,4 @@
-// What a device record and the target hold together, and what a change of the target answers.
+// What a device record and the target hold together, and what a change of the target answers: the layout of the record that it leaves, or its
+// refusal.
 
 #![tactic(auto)]
-
-use outcome_target::Layout;
-use refusals::Refusal;
-
-// The layout of the record that a change leaves, or its refusal.
-#[derive(Drop)]
-pub enum Change {
-    Left(Layout),
-    Refused(Refusal),
-}

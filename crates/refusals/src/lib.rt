@@ -6,65 +6,53 @@ ghost use Rattle.std.specs.Prelude.{◌≡◌};
 ghost use Rattle.lists.specs.Refusal as refusal;
 ghost use Rattle.refusals.specs.Refusals.{refusal_of};
 
-#[derive(Clone, Copy)]
+#[derive(Debug, Clone, Copy, PartialEq, Eq)]
 pub enum Refusal {
-    TargetShort,
-    TextLong,
-    LineBad,
-    KeyBad,
-    ArgumentBad,
-    OperatorBad,
-    ValueBad,
-    ContentBad,
-    PairExtra,
-    CommaMissing,
-    RuleExtra,
-    LabelMissing,
-    LineOpen,
-    FileTwice,
-    DeviceBad,
-    OutcomeBad,
-    TooNew,
-    SheetBad,
-    SetBad,
-    SubstitutionLong,
-    LinkBad,
-    ListFull,
-    OwnerBad,
-    ModeBad,
-    CommandMissing,
-    ModeShared,
+    TargetShort = 1,
+    TextLong = 2,
+    LineBad = 10,
+    KeyBad = 11,
+    ArgumentBad = 12,
+    OperatorBad = 13,
+    ValueBad = 14,
+    ContentBad = 15,
+    PairExtra = 16,
+    CommaMissing = 17,
+    RuleExtra = 18,
+    LabelMissing = 19,
+    LineOpen = 20,
+    FileTwice = 21,
+    DeviceBad = 3,
+    OutcomeBad = 4,
+    TooNew = 5,
+    SheetBad = 6,
+    SetBad = 7,
+    SubstitutionLong = 30,
+    LinkBad = 31,
+    ListFull = 32,
+    OwnerBad = 33,
+    ModeBad = 34,
+    CommandMissing = 35,
+    ModeShared = 36,
+}
+
+// A refusal and the line of the text that it is about.
+#[derive(Debug, Clone, Copy, PartialEq, Eq)]
+pub struct LineRefusal {
+    pub refusal: Refusal,
+    pub line: usize,
+}
+
+// A refusal, the position of the record or file of a set that it is about, and the line of its text, or 0.
+#[derive(Debug, Clone, Copy, PartialEq, Eq)]
+pub struct SetRefusal {
+    pub refusal: Refusal,
+    pub position: usize,
+    pub line: usize,
 }
 
 pub fn number(r: Refusal) -> u32
     ensures { result ≡ refusal.number (refusal_of r) }
 {
-    match r {
-        Refusal::TargetShort => 1,
-        Refusal::TextLong => 2,
-        Refusal::LineBad => 10,
-        Refusal::KeyBad => 11,
-        Refusal::ArgumentBad => 12,
-        Refusal::OperatorBad => 13,
-        Refusal::ValueBad => 14,
-        Refusal::ContentBad => 15,
-        Refusal::PairExtra => 16,
-        Refusal::CommaMissing => 17,
-        Refusal::RuleExtra => 18,
-        Refusal::LabelMissing => 19,
-        Refusal::LineOpen => 20,
-        Refusal::FileTwice => 21,
-        Refusal::DeviceBad => 3,
-        Refusal::OutcomeBad => 4,
-        Refusal::TooNew => 5,
-        Refusal::SheetBad => 6,
-        Refusal::SetBad => 7,
-        Refusal::SubstitutionLong => 30,
-        Refusal::LinkBad => 31,
-        Refusal::ListFull => 32,
-        Refusal::OwnerBad => 33,
-        Refusal::ModeBad => 34,
-        Refusal::CommandMissing => 35,
-        Refusal::ModeShared => 36,
-    }
+    r as u32
 }

@@ -1,20 +1,13 @@
--- A turn of the search for NUL.
+-- The search for NUL.
 -- Assumes nothing.
-use Prim.Native.Nat.{ℕ, ◌+◌, ◌≤◌, ◌<◌}
-use mathlib.Core.Path.{◌≡◌, refl}
-use mathlib.Core.Bool.{true, false}
-use mathlib.Core.List.{List}
-use borrow.Author.Tests.{eq-eqb, ne_eqb}
-use lib.ListN.{length, get_or, drop, drop_of_length-le}
+use Rattle.std.proofs.Common.{◌≡◌, refl, ℕ, Bool, true, false, not, ◌&&◌, ◌||◌, List, [], ◌∷◌, eqb}
+use Rattle.std.specs.List.{list_any}
 use Rattle.lists.specs.Bytes.{clean}
-use Rattle.lists.proofs.Rest.{rest_at}
 
-module _ (s : List ℕ) (i : ℕ) where
-  pub clean_nul : i < length s → get_or s i 0 ≡ 0 → clean (drop i s) ≡ false
-  clean_nul h e = rw (rest_at s i h, eq-eqb _ _ e)
-
-  pub clean-next : i < length s → (get_or s i 0 ≡ 0 → ⊥) → clean (drop i s) ≡ clean (drop (i + 1) s)
-  clean-next h n = rw (rest_at s i h, ne_eqb _ _ n)
-
-  pub clean-none : length s ≤ i → clean (drop i s) ≡ true
-  clean-none h = rw (drop_of_length-le s h)
+pub no_nul : (s : List ℕ) → not (list_any (λ y. eqb y 0) s) ≡ clean s
+no_nul [] = refl
+no_nul (b ∷ bs) = go (eqb b 0) (no_nul bs)
+  where
+    go : (t : Bool) → not (list_any (λ y. eqb y 0) bs) ≡ clean bs → not (t || list_any (λ y. eqb y 0) bs) ≡ (not t && clean bs)
+    go true h = refl
+    go false h = h

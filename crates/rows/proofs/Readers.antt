@@ -4,27 +4,24 @@ use Prim.Native.Nat.{ℕ, zero, suc, ◌+◌, ◌-◌, ◌≤◌, ◌<◌}
 use mathlib.Core.Path.{◌≡◌, refl, sym, ap, ap₂, ◌∙◌, subst}
 use mathlib.Core.Bool.{Bool, true, false, ◌&&◌}
 use mathlib.Core.List.{List, [], ◌∷◌, map}
-use native.Mathlib.Nat.{not-suc-le-zero}
 use native.Mathlib.Omega.{arith}
 use borrow.Author.Tests.{le-leb, lt-leb, leb-true, leb-false}
 use lib.Dec.{leb}
-use lib.ListN.{length, take, drop, get_or, length-drop}
+use lib.ListN.{length, take, drop, length-drop}
 use lib.Seq.{drop-drop}
-use Rattle.lists.proofs.Tests.{and_both, and-false}
+use Rattle.lists.specs.Lists.{pick}
+use Rattle.lists.proofs.Tests.{and_both}
 use Rattle.lists.proofs.Moves.{ap_at}
 use Rattle.bits.specs.Bits.{number_at}
 use Rattle.entries.specs.Parse.{Parse, got, bad, bind, keep, many}
 use Rattle.entries.specs.Entry.{exactly, Property, ok_prop, prop_at, prop_on, one_prop, one_text}
 use Rattle.entries.proofs.Rows.{through}
 use Rattle.entries.proofs.Entries.{kept}
-use Rattle.rows.specs.Entry.{head_len, name_len, rest_len, size, name, rest, Placed}
-use Rattle.rows.specs.Row.{Row, names, end_in, end_of}
+use Rattle.rows.specs.Entry.{head_len, name_len, rest_len, size, name, rest}
+use Rattle.rows.specs.Row.{Row, names, end_in, end_of, passed_end}
 use Rattle.rows.specs.declared.Kind.{Kind}
 use Rattle.rows.specs.declared.Kind.TheVariants as kind
-use Rattle.rows.specs.declared.Entry.{Entry}
-use Rattle.rows.specs.declared.RowEnd.{RowEnd}
-use Rattle.rows.specs.declared.RowEnd.TheVariants.{At, Bad}
-use Rattle.rows.proofs.Turns.{place_end, place-name, place_rest, place-next}
+use Rattle.std.specs.Prelude.{None, Some}
 
 -- a reader of entries of a kind: what it reads, and the test that its content must pass
 pub record Reads (A : Type 0) (kind : Kind) (one : List ℕ → Parse A) (ok : List ℕ → Bool) (here : List ℕ → A) : Type 0 where
@@ -147,57 +144,35 @@ module _ {A : Type 0} {kind : Kind} {one : List ℕ → Parse A} {ok : List ℕ 
 -- ---- where a check says that it ends
 
 -- something was read, and ends there
-pub end_at : {A X : Type 0} (n p : ℕ) (q : Parse A) → end_of n q ≡ At p → ((a : A) (r : List ℕ) → q ≡ got a r → p ≡ n - length r → X) → X
+pub end_at : {A X : Type 0} (n p : ℕ) (q : Parse A) → end_of n q ≡ Some p → ((a : A) (r : List ℕ) → q ≡ got a r → p ≡ n - length r → X) → X
 end_at n p (got a r) e k = k a r refl (cc)
 end_at n p bad e k = let z : ◌≡◌ {A = ℕ} 0 1 = cc in absurd (omega arith)
 
 -- nothing was read
-pub end-bad : {A : Type 0} (n : ℕ) (q : Parse A) → end_of n q ≡ Bad → q ≡ bad
+pub end-bad : {A : Type 0} (n : ℕ) (q : Parse A) → end_of n q ≡ None → q ≡ bad
 end-bad n (got a r) e = let z : ◌≡◌ {A = ℕ} 0 1 = cc in absurd (omega arith)
 end-bad n bad e = refl
 
--- ---- a turn of a check
+-- ---- a row whose entries are checked as they are passed
 
 end_more : {A : Type 0} (n : ℕ) (a : A) (p : Parse (List A)) → end_of n (bind p (λ xs q. got (a ∷ xs) q)) ≡ end_of n p
 end_more n a (got xs q) = refl
 end_more n a bad = refl
 
-module _ {A : Type 0} (one : List ℕ → Parse A) (n : ℕ) (bs : List ℕ) where
-  got-turn : (left : ℕ) (a : A) (q : List ℕ) → 0 < left → one bs ≡ got a q → end_of n (many one left bs) ≡ end_of n (many one (left - 1) q)
-  got-turn zero a q h e = absurd (not-suc-le-zero h)
-  got-turn (suc l) a q h e = rw e (end_more n a (many one l q)) ∙ ap_at (λ i. end_of n (many one i q)) l (suc l - 1) (omega arith)
-
-  bad-turn : (left : ℕ) → 0 < left → one bs ≡ bad → end_of n (many one left bs) ≡ Bad
-  bad-turn zero h e = absurd (not-suc-le-zero h)
-  bad-turn (suc l) h e = rw e
-
--- at the end
-pub check-none : {A : Type 0} (one : List ℕ → Parse A) (l : List ℕ) (p left : ℕ) → left ≡ 0 → p ≤ length l → end_of (length l) (many one left (drop p l)) ≡ At p
-check-none one l p left e h = rw e (ap_at (λ i. At i) (length l - length (drop p l)) p (omega (arith, length-drop p l)))
-
-module _ {A : Type 0} {kind : Kind} {one : List ℕ → Parse A} {ok : List ℕ → Bool} {here : List ℕ → A} (R : Reads A kind one ok here) (l : List ℕ) (p left : ℕ) (h : 0 < left) where
-  -- the entry reaches past the end
-  pub check_outside : length (drop p l) < size kind (drop p l) → end_of (length l) (many one left (drop p l)) ≡ Bad
-  check_outside k = bad-turn one (length l) (drop p l) left h (R.is (drop p l) ∙ rw (lt-leb (size kind (drop p l)) (length (drop p l)) k))
-
-  -- its content is faulty
-  pub check-faulty : ok (drop p l) ≡ false → end_of (length l) (many one left (drop p l)) ≡ Bad
-  check-faulty k = bad-turn one (length l) (drop p l) left h (R.is (drop p l) ∙ rw (k, and-false (leb (size kind (drop p l)) (length (drop p l)))))
-
-  -- it is sound
-  pub check-next : (e : Entry) → Placed kind l p e → ok (drop p l) ≡ true → end_of (length l) (many one left (drop p l)) ≡ end_of (length l) (many one (left - 1) (drop e.end l))
-  check-next e w k =
-      let s : size kind (drop p l) ≤ length (drop p l) = omega (arith, length-drop p l, place_end kind l p e w, w.within) in
-      got-turn one (length l) (drop p l) left (here (drop p l)) (drop e.end l) h
-      (R.is (drop p l) ∙ rw (k, le-leb (size kind (drop p l)) (length (drop p l)) s, place-next kind l p e w))
-
--- the content of a property, in the places that code has
-pub property-ok : (l : List ℕ) (p : ℕ) (e : Entry) → Placed kind.Property l p e
-    → ok_prop (record { key = take (e.rest - e.name) (drop e.name l); value = take (e.end - e.rest) (drop e.rest l) }) ≡ ok_prop (property_here (drop p l))
-property-ok l p e w =
-    let a = place-name kind.Property l p e w in
-    let b = place_rest kind.Property l p e w in
-    let q : ◌≡◌ {A = Property} (record { key = take (e.rest - e.name) (drop e.name l); value = take (e.end - e.rest) (drop e.rest l) }) (property_here (drop p l)) =
-    λ i. record { key = a i; value = b i }
-    in
-    ap ok_prop q
+-- its end is that of what is read
+module _ {A : Type 0} {kind : Kind} {one : List ℕ → Parse A} {ok : List ℕ → Bool} {here : List ℕ → A} (R : Reads A kind one ok here)
+    (test : List ℕ → List ℕ → List ℕ → Bool) (same : (bs : List ℕ) → test (take (head_len kind) bs) (name kind bs) (rest kind bs) ≡ ok bs) where
+  pub passed_read : (l : List ℕ) (n p : ℕ) → p ≤ length l → passed_end kind test p n (drop p l) ≡ end_of (length l) (many one n (drop p l))
+  passed_read l zero p h = ap_at (λ i. Some i) p (length l - length (drop p l)) (omega (arith, length-drop p l))
+  passed_read l (suc n) p h =
+      rw (same (drop p l), R.is (drop p l)) (go (drop p l) (size kind (drop p l)) (leb (size kind (drop p l)) (length (drop p l))) (ok (drop p l)) λ e.
+      let d : drop (size kind (drop p l)) (drop p l) ≡ drop (p + size kind (drop p l)) l = drop-drop (size kind (drop p l)) p l in
+      rw d (passed_read l n (p + size kind (drop p l)) (omega (arith, leb-true (size kind (drop p l)) (length (drop p l)) e, length-drop p l))))
+    where
+      go : (bs : List ℕ) (s : ℕ) (t u : Bool)
+          → (t ≡ true → passed_end kind test (p + s) n (drop s bs) ≡ end_of (length l) (many one n (drop s bs)))
+          → pick (t && u) (passed_end kind test (p + s) n (drop s bs)) None
+          ≡ end_of (length l) (bind (keep (t && u) (here bs) (drop s bs)) (λ a q. bind (many one n q) (λ xs r. got (a ∷ xs) r)))
+      go bs s true true f = f refl ∙ sym (end_more (length l) (here bs) (many one n (drop s bs)))
+      go bs s true false f = refl
+      go bs s false u f = refl

@@ -3,20 +3,21 @@
 use Prim.Native.Nat.{ℕ, zero, suc, ◌+◌, ◌-◌, ◌≤◌, ◌<◌}
 use mathlib.Core.Path.{◌≡◌, refl, sym, ap, ap₂, ◌∙◌, subst}
 use mathlib.Core.Bool.{Bool, true, false, not, ◌&&◌, ◌||◌}
-use mathlib.Core.List.{List, [], ◌∷◌}
+use mathlib.Core.List.{List}
 use native.Mathlib.Nat.{not-suc-le-zero}
 use native.Mathlib.Omega.{arith}
 use lib.ListN.{length, take, drop, length-drop}
 use lib.Seq.{drop-drop}
+use borrow.Author.Tests.{le-leb, lt-leb}
 use Rattle.lists.specs.Lists.{pick}
 use Rattle.lists.specs.Bytes.{same_bytes, among, distinct}
 use Rattle.lists.proofs.Moves.{ap_at}
 use Rattle.rows.specs.Entry.{head_len, name_len, rest_len, size, name, rest, Placed}
-use Rattle.rows.specs.Row.{Row, names, find_in, end_in}
+use Rattle.std.specs.Prelude.{None, leb}
+use Rattle.rows.specs.Row.{Row, names, find_in, end_in, passed_end}
 use Rattle.rows.specs.declared.Kind.{Kind}
 use Rattle.rows.specs.declared.Entry.{Entry}
-use Rattle.rows.specs.declared.Found.{Found}
-use Rattle.rows.specs.declared.Found.TheVariants.{At, Missing}
+use Rattle.std.specs.Prelude.{Ok, is_ok}
 
 -- ---- one entry
 
@@ -52,10 +53,10 @@ row-others kind (suc n) bs h r = subst (λ (i : ℕ). Row kind i (drop (size kin
 
 find_first : (kind : Kind) (x : List ℕ) (at left : ℕ) (bs : List ℕ) → 0 < left
     → find_in kind x at left bs
-    ≡ pick (same_bytes (name kind bs) x) (At at (at + head_len kind + name_len kind bs) (rest_len kind bs)) (find_in kind x (at + size kind bs) (left - 1) (drop (size kind bs) bs))
+    ≡ pick (same_bytes (name kind bs) x) (Ok (record { at = at; value = at + head_len kind + name_len kind bs; len = rest_len kind bs })) (find_in kind x (at + size kind bs) (left - 1) (drop (size kind bs) bs))
 find_first kind x at zero bs h = absurd (not-suc-le-zero h)
 find_first kind x at (suc n) bs h =
-    ap_at (λ i. pick (same_bytes (name kind bs) x) (At at (at + head_len kind + name_len kind bs) (rest_len kind bs)) (find_in kind x (at + size kind bs) i (drop (size kind bs) bs))) n (suc n - 1) (omega arith)
+    ap_at (λ i. pick (same_bytes (name kind bs) x) (Ok (record { at = at; value = at + head_len kind + name_len kind bs; len = rest_len kind bs })) (find_in kind x (at + size kind bs) i (drop (size kind bs) bs))) n (suc n - 1) (omega arith)
 
 distinct-first : (kind : Kind) (left : ℕ) (bs : List ℕ) → 0 < left
     → distinct (names kind left bs)
@@ -76,14 +77,14 @@ module _ (kind : Kind) (l : List ℕ) (p left : ℕ) (e : Entry) (w : Placed kin
 
   find_turn : (x : List ℕ)
       → find_in kind x p left (drop p l)
-      ≡ pick (same_bytes (take (e.rest - e.name) (drop e.name l)) x) (At p e.rest (e.end - e.rest)) (find_in kind x e.end (left - 1) (drop e.end l))
+      ≡ pick (same_bytes (take (e.rest - e.name) (drop e.name l)) x) (Ok (record { at = p; value = e.rest; len = e.end - e.rest })) (find_in kind x e.end (left - 1) (drop e.end l))
   find_turn x =
       let a : p + head_len kind + name_len kind (drop p l) ≡ e.rest = omega (arith, w.start, w.middle) in
       let b : rest_len kind (drop p l) ≡ e.end - e.rest = omega (arith, w.end) in
       find_first kind x p left (drop p l) h
       ∙ rw (sym (place_end kind l p e w), sym (place-next kind l p e w), sym (place-name kind l p e w), a, b)
 
-  pub find_here : (x : List ℕ) → same_bytes (take (e.rest - e.name) (drop e.name l)) x ≡ true → find_in kind x p left (drop p l) ≡ At p e.rest (e.end - e.rest)
+  pub find_here : (x : List ℕ) → same_bytes (take (e.rest - e.name) (drop e.name l)) x ≡ true → find_in kind x p left (drop p l) ≡ Ok (record { at = p; value = e.rest; len = e.end - e.rest })
   find_here x t = find_turn x ∙ rw t
 
   pub find_next : (x : List ℕ) → same_bytes (take (e.rest - e.name) (drop e.name l)) x ≡ false
@@ -105,23 +106,67 @@ module _ (kind : Kind) (l : List ℕ) (p left : ℕ) (e : Entry) (w : Placed kin
   pub end-next : end_in kind p left (drop p l) ≡ end_in kind e.end (left - 1) (drop e.end l)
   end-next = end-first kind p left (drop p l) h ∙ rw (sym (place_end kind l p e w), sym (place-next kind l p e w))
 
+-- the same with a count of the entries that were passed
+module _ (kind : Kind) (l : List ℕ) (p n i : ℕ) (e : Entry) (w : Placed kind l p e) (h : i < n) where
+  left : 0 < n - i
+  left = omega arith
+
+  others : n - i - 1 ≡ n - (i + 1)
+  others = omega arith
+
+  pub row_step : Row kind (n - i) (drop p l) → Row kind (n - (i + 1)) (drop e.end l)
+  row_step r = rw others at (row-turn kind l p (n - i) e w left r)
+
+  pub find_step : (x : List ℕ) → same_bytes (take (e.rest - e.name) (drop e.name l)) x ≡ false
+      → find_in kind x p (n - i) (drop p l) ≡ find_in kind x e.end (n - (i + 1)) (drop e.end l)
+  find_step x t = rw others at (find_next kind l p (n - i) e w left x t)
+
+  pub twice_at : among (take (e.rest - e.name) (drop e.name l)) (names kind (n - i - 1) (drop e.end l)) ≡ true → distinct (names kind (n - i) (drop p l)) ≡ false
+  twice_at t = twice_here kind l p (n - i) e w left t
+
+  pub distinct_step : among (take (e.rest - e.name) (drop e.name l)) (names kind (n - i - 1) (drop e.end l)) ≡ false
+      → distinct (names kind (n - i) (drop p l)) ≡ distinct (names kind (n - (i + 1)) (drop e.end l))
+  distinct_step t = distinct-next kind l p (n - i) e w left t ∙ ap (λ k. distinct (names kind k (drop e.end l))) others
+
+  pub end_step : end_in kind p (n - i) (drop p l) ≡ end_in kind e.end (n - (i + 1)) (drop e.end l)
+  end_step = rw others at (end-next kind l p (n - i) e w left)
+
+-- ---- a turn of a check
+
+passed_first : (kind : Kind) (ok : List ℕ → List ℕ → List ℕ → Bool) (at left : ℕ) (bs : List ℕ) → 0 < left
+    → passed_end kind ok at left bs
+    ≡ pick (leb (size kind bs) (length bs) && ok (take (head_len kind) bs) (name kind bs) (rest kind bs)) (passed_end kind ok (at + size kind bs) (left - 1) (drop (size kind bs) bs)) None
+passed_first kind ok at zero bs h = absurd (not-suc-le-zero h)
+passed_first kind ok at (suc n) bs h =
+    ap_at (λ i. pick (leb (size kind bs) (length bs) && ok (take (head_len kind) bs) (name kind bs) (rest kind bs)) (passed_end kind ok (at + size kind bs) i (drop (size kind bs) bs)) None) n
+    (suc n - 1)
+    (omega arith)
+
+module _ (kind : Kind) (ok : List ℕ → List ℕ → List ℕ → Bool) (l : List ℕ) (p n i : ℕ) (h : i < n) where
+  -- the entry reaches past the end
+  pub passed_outside : length (drop p l) < size kind (drop p l) → passed_end kind ok p (n - i) (drop p l) ≡ None
+  passed_outside k = passed_first kind ok p (n - i) (drop p l) (omega arith) ∙ rw (lt-leb (size kind (drop p l)) (length (drop p l)) k)
+
+  -- it is inside
+  pub passed_turn : (e : Entry) → Placed kind l p e
+      → passed_end kind ok p (n - i) (drop p l)
+      ≡ pick (ok (take (e.name - p) (drop p l)) (take (e.rest - e.name) (drop e.name l)) (take (e.end - e.rest) (drop e.rest l))) (passed_end kind ok e.end (n - (i + 1)) (drop e.end l)) None
+  passed_turn e w =
+      let s : size kind (drop p l) ≤ length (drop p l) = omega (arith, length-drop p l, place_end kind l p e w, w.within) in
+      let a : head_len kind ≡ e.name - p = omega (arith, w.start) in
+      let b : n - i - 1 ≡ n - (i + 1) = omega arith in
+      passed_first kind ok p (n - i) (drop p l) (omega arith)
+      ∙ rw (le-leb (size kind (drop p l)) (length (drop p l)) s)
+      (λ j. pick (ok (take (a j) (drop p l)) (sym (place-name kind l p e w) j) (sym (place_rest kind l p e w) j)) (passed_end kind ok (sym (place_end kind l p e w) j) (b j) (sym (place-next kind l p e w) j)) None)
+
 -- ---- the search and the names
 
-pub found-named : (kind : Kind) (x : List ℕ) (at p v k n : ℕ) (bs : List ℕ) → find_in kind x at n bs ≡ At p v k → among x (names kind n bs) ≡ true
-found-named kind x at p v k zero bs e = let z : ◌≡◌ {A = ℕ} 0 1 = cc in absurd (omega arith)
-found-named kind x at p v k (suc n) bs e = go (same_bytes (name kind bs) x) refl (λ h. found-named kind x (at + size kind bs) p v k n (drop (size kind bs) bs) (rw h at e))
+pub found-named : (kind : Kind) (x : List ℕ) (at n : ℕ) (bs : List ℕ) → is_ok (find_in kind x at n bs) ≡ among x (names kind n bs)
+found-named kind x at zero bs = refl
+found-named kind x at (suc n) bs = go (same_bytes (name kind bs) x) (found-named kind x (at + size kind bs) n (drop (size kind bs) bs))
   where
-    go : (t : Bool) → same_bytes (name kind bs) x ≡ t → (same_bytes (name kind bs) x ≡ false → among x (names kind n (drop (size kind bs) bs)) ≡ true)
-        → (same_bytes (name kind bs) x || among x (names kind n (drop (size kind bs) bs))) ≡ true
-    go true h f = rw h
-    go false h f = rw h (f h)
-
-pub missing_named : (kind : Kind) (x : List ℕ) (at p n : ℕ) (bs : List ℕ) → find_in kind x at n bs ≡ Missing p → among x (names kind n bs) ≡ false
-missing_named kind x at p zero bs e = refl
-missing_named kind x at p (suc n) bs e = go (same_bytes (name kind bs) x) refl e (λ h. missing_named kind x (at + size kind bs) p n (drop (size kind bs) bs) (rw h at e))
-  where
-    go : (t : Bool) → same_bytes (name kind bs) x ≡ t → find_in kind x at (suc n) bs ≡ Missing p
-        → (same_bytes (name kind bs) x ≡ false → among x (names kind n (drop (size kind bs) bs)) ≡ false)
-        → (same_bytes (name kind bs) x || among x (names kind n (drop (size kind bs) bs))) ≡ false
-    go true h e f = let q : At at (at + head_len kind + name_len kind bs) (rest_len kind bs) ≡ Missing p = rw h at e in let z : ◌≡◌ {A = ℕ} 0 1 = cc in absurd (omega arith)
-    go false h e f = rw h (f h)
+    go : (t : Bool) → is_ok (find_in kind x (at + size kind bs) n (drop (size kind bs) bs)) ≡ among x (names kind n (drop (size kind bs) bs))
+        → is_ok (pick t (Ok (record { at = at; value = at + head_len kind + name_len kind bs; len = rest_len kind bs })) (find_in kind x (at + size kind bs) n (drop (size kind bs) bs)))
+        ≡ (t || among x (names kind n (drop (size kind bs) bs)))
+    go true h = refl
+    go false h = h

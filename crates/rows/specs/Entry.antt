@@ -1,6 +1,7 @@
 -- One entry of a record as code reads it: the lengths in its head, and the places of its parts.
 -- Assumes nothing.
 use Rattle.std.specs.Prelude.{ℕ, ◌+◌, ◌≤◌, ◌<◌, ◌≡◌, List, length, take, drop, get_or}
+use Rattle.std.specs.Prelude.{Option, None, Some}
 use Rattle.bits.specs.Bits.{number_at}
 use Rattle.rows.specs.declared.Kind.{Kind}
 use Rattle.rows.specs.declared.Kind.TheVariants.{Text, Property, Run, Reply}
@@ -8,8 +9,6 @@ use Rattle.rows.specs.declared.RunHead.{RunHead}
 use Rattle.rows.specs.declared.ReplyHead.{ReplyHead}
 use Rattle.rows.specs.declared.Shape.{Shape}
 use Rattle.rows.specs.declared.Entry.{Entry}
-use Rattle.rows.specs.declared.EntryRead.{EntryRead}
-use Rattle.rows.specs.declared.EntryRead.TheVariants.{Inside, Outside}
 
 -- the bytes before the name
 abbrev pub head_len : Kind → ℕ
@@ -70,6 +69,6 @@ pub record Placed (kind : Kind) (l : List ℕ) (p : ℕ) (r : Entry) : Type 0 wh
   pub end : r.end ≡ r.rest + rest_len kind (drop p l)
   pub within : r.end ≤ length l
 
-abbrev pub Read : Kind → List ℕ → ℕ → EntryRead → Type 0
-Read kind l p (Inside r) = Placed kind l p r
-Read kind l p Outside = length (drop p l) < size kind (drop p l)
+abbrev pub Read : Kind → List ℕ → ℕ → Option Entry → Type 0
+Read kind l p (Some r) = Placed kind l p r
+Read kind l p None = length (drop p l) < size kind (drop p l)

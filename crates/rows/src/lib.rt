@@ -2,13 +2,13 @@
 
 #![tactic(auto)]
 
-ghost use Rattle.std.specs.Prelude.{◌≡◌, ◌+◌, ◌-◌, ◌≤◌, ◌<◌, ◌&&◌, length, drop};
+ghost use Rattle.std.specs.Prelude.{◌≡◌, ℕ, ◌+◌, ◌≤◌, ◌<◌, Bool, List, length, drop};
 ghost use Rattle.lists.specs.Bytes.{clean as clean_list, ok_text, among, distinct as distinct_list};
 ghost use Rattle.bits.specs.Bits.{number_at};
 ghost use Rattle.entries.specs.Parse.{many};
 ghost use Rattle.entries.specs.Entry.{Property, ok_prop, one_prop};
 ghost use Rattle.rows.specs.Entry.{head_len, size, RunRead, ReplyRead, Shaped, Placed, Read};
-ghost use Rattle.rows.specs.Row.{Row, names, find_in, part_of, Within, end_in, end_of};
+ghost use Rattle.rows.specs.Row.{Row, names, find_in, part_of, Within, end_in, end_of, passed_end};
 
 use bits::BitCursor;
 
@@ -47,32 +47,19 @@ pub struct ReplyHead {
 }
 
 // Where the parts of an entry begin, and where it ends.
-#[derive(Drop)]
+#[derive(Clone, Copy)]
 pub struct Entry {
     pub name: usize,
     pub rest: usize,
     pub end: usize,
 }
 
-// The same of an entry that may reach past the record's end.
-#[derive(Drop)]
-pub enum EntryRead {
-    Inside(Entry),
-    Outside,
-}
-
-// Where a row ends that was checked.
-#[derive(Drop)]
-pub enum RowEnd {
-    At(usize),
-    Bad,
-}
-
-// Where a named entry begins, with its value's place and length; or where the row ends.
-#[derive(Drop)]
-pub enum Found {
-    At(usize, usize, usize),
-    Missing(usize),
+// Where a named entry begins, and its value's place and length.
+#[derive(Clone, Copy)]
+pub struct Found {
+    pub at: usize,
+    pub value: usize,
+    pub len: usize,
 }
 
 // ---- one entry
@@ -92,7 +79,7 @@ fn text_shape(head: u8) -> Shape
     ensures { (result.name ≡ head) × (result.rest ≡ 0) × (result.name < 256) }
 {
     Shape {
-        name: head as usize,
+        name: usize::from(head),
         rest: 0,
     }
 }
@@ -193,23 +180,23 @@ pub fn parts_at(rec: &[u8], p: usize, kind: Kind) -> Entry
     }
 }
 
-// The entry at any place.
-pub fn entry_at(rec: &[u8], p: usize, kind: Kind) -> EntryRead
+// The entry at any place; none where it would reach past the record's end.
+pub fn entry_at(rec: &[u8], p: usize, kind: Kind) -> Option<Entry>
     requires { p ≤ length rec.now }
     ensures { Read kind rec.now p result }
 {
     let room = rec.len() - p;
     let head = head_len(kind);
     if room < head {
-        return EntryRead::Outside;
+        return None;
     }
     let s = shape_at(rec, p, kind);
     if room - head < s.name + s.rest {
-        return EntryRead::Outside;
+        return None;
     }
     let name = p + head;
     let rest = name + s.name;
-    EntryRead::Inside(Entry {
+    Some(Entry {
         name,
         rest,
         end: rest + s.rest,
@@ -222,86 +209,103 @@ pub fn entry_at(rec: &[u8], p: usize, kind: Kind) -> EntryRead
 pub fn clean(s: &[u8]) -> bool
     ensures { result ≡ clean_list s.now }
 {
-    let mut i: usize = 0;
-    while i < s.len() {
-        if s[i] == 0 {
-            return false;
-        }
-        i += 1;
-    }
-    true
+    !s.contains(&0)
 }
 
 // 1 to `most` bytes, no NUL.
 pub fn ok_text(s: &[u8], most: usize) -> bool
     ensures { result ≡ ok_text most s.now }
 {
-    if s.len() < 1 {
-        return false;
-    }
-    if most < s.len() {
-        return false;
-    }
-    clean(s)
+    1 <= s.len() && s.len() <= most && clean(s)
 }
 
 // A key of 1 to 64 bytes, a value of at most 256, no NUL.
 pub fn ok_property(key: &[u8], value: &[u8]) -> bool
     ensures { result ≡ ok_prop (record { key = key.entry.now; value = value.now }) }
 {
-    if 256 < value.len() {
-        return false;
-    }
-    if !ok_text(key, 64) {
-        return false;
-    }
-    clean(value)
+    ok_text(key, 64) && value.len() <= 256 && clean(value)
 }
 
 // ---- rows
 
-// The place behind n properties from `at` on, each of them sound.
-pub fn check_properties(rec: &[u8], at: usize, n: usize) -> RowEnd
+// A kind of entries, and the test that each must pass, by its head, its name and what follows the name.
+pub trait EntryTest {
+    ghost use Rattle.rows.specs.declared.Kind.{Kind};
+
+    const KIND: Kind;
+
+    ghost KIND: { Kind };
+
+    ghost ok: { Self → List ℕ → List ℕ → List ℕ → Bool };
+
+    fn holds(&self, head: &[u8], name: &[u8], rest: &[u8]) -> bool
+        requires { head_len KIND ≤ length head.now }
+        ensures { result ≡ ok self.now head.now name.now rest.now };
+}
+
+// The place behind n entries from `at` on, if each of them passes a test.
+pub fn check_entries<T: EntryTest>(rec: &[u8], at: usize, n: usize, test: &T) -> Option<usize>
+    requires { at ≤ length rec.now }
+    ensures { result ≡ passed_end T.KIND (T.ok test.now) at n (drop at rec.now) }
+{
+    let mut p = at;
+    for _ in 0..n {
+        let entry = entry_at(rec, p, T::KIND)?;
+        if !test.holds(
+            &rec[p..entry.name],
+            &rec[entry.name..entry.rest],
+            &rec[entry.rest..entry.end],
+        ) {
+            return None;
+        }
+        p = entry.end;
+    }
+    Some(p)
+}
+
+#[derive(Clone, Copy)]
+struct PropertyTest;
+
+impl EntryTest for PropertyTest {
+    ghost use Rattle.rows.specs.declared.Kind.TheVariants as kinds;
+
+    const KIND: Kind = Kind::Property;
+
+    ghost KIND = { kinds.Property };
+
+    ghost ok = { λ t head key value. ok_prop (record { key = key; value = value }) };
+
+    fn holds(&self, _: &[u8], key: &[u8], value: &[u8]) -> bool {
+        ok_property(key, value)
+    }
+}
+
+// The place behind n properties from `at` on, if each of them is sound.
+pub fn check_properties(rec: &[u8], at: usize, n: usize) -> Option<usize>
     requires { at ≤ length rec.now }
     ensures { result ≡ end_of (length rec.now) (many one_prop n (drop at rec.now)) }
 {
-    let mut p = at;
-    let mut left = n;
-    while 0 < left {
-        let EntryRead::Inside(entry) = entry_at(rec, p, Kind::Property) else {
-            return RowEnd::Bad;
-        };
-        let name = entry.name;
-        let rest = entry.rest;
-        let end = entry.end;
-        if !ok_property(&rec[name..rest], &rec[rest..end]) {
-            return RowEnd::Bad;
-        }
-        p = end;
-        left -= 1;
-    }
-    RowEnd::At(p)
+    check_entries(rec, at, n, &PropertyTest)
 }
 
-// The entry named x among the n from `at` on.
-pub fn find(rec: &[u8], at: usize, n: usize, kind: Kind, x: &[u8]) -> Found
+// The entry named x among the n from `at` on; or where the row ends.
+pub fn find(rec: &[u8], at: usize, n: usize, kind: Kind, x: &[u8]) -> Result<Found, usize>
     requires { (at ≤ length rec.now) × Row kind n (drop at rec.now) }
     ensures { (result ≡ find_in kind x.now at n (drop at rec.now)) × Within result (length rec.now) }
 {
     let mut p = at;
-    let mut left = n;
-    while 0 < left {
+    for _ in 0..n {
         let entry = parts_at(rec, p, kind);
-        let name = entry.name;
-        let rest = entry.rest;
-        let end = entry.end;
-        if scan::same_long(&rec[name..rest], x) {
-            return Found::At(p, rest, end - rest);
+        if scan::same_long(&rec[entry.name..entry.rest], x) {
+            return Ok(Found {
+                at: p,
+                value: entry.rest,
+                len: entry.end - entry.rest,
+            });
         }
-        p = end;
-        left -= 1;
+        p = entry.end;
     }
-    Found::Missing(p)
+    Err(p)
 }
 
 // The value under a key among the n properties from `at` on, a part of the record; empty where it is missing.
@@ -310,8 +314,8 @@ pub fn value_of<'a, 'b>(rec: &'a [u8], at: usize, n: usize, key: &'b [u8]) -> &'
     ensures { result.now ≡ part_of (find_in Kind.Property key.now at n (drop at rec.now)) rec.now }
 {
     match find(rec, at, n, Kind::Property, key) {
-        Found::At(_, value, len) => &rec[value..value + len],
-        Found::Missing(_) => &rec[..0],
+        Ok(found) => &rec[found.value..found.value + found.len],
+        Err(_) => &rec[..0],
     }
 }
 
@@ -320,10 +324,7 @@ pub fn has(rec: &[u8], at: usize, n: usize, kind: Kind, x: &[u8]) -> bool
     requires { (at ≤ length rec.now) × Row kind n (drop at rec.now) }
     ensures { result ≡ among x.now (names kind n (drop at rec.now)) }
 {
-    match find(rec, at, n, kind, x) {
-        Found::At(_, _, _) => true,
-        Found::Missing(_) => false,
-    }
+    find(rec, at, n, kind, x).is_ok()
 }
 
 // No two of the n entries from `at` on have the same name.
@@ -332,17 +333,13 @@ pub fn distinct(rec: &[u8], at: usize, n: usize, kind: Kind) -> bool
     ensures { result ≡ distinct_list (names kind n (drop at rec.now)) }
 {
     let mut p = at;
-    let mut left = n;
-    while 0 < left {
+    for i in 0..n {
         let entry = parts_at(rec, p, kind);
-        let name = entry.name;
-        let rest = entry.rest;
-        let end = entry.end;
-        left -= 1;
-        if has(rec, end, left, kind, &rec[name..rest]) {
+        let name = &rec[entry.name..entry.rest];
+        if has(rec, entry.end, n - i - 1, kind, name) {
             return false;
         }
-        p = end;
+        p = entry.end;
     }
     true
 }
@@ -353,11 +350,8 @@ pub fn row_end(rec: &[u8], at: usize, n: usize, kind: Kind) -> usize
     ensures { (result ≡ end_in kind at n (drop at rec.now)) × (result ≤ length rec.now) }
 {
     let mut p = at;
-    let mut left = n;
-    while 0 < left {
-        let entry = parts_at(rec, p, kind);
-        p = entry.end;
-        left -= 1;
+    for _ in 0..n {
+        p = parts_at(rec, p, kind).end;
     }
     p
 }

@@ -4,7 +4,7 @@ use Prim.Native.Nat.{ℕ, zero, suc, ◌+◌, ◌-◌, ◌*◌, ◌≤◌, ◌<�
 use mathlib.Core.Path.{◌≡◌, refl, sym, ap, ap₂, ◌∙◌}
 use mathlib.Core.Bool.{Bool, true, false, not}
 use mathlib.Core.List.{List, [], ◌∷◌, ◌++◌}
-use mathlib.Core.Option.{none, some}
+use Rattle.std.specs.Prelude.{None, Some}
 use native.Mathlib.Omega.{arith}
 use lib.Dec.{eqb}
 use lib.ListN.{length, get_or, drop, length-drop}
@@ -19,9 +19,7 @@ use Rattle.keys.specs.Table.{key_of}
 use Rattle.refusals.specs.Refusals.{refusal_of}
 use Rattle.refusals.specs.declared.Refusal.{Refusal}
 use Rattle.pairs.specs.declared.Pair.{Pair}
-use Rattle.pairs.specs.declared.PairRead.{PairRead}
-use Rattle.pairs.specs.declared.PairRead.TheVariants as pairs
-use Rattle.pairs.specs.Answers.{pair_of, part_of, read_by}
+use Rattle.pairs.specs.Answers.{pair_of, part_of}
 use Rattle.pairs.specs.Bounds.{PairIn}
 use Rattle.table.specs.Puts.{PairPut}
 use Rattle.rule_lines.specs.declared.Fill.{Fill}
@@ -33,15 +31,12 @@ use Rattle.rule_lines.proofs.Filling.{NotedIs, noted-again, again-is, held-is, h
 
 -- ---- refused
 
-module _ (line : List ℕ) (at : ℕ) (q : PairRead) (is : read_by line q ≡ read_pair (drop at line)) where
-  pub read_here : (p : Pair) → q ≡ pairs.Read p → read_pair (drop at line) ≡ ok (part_of line p)
-  read_here p e = sym is ∙ ap (read_by line) e
+module _ (line : List ℕ) (at left : ℕ) (before : List rules.Pair) where
+  pub step-refused : (f : Refusal) → refused (refusal_of f) ≡ read_pair (drop at line) → pairs_on left before (drop at line) ≡ refused (refusal_of f)
+  step-refused f e = on-refused left before (drop at line) (refusal_of f) (sym e)
 
-  pub step-refused : (left : ℕ) (before : List rules.Pair) (f : Refusal) → q ≡ pairs.Refused f → pairs_on left before (drop at line) ≡ refused (refusal_of f)
-  step-refused left before f e = on-refused left before (drop at line) (refusal_of f) (sym is ∙ ap (read_by line) e)
-
-  pub step_extra : (left : ℕ) (before : List rules.Pair) (p : Pair) → q ≡ pairs.Read p → left ≡ 0 → pairs_on left before (drop at line) ≡ refused pair_extra
-  step_extra left before p e z = rw z (on_extra before (drop at line) (part_of line p) (read_here p e))
+  pub step_extra : (p : Pair) → ok (part_of line p) ≡ read_pair (drop at line) → left ≡ 0 → pairs_on left before (drop at line) ≡ refused pair_extra
+  step_extra p e z = rw z (on_extra before (drop at line) (part_of line p) (sym e))
 
 -- ---- read
 
@@ -57,7 +52,7 @@ module _ (line : List ℕ) (at : ℕ) (p : Pair) (e : read_pair (drop at line) �
         w.value.size,
       )
 
-  pub again-here : (left : ℕ) (v r : List ℕ) (from : ℕ) (s : Fill) → 0 < left → Held v r from s → none ≡ noted_once (key_of p.key) s → pairs_on left (held v r from s) (drop at line) ≡ refused pair_extra
+  pub again-here : (left : ℕ) (v r : List ℕ) (from : ℕ) (s : Fill) → 0 < left → Held v r from s → None ≡ noted_once (key_of p.key) s → pairs_on left (held v r from s) (drop at line) ≡ refused pair_extra
   again-here left v r from s h d n = on_step left (held v r from s) (drop at line) (part_of line p) h e ∙ rw (again-is v r from s (key_of p.key) d, noted-again (key_of p.key) s n)
 
   module _ (s n : Fill) (noted : NotedIs (key_of p.key) s n) where

@@ -4,7 +4,7 @@ use Prim.Native.Nat.{ℕ, zero, suc, ◌+◌, ◌-◌, ◌≤◌, ◌<◌}
 use mathlib.Core.Path.{◌≡◌, refl, sym, ap, ap₂, ◌∙◌}
 use mathlib.Core.Bool.{Bool, true, false, not, ◌||◌}
 use mathlib.Core.List.{List, [], ◌∷◌, ◌++◌, append_assoc, append-nil}
-use mathlib.Core.Option.{Option, none, some}
+use Rattle.std.specs.Prelude.{Option, None, Some}
 use native.Mathlib.Numerals.{sub-one}
 use native.Mathlib.Omega.{arith}
 use borrow.Author.Tests.{eq-eqb, ne_eqb}
@@ -23,26 +23,26 @@ use Rattle.rule_lines.specs.Filling.{pairs_on, comma_on, behind_on}
 -- ---- the first value with a key, one pair more
 
 abbrev pub or_else : Option (List ℕ) → Option (List ℕ) → Option (List ℕ)
-or_else none o = o
-or_else (some v) o = some v
+or_else None o = o
+or_else (Some v) o = Some v
 
-pub else_none : (o : Option (List ℕ)) → or_else o none ≡ o
-else_none none = refl
-else_none (some v) = refl
+pub else_none : (o : Option (List ℕ)) → or_else o None ≡ o
+else_none None = refl
+else_none (Some v) = refl
 
-pick_else : (t : Bool) (v : List ℕ) (o p : Option (List ℕ)) → pick t (some v) (or_else o p) ≡ or_else (pick t (some v) o) p
+pick_else : (t : Bool) (v : List ℕ) (o p : Option (List ℕ)) → pick t (Some v) (or_else o p) ≡ or_else (pick t (Some v) o) p
 pick_else true v o p = refl
 pick_else false v o p = refl
 
-pub value_snoc : (k : Key) (ps : List Pair) (q : Pair) → value_of k (ps ++ (q ∷ [])) ≡ or_else (value_of k ps) (pick (same_key q.key k) (some q.value) none)
+pub value_snoc : (k : Key) (ps : List Pair) (q : Pair) → value_of k (ps ++ (q ∷ [])) ≡ or_else (value_of k ps) (pick (same_key q.key k) (Some q.value) None)
 unfolding value_of
 value_snoc k [] q = refl
-value_snoc k (p ∷ ps) q = ap (λ (o : Option (List ℕ)). pick (same_key p.key k) (some p.value) o) (value_snoc k ps q) ∙ pick_else (same_key p.key k) p.value (value_of k ps) _
+value_snoc k (p ∷ ps) q = ap (λ (o : Option (List ℕ)). pick (same_key p.key k) (Some p.value) o) (value_snoc k ps q) ∙ pick_else (same_key p.key k) p.value (value_of k ps) _
 
-some_else : (o : Option (List ℕ)) (t : Bool) (v : List ℕ) → is_some (or_else o (pick t (some v) none)) ≡ (is_some o || t)
-some_else none true v = refl
-some_else none false v = refl
-some_else (some w) t v = refl
+some_else : (o : Option (List ℕ)) (t : Bool) (v : List ℕ) → is_some (or_else o (pick t (Some v) None)) ≡ (is_some o || t)
+some_else None true v = refl
+some_else None false v = refl
+some_else (Some w) t v = refl
 
 some_snoc : (k : Key) (ps : List Pair) (q : Pair) → is_some (value_of k (ps ++ (q ∷ []))) ≡ (is_some (value_of k ps) || same_key q.key k)
 some_snoc k ps q = ap is_some (value_snoc k ps q) ∙ some_else (value_of k ps) (same_key q.key k) q.value

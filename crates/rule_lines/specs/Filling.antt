@@ -1,7 +1,7 @@
 -- The pairs of a line behind those that were read of it.
 -- Assumes nothing.
-use Rattle.std.specs.Prelude.{ℕ, ◌+◌, ◌-◌, ◌*◌, ◌≤◌, ◌<◌, ◌≡◌, Bool, true, false, not, List, [], ◌∷◌, ◌++◌, eqb, length}
-use Rattle.std.proofs.Math.Option.{Option, none, some}
+use Rattle.std.specs.Prelude.{ℕ, ◌+◌, ◌-◌, ◌*◌, ◌≤◌, ◌<◌, ◌≡◌, Bool, true, false, List, [], ◌∷◌, ◌++◌, eqb, length}
+use Rattle.std.specs.Prelude.{Option, None, Some}
 use Rattle.lists.specs.Lists.{pick, is_some}
 use Rattle.lists.specs.Checked.{Checked, refused, ok, ◌>>=◌}
 use Rattle.lists.specs.Refusal.{Refusal, comma_missing}
@@ -9,7 +9,7 @@ use Rattle.rules.specs.Key.{Key, LABEL, GOTO, same_key}
 use Rattle.rules.specs.Pair.{Pair, label_of, goto_of}
 use Rattle.rules.specs.Reading.{again, read_pairs}
 use Rattle.table.specs.Table.{pairs_from, Rows}
-use Rattle.table.specs.Rules.{value_in}
+use Rattle.table.specs.Rules.{value_in, mark_of}
 use Rattle.rule_lines.specs.declared.Fill.{Fill}
 
 -- ---- the definition's pairs, behind those before
@@ -28,6 +28,10 @@ behind_on k before (b ∷ bs) = comma_on (eqb b 44) k before bs
 
 -- ---- in the table
 
+-- nothing of a line yet, behind n rows
+abbrev pub start : ℕ → ℕ → Fill
+start n used = record { label = None; goto = None; rows = n; used = used }
+
 -- the pairs of the line whose rows start at a place
 abbrev pub held : List ℕ → List ℕ → ℕ → Fill → List Pair
 held v r from s = pairs_from v r from (s.rows - from)
@@ -35,10 +39,10 @@ held v r from s = pairs_from v r from (s.rows - from)
 pub record Held (v r : List ℕ) (from : ℕ) (s : Fill) : Type 0 where
   pub rows : Rows v r s.rows s.used
   pub begun : from ≤ s.rows
-  pub label_in : s.label ≤ s.rows
-  pub label : value_in v r s.label ≡ label_of (held v r from s)
-  pub goto_in : s.goto ≤ s.rows
-  pub goto : value_in v r s.goto ≡ goto_of (held v r from s)
+  pub label_in : mark_of s.label ≤ s.rows
+  pub label : value_in v r (mark_of s.label) ≡ label_of (held v r from s)
+  pub goto_in : mark_of s.goto ≤ s.rows
+  pub goto : value_in v r (mark_of s.goto) ≡ goto_of (held v r from s)
 
 -- there is room for what m bytes of text can hold, the end of a line counted as one: a pair takes seven
 pub record Room (m : ℕ) (v r : List ℕ) (s : Fill) : Type 0 where
@@ -52,12 +56,12 @@ pub record Room (m : ℕ) (v r : List ℕ) (s : Fill) : Type 0 where
 -- the row that comes next is noted
 abbrev pub noted_fill : Key → Fill → Fill
 noted_fill k s = record {
-  label = pick (same_key k LABEL) (s.rows + 1) s.label;
-  goto = pick (same_key k GOTO) (s.rows + 1) s.goto;
+  label = pick (same_key k LABEL) (Some s.rows) s.label;
+  goto = pick (same_key k GOTO) (Some s.rows) s.goto;
   rows = s.rows;
   used = s.used;
 }
 
 -- unless there is one already
 abbrev pub noted_once : Key → Fill → Option Fill
-noted_once k s = pick (again k (not (eqb s.label 0)) (not (eqb s.goto 0))) none (some (noted_fill k s))
+noted_once k s = pick (again k (is_some s.label) (is_some s.goto)) None (Some (noted_fill k s))

@@ -5,70 +5,40 @@
 ghost use Rattle.std.specs.Prelude.{◌≡◌, ℕ, ◌+◌, ◌-◌, ◌≤◌, ◌<◌, length};
 ghost use Rattle.keys.specs.Table.{key_of};
 ghost use Rattle.table.specs.Table.{Rows};
-ghost use Rattle.rule_lines.specs.Filling.{noted_once, Held, Room};
-ghost use Rattle.rule_lines.specs.Answers.{noted_by, StepIs, PairsAre};
+ghost use Rattle.rule_lines.specs.Filling.{start, noted_once, Held, Room};
+ghost use Rattle.rule_lines.specs.Answers.{StepIs, PairsAre};
 
 use keys::Key;
-use pair_content::Judged;
 use refusals::Refusal;
 
-// How far a table is filled, and one more than the row of the LABEL and of the GOTO of the line at hand, or 0.
+// How far a table is filled, and the rows of the LABEL and of the GOTO of the line at hand.
 #[derive(Clone, Copy)]
 pub struct Fill {
-    pub label: usize,
-    pub goto: usize,
+    pub label: Option<usize>,
+    pub goto: Option<usize>,
     pub rows: usize,
     pub used: usize,
 }
 
-#[derive(Drop)]
-pub enum Noted {
-    Once(Fill),
-    Again,
-}
-
-// The key of the pair that comes next.
-fn note(key: Key, fill: Fill) -> Noted
-    requires { fill.rows < 65536 }
-    ensures { noted_by result ≡ noted_once (key_of key) fill }
+// The key of the pair that comes next: a second LABEL or GOTO is not taken.
+fn note(key: Key, fill: Fill) -> Option<Fill>
+    ensures { result ≡ noted_once (key_of key) fill }
 {
-    let label = fill.label;
-    let goto = fill.goto;
-    let rows = fill.rows;
-    let used = fill.used;
+    let row = Some(fill.rows);
     match kinds::key_number(key) {
-        17 => {
-            if label != 0 {
-                return Noted::Again;
-            }
-            Noted::Once(Fill {
-                label: rows + 1,
-                goto,
-                rows,
-                used,
-            })
-        }
-        18 => {
-            if goto != 0 {
-                return Noted::Again;
-            }
-            Noted::Once(Fill {
-                label,
-                goto: rows + 1,
-                rows,
-                used,
-            })
-        }
-        _ => Noted::Once(fill),
+        17 if fill.label.is_some() => None,
+        17 => Some(Fill { label: row, ..fill }),
+        18 if fill.goto.is_some() => None,
+        18 => Some(Fill { goto: row, ..fill }),
+        _ => Some(fill),
     }
 }
 
-// What follows a pair: nothing, or another pair at a place.
-#[derive(Drop)]
-pub enum Step {
-    Refused(Refusal),
-    Last(Fill),
-    Next(Fill, usize),
+// A table with a pair more, and where another pair stands behind it, if one follows.
+#[derive(Clone, Copy)]
+pub struct Step {
+    pub fill: Fill,
+    pub next: Option<usize>,
 }
 
 // The pair at a place, where left pairs are still allowed.
@@ -79,46 +49,45 @@ fn pair_step(
     values: &mut [u8],
     rows: &mut [u16],
     fill: Fill,
-) -> Step
+) -> Result<Step, Refusal>
     requires { (at ≤ length line.now) × Room (length line.now - at + 1) values.old rows.old fill }
     ensures { (from beyond : ℕ) → Held values.old rows.old from fill → Room (beyond + (length line.now - at) + 1) values.old rows.old fill → StepIs line.now at left from beyond fill values.old rows.old values.new rows.new result }
 {
-    match pair_content::read_pair(line, at) {
-        Judged::Read(p, plain) => {
-            if left == 0 {
-                return Step::Refused(Refusal::PairExtra);
-            }
-            let key = p.key;
-            let next = p.next;
-            match note(key, fill) {
-                Noted::Once(noted) => {
-                    let n = noted.rows;
-                    let used = table::put_pair(values, rows, n, noted.used, line, p, plain);
-                    let after = Fill {
-                        label: noted.label,
-                        goto: noted.goto,
-                        rows: n + 1,
-                        used,
-                    };
-                    if line.len() <= next {
-                        return Step::Last(after);
-                    }
-                    if line[next] != b',' {
-                        return Step::Refused(Refusal::CommaMissing);
-                    }
-                    Step::Next(after, next + 1)
-                }
-                Noted::Again => Step::Refused(Refusal::PairExtra),
-            }
-        }
-        Judged::Refused(f) => Step::Refused(f),
+    let judged = pair_content::read_pair(line, at)?;
+    if left == 0 {
+        return Err(Refusal::PairExtra);
     }
-}
-
-#[derive(Drop)]
-pub enum PairsRead {
-    Refused(Refusal),
-    Read(Fill),
+    let next = judged.pair.next;
+    let Some(noted) = note(judged.pair.key, fill) else {
+        return Err(Refusal::PairExtra);
+    };
+    let used = table::put_pair(
+        values,
+        rows,
+        noted.rows,
+        noted.used,
+        line,
+        judged.pair,
+        judged.plain,
+    );
+    let after = Fill {
+        rows: noted.rows + 1,
+        used,
+        ..noted
+    };
+    if line.len() <= next {
+        return Ok(Step {
+            fill: after,
+            next: None,
+        });
+    }
+    if line[next] != b',' {
+        return Err(Refusal::CommaMissing);
+    }
+    Ok(Step {
+        fill: after,
+        next: Some(next + 1),
+    })
 }
 
 // The pairs of a line from a place on, behind the rows of the lines before it.
@@ -129,31 +98,25 @@ pub fn read_pairs(
     rows: &mut [u16],
     n: usize,
     used: usize,
-) -> PairsRead
-    requires { (at ≤ length line.now) × Rows values.old rows.old n used × Room (length line.now - at + 1) values.old rows.old (record { label = 0; goto = 0; rows = n; used = used }) }
-    ensures { (beyond : ℕ) → Room (beyond + (length line.now - at) + 1) values.old rows.old (record { label = 0; goto = 0; rows = n; used = used }) → PairsAre line.now at beyond (record { label = 0; goto = 0; rows = n; used = used }) values.old rows.old values.new rows.new result }
+) -> Result<Fill, Refusal>
+    requires { (at ≤ length line.now) × Rows values.old rows.old n used × Room (length line.now - at + 1) values.old rows.old (start n used) }
+    ensures { (beyond : ℕ) → Room (beyond + (length line.now - at) + 1) values.old rows.old (start n used) → PairsAre line.now at beyond (start n used) values.old rows.old values.new rows.new result }
 {
     let mut i = at;
     let mut left: usize = 32;
     let mut fill = Fill {
-        label: 0,
-        goto: 0,
+        label: None,
+        goto: None,
         rows: n,
         used,
     };
     loop {
-        match pair_step(line, i, left, values, rows, fill) {
-            Step::Refused(f) => {
-                return PairsRead::Refused(f);
-            }
-            Step::Last(all) => {
-                return PairsRead::Read(all);
-            }
-            Step::Next(all, next) => {
-                fill = all;
-                i = next;
-                left -= 1;
-            }
-        }
+        let step = pair_step(line, i, left, values, rows, fill)?;
+        fill = step.fill;
+        let Some(next) = step.next else {
+            return Ok(fill);
+        };
+        i = next;
+        left -= 1;
     }
 }

@@ -4,7 +4,7 @@ use Prim.Native.Nat.{ℕ, suc, ◌+◌, ◌-◌, ◌*◌, ◌≤◌, ◌<◌}
 use mathlib.Core.Path.{◌≡◌, refl, sym, ap, ◌∙◌}
 use mathlib.Core.Bool.{Bool, true, false, not, ◌||◌}
 use mathlib.Core.List.{List, [], ◌∷◌, ◌++◌, append_assoc, append-nil}
-use mathlib.Core.Option.{Option, none, some}
+use Rattle.std.specs.Prelude.{Option, None, Some}
 use native.Mathlib.Omega.{arith}
 use borrow.Author.Tests.{eq-eqb, ne_eqb}
 use lib.Dec.{eqb}
@@ -104,8 +104,8 @@ value_plain v e = rw (← e)
 -- ---- a pair
 
 abbrev name_in' : Option rules.Row → List ℕ
-name_in' none = []
-name_in' (some r) = r.name
+name_in' None = []
+name_in' (Some r) = r.name
 
 row-name : (k : Key) → name_in' (nth (key_number k) rows) ≡ name_of k
 unfolding rows name_in
@@ -135,7 +135,7 @@ row-name RESULT = refl
 pub first_of : (x : List ℕ) (len : ℕ) → take (len - 0) (drop 0 x) ≡ take len x
 first_of x len = ap_at (λ n. take n x) (len - 0) len (omega arith)
 
-pub name_of_lem : (k : Key) (n : ℕ) (r : Row) (len : ℕ) → n ≡ key_number k → nth n rows ≡ some (row_of r) → len ≡ r.len → take len r.name ≡ name_of k
+pub name_of_lem : (k : Key) (n : ℕ) (r : Row) (len : ℕ) → n ≡ key_number k → nth n rows ≡ Some (row_of r) → len ≡ r.len → take len r.name ≡ name_of k
 unfolding row_of
 name_of_lem k n r len e f g = ap (λ (m : ℕ). take m r.name) g ∙ ap name_in' (sym f ∙ ap (λ (m : ℕ). nth m rows) e) ∙ row-name k
 

@@ -9,7 +9,7 @@ use Rattle.lists.specs.Lists.{cat}
 use Rattle.lists.proofs.Rest.{rest_at}
 use Rattle.splice.proofs.Laws.{length-stored}
 use Rattle.insertion.specs.Append.{Placed}
-use Rattle.insertion.specs.declared.Put.TheVariants.{Done}
+use Rattle.std.specs.Prelude.{Some}
 use Rattle.insertion.proofs.Laws.{appended_none, appended_both}
 
 -- of x, written behind the first u₀ bytes of l₀, all but the rest stands in l, up to u
@@ -31,7 +31,7 @@ module _ {x l₀ : List ℕ} {u₀ : ℕ} where
   writes_more {l} {u} {k} {l'} a b w p = record {
     done = w.done ++ a;
     is = append_assoc w.done a b ∙ w.is;
-    placed = appended_both w.done a l₀ u₀ u l w.placed (Done k) l' p;
+    placed = appended_both w.done a l₀ u₀ u l w.placed (Some k) l' p;
   }
 
   -- nothing is left

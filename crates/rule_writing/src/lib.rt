@@ -15,13 +15,6 @@ ghost use Rattle.rule_writing.specs.Tables.{others, RulesIn, WrittenIs};
 use keys::{Key, Operator};
 use table::Entry;
 
-// Where the text ends; or it would be longer than a text may be.
-#[derive(Drop)]
-pub enum Written {
-    Text(usize),
-    Long,
-}
-
 // ---- bytes
 
 fn put_one(out: &mut [u8], used: usize, b: u8) -> usize
@@ -96,10 +89,8 @@ fn put_plain(out: &mut [u8], used: usize, value: &[u8]) -> usize
     ensures { Placed (cat plain_byte value.now) out.old used result out.new }
 {
     let mut end = used;
-    let mut i: usize = 0;
-    while i < value.len() {
-        end = put_plain_byte(out, end, value[i]);
-        i += 1;
+    for b in value {
+        end = put_plain_byte(out, end, *b);
     }
     end
 }
@@ -110,10 +101,8 @@ fn put_code(out: &mut [u8], used: usize, value: &[u8]) -> usize
     ensures { Placed (cat code_byte value.now) out.old used result out.new }
 {
     let mut end = used;
-    let mut i: usize = 0;
-    while i < value.len() {
-        end = put_code_byte(out, end, value[i]);
-        i += 1;
+    for b in value {
+        end = put_code_byte(out, end, *b);
     }
     end
 }
@@ -146,9 +135,8 @@ fn put_name(out: &mut [u8], used: usize, key: Key) -> usize
     requires { used + length (name_of (key_of key)) ≤ length out.old }
     ensures { Placed (name_of (key_of key)) out.old used result out.new }
 {
-    let row = keys::row_at(scan::wide(kinds::key_number(key)));
-    let name = row.name;
-    put_first(out, used, name, scan::wide(row.len))
+    let row = keys::row_at(usize::from(kinds::key_number(key)));
+    put_first(out, used, row.name, usize::from(row.len))
 }
 
 // RUN without an argument stays without one.
@@ -182,14 +170,12 @@ fn put_pair(out: &mut [u8], used: usize, values: &[u8], pair: Entry) -> usize
     requires { EntryIn values.now pair × (used + length (pair_text (entry_of values.now pair)) ≤ length out.old) }
     ensures { Placed (pair_text (entry_of values.now pair)) out.old used result out.new }
 {
-    let key = pair.key;
-    let operator = pair.operator;
     let start = pair.start;
     let middle = pair.middle;
     let end = pair.end;
-    let named = put_name(out, used, key);
+    let named = put_name(out, used, pair.key);
     let argued = put_argument(out, named, &values[start..middle]);
-    let operated = put_operator(out, argued, operator);
+    let operated = put_operator(out, argued, pair.operator);
     put_value(out, operated, &values[middle..end])
 }
 
@@ -208,12 +194,10 @@ fn put_others(
     ensures { Placed (others (pairs_from values.now rows.now from (to - from))) out.old used result out.new }
 {
     let mut end = used;
-    let mut i = from;
-    while i < to {
+    for i in from..to {
         let pair = table::pair_at(rows, i);
         let parted = put_one(out, end, b',');
         end = put_pair(out, parted, values, pair);
-        i += 1;
     }
     end
 }
@@ -238,28 +222,26 @@ fn put_rule(
     put_others(out, end, values, rows, from + 1, to)
 }
 
-// All rules of a table, with one newline behind each. Only the last newline of a text of full size can be too much.
+// All rules of a table, with one newline behind each: where the text ends, unless it would be longer than a text may be. Only the last newline of a text of full size can be too much.
 pub fn put_rules(
     out: &mut [u8],
     values: &[u8],
     rows: &[u16],
     rules: &[u16],
     count: usize,
-) -> Written
+) -> Option<usize>
     requires { (most_text ≤ length out.old) × RulesIn values.now rows.now rules.now count × (length (written (rules_from values.now rows.now rules.now 0 count)) ≤ most_text + 1) }
     ensures { WrittenIs (written (rules_from values.now rows.now rules.now 0 count)) out.old result out.new }
 {
     let mut used: usize = 0;
-    let mut i: usize = 0;
-    while i < count {
+    for i in 0..count {
         let from = table::number_at(rules, i * 4 + 1);
         let to = table::number_at(rules, i * 4 + 2);
         let end = put_rule(out, used, values, rows, from, to);
         if end == 32768 {
-            return Written::Long;
+            return None;
         }
         used = put_one(out, end, b'\n');
-        i += 1;
     }
-    Written::Text(used)
+    Some(used)
 }

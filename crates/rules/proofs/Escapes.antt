@@ -4,7 +4,8 @@ use Prim.Native.Nat.{ℕ}
 use mathlib.Core.Path.{◌≡◌, refl, sym, ap, ◌∙◌, subst}
 use mathlib.Core.Bool.{Bool, true, false, not, ◌&&◌}
 use mathlib.Core.List.{List, [], ◌∷◌}
-use mathlib.Core.Option.{Option, none, some, none-ne-some, some-injective}
+use Rattle.std.specs.Prelude.{Option, None, Some}
+use Rattle.std.proofs.lemmas.Option.{none-some, same_Some}
 use native.Mathlib.Omega.{arith}
 use lib.Dec.{eqb}
 use borrow.Author.Tests.{eqb-true}
@@ -50,24 +51,24 @@ unfolding escape
 nothing true = refl
 nothing false = refl
 
-pub escape-back : (e : Bool) (bs : List ℕ) (p : Part (List ℕ)) → quoted e bs ≡ some p → escape (unescape p.value) ≡ back e p.value
+pub escape-back : (e : Bool) (bs : List ℕ) (p : Part (List ℕ)) → quoted e bs ≡ Some p → escape (unescape p.value) ≡ back e p.value
 unfolding quoted unescape
-escape-back e [] p h = absurd (none-ne-some p h)
+escape-back e [] p h = absurd (none-some p h)
 escape-back e (b ∷ bs) p h = go (eqb b 34 && not e) refl (quoted (eqb b 92) bs) h (λ q k. escape-back (eqb b 92) bs q k)
   where
-    go : (t : Bool) → (eqb b 34 && not e) ≡ t → (o : Option (Part (List ℕ))) → quoted_step t b bs o ≡ some p
-        → ((q : Part (List ℕ)) → o ≡ some q → escape (unescape q.value) ≡ back (eqb b 92) q.value) → escape (unescape p.value) ≡ back e p.value
-    go true m o k ih = let r = some-injective _ p k in rw (← r) (nothing e)
-    go false m none k ih = absurd (none-ne-some p k)
-    go false m (some q) k ih =
-        let r = some-injective _ p k in
+    go : (t : Bool) → (eqb b 34 && not e) ≡ t → (o : Option (Part (List ℕ))) → quoted_step t b bs o ≡ Some p
+        → ((q : Part (List ℕ)) → o ≡ Some q → escape (unescape q.value) ≡ back (eqb b 92) q.value) → escape (unescape p.value) ≡ back e p.value
+    go true m o k ih = let r = same_Some _ p k in rw (← r) (nothing e)
+    go false m None k ih = absurd (none-some p k)
+    go false m (Some q) k ih =
+        let r = same_Some _ p k in
         rw (← r) (step_back (eqb b 34) (eqb b 92) (starts_mark q.value) e b q.value (unescape q.value) refl refl refl m (ih q refl))
 
-written-again : (bs : List ℕ) (p : Part (List ℕ)) → quoted false bs ≡ some p → p.value ≡ escape (unescape p.value)
+written-again : (bs : List ℕ) (p : Part (List ℕ)) → quoted false bs ≡ Some p → p.value ≡ escape (unescape p.value)
 written-again bs p h = sym (escape-back false bs p h)
 
 -- two values are the same where they are written the same
-pub written_same : (bs cs : List ℕ) (p q : Part (List ℕ)) → quoted false bs ≡ some p → quoted false cs ≡ some q
+pub written_same : (bs cs : List ℕ) (p q : Part (List ℕ)) → quoted false bs ≡ Some p → quoted false cs ≡ Some q
     → same_bytes p.value q.value ≡ same_bytes (unescape p.value) (unescape q.value)
 written_same bs cs p q h k = at (same_bytes p.value q.value) refl (same_bytes (unescape p.value) (unescape q.value)) refl
   where

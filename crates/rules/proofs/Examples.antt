@@ -5,7 +5,7 @@ use Prim.Native.String.{String}
 use mathlib.Core.Path.{◌≡◌, refl}
 use mathlib.Core.Bool.{Bool, true, false, not, ◌&&◌}
 use mathlib.Core.List.{List, [], ◌∷◌, ◌++◌, map}
-use mathlib.Core.Option.{Option, none, some}
+use Rattle.std.specs.Prelude.{Option, None, Some}
 use lib.Dec.{eqb}
 use lib.ListN.{length, replicate, take, drop}
 use lib.IntN.{ℤ, pos, negsuc}
@@ -116,12 +116,12 @@ sameℤ (negsuc a) (pos b) = false
 sameℤ (negsuc a) (negsuc b) = eqb a b
 
 abbrev is_priority : Option Setting → ℤ → Bool
-is_priority none z = false
-is_priority (some escape_none) z = false
-is_priority (some escape_replace) z = false
-is_priority (some watched) z = false
-is_priority (some unwatched) z = false
-is_priority (some (priority y)) z = sameℤ y z
+is_priority None z = false
+is_priority (Some escape_none) z = false
+is_priority (Some escape_replace) z = false
+is_priority (Some watched) z = false
+is_priority (Some unwatched) z = false
+is_priority (Some (priority y)) z = sameℤ y z
 
 abbrev is_value_of : Checked Refusal (Part (List ℕ)) → List ℕ → ℕ → Bool
 is_value_of (refused f) v n = false

@@ -4,7 +4,7 @@ use Prim.Native.Nat.{ℕ, zero, suc, ◌+◌, ◌≤◌, ◌<◌}
 use mathlib.Core.Path.{◌≡◌, refl, sym, ap, ◌∙◌, subst}
 use mathlib.Core.Bool.{Bool, true, false, not, ◌&&◌}
 use mathlib.Core.List.{List, [], ◌∷◌, ◌++◌}
-use mathlib.Core.Option.{Option, none, some}
+use Rattle.std.specs.Prelude.{Option, None, Some}
 use native.Mathlib.Omega.{arith}
 use lib.Dec.{eqb, leb}
 use lib.ListN.{length, get_or, drop, length-drop, length-append}
@@ -22,7 +22,7 @@ use Rattle.rules.specs.Key.{Op, equal, unequal, assign, add, remove, final, Take
 use Rattle.rules.specs.Pair.{Pair}
 use Rattle.rules.specs.Coded.{coded_byte, put, coded_then, coded_step, coded}
 use Rattle.rules.specs.Reading.{unblank, read_key, absent, is_type, present, argument_by, read_argument, if_equals, op_of, read_op, quoted_step, quoted, starts_mark, unescape, read_plain, read_coded, starts_coded, value_by, read_value, sound, read_pair}
-use Rattle.rules.proofs.Sound.{Some, pick_some, found_some, require-then}
+use Rattle.rules.proofs.Sound.{InSome, pick_some, found_some, require-then}
 
 -- at most n bytes are left
 abbrev pub Left : {A : Type 0} → ℕ → Part A → Type 0
@@ -37,19 +37,19 @@ key_left bs =
     holds-bind (λ (_ : Row). Unit {0}) (Left (length bs)) (found (row_of (span is_upper bs).value) key_bad) _
     (found_some (λ (_ : Row). Unit {0}) (row_of (span is_upper bs).value) key_bad (any (row_of (span is_upper bs).value))) (λ r _. span_left is_upper bs)
   where
-    any : (o : Option Row) → Some (λ (_ : Row). Unit {0}) o
-    any none = tt
-    any (some r) = tt
+    any : (o : Option Row) → InSome (λ (_ : Row). Unit {0}) o
+    any None = tt
+    any (Some r) = tt
 
-braces_left : (bs : List ℕ) → Some (Left (length bs)) (in_braces bs)
+braces_left : (bs : List ℕ) → InSome (Left (length bs)) (in_braces bs)
 unfolding in_braces
 braces_left bs = at (span is_in_braces bs).rest refl
   where
-    at : (rest : List ℕ) → (span is_in_braces bs).rest ≡ rest → Some (Left (length bs)) (close_brace (span is_in_braces bs).value rest)
+    at : (rest : List ℕ) → (span is_in_braces bs).rest ≡ rest → InSome (Left (length bs)) (close_brace (span is_in_braces bs).value rest)
     at [] e = tt
     at (b ∷ rest) e =
         let h : length rest ≤ length bs = omega (arith, span_left is_in_braces bs, ap length e) in
-        pick_some (Left (length bs)) (between 1 most_key (length (span is_in_braces bs).value)) (some (record { value = (span is_in_braces bs).value; rest = rest })) none h tt
+        pick_some (Left (length bs)) (between 1 most_key (length (span is_in_braces bs).value)) (Some (record { value = (span is_in_braces bs).value; rest = rest })) None h tt
 
 absent-left : (t : Takes) (bs : List ℕ) → Holds (Left (length bs)) (absent t bs)
 absent-left takes_none bs = omega arith
@@ -83,17 +83,17 @@ module _ (b c : ℕ) (bs : List ℕ) where
   two : length (drop 2 bs) ≤ length bs
   two = omega (arith, length-drop 2 bs)
 
-  if_left : (o : Op) → Some (Left (length bs)) (if_equals c o (drop 2 bs))
-  if_left o = pick_some (Left (length bs)) (eqb c 61) (some (record { value = o; rest = drop 2 bs })) none two tt
+  if_left : (o : Op) → InSome (Left (length bs)) (if_equals c o (drop 2 bs))
+  if_left o = pick_some (Left (length bs)) (eqb c 61) (Some (record { value = o; rest = drop 2 bs })) None two tt
 
-  op_left : Some (Left (length bs)) (op_of b c (drop 1 bs) (drop 2 bs))
+  op_left : InSome (Left (length bs)) (op_of b c (drop 1 bs) (drop 2 bs))
   op_left =
       pick_some (Left (length bs)) (eqb b 61) _ _
-      (pick_some (Left (length bs)) (eqb c 61) (some (record { value = equal; rest = drop 2 bs })) (some (record { value = assign; rest = drop 1 bs })) two one)
+      (pick_some (Left (length bs)) (eqb c 61) (Some (record { value = equal; rest = drop 2 bs })) (Some (record { value = assign; rest = drop 1 bs })) two one)
       (pick_some (Left (length bs)) (eqb b 33) (if_equals c unequal (drop 2 bs)) _ (if_left unequal)
       (pick_some (Left (length bs)) (eqb b 43) (if_equals c add (drop 2 bs)) _ (if_left add)
       (pick_some (Left (length bs)) (eqb b 45) (if_equals c remove (drop 2 bs)) _ (if_left remove)
-      (pick_some (Left (length bs)) (eqb b 58) (if_equals c final (drop 2 bs)) none (if_left final) tt))))
+      (pick_some (Left (length bs)) (eqb b 58) (if_equals c final (drop 2 bs)) None (if_left final) tt))))
 
 operator_left : (allowed : List Op) (bs : List ℕ) → Holds (Left (length bs)) (read_op allowed bs)
 unfolding read_op
@@ -102,12 +102,12 @@ operator_left allowed bs =
     (found_some (Left (length bs)) (op_of (get_or bs 0 0) (get_or bs 1 0) (drop 1 bs) (drop 2 bs)) operator_bad (op_left (get_or bs 0 0) (get_or bs 1 0) bs))
     (λ o k. require-then (Left (length bs)) (allows allowed o.value) operator_bad (ok o) (λ _. k))
 
-step_left : (t : Bool) (b : ℕ) (bs : List ℕ) (o : Option (Part (List ℕ))) → Some (Left (length bs)) o → Some (Left (suc (length bs))) (quoted_step t b bs o)
+step_left : (t : Bool) (b : ℕ) (bs : List ℕ) (o : Option (Part (List ℕ))) → InSome (Left (length bs)) o → InSome (Left (suc (length bs))) (quoted_step t b bs o)
 step_left true b bs o h = omega arith
-step_left false b bs none h = tt
-step_left false b bs (some p) h = omega arith
+step_left false b bs None h = tt
+step_left false b bs (Some p) h = omega arith
 
-quoted-left : (escaped : Bool) (bs : List ℕ) → Some (Left (length bs)) (quoted escaped bs)
+quoted-left : (escaped : Bool) (bs : List ℕ) → InSome (Left (length bs)) (quoted escaped bs)
 unfolding quoted
 quoted-left escaped [] = tt
 quoted-left escaped (b ∷ bs) = step_left (eqb b 34 && not escaped) b bs (quoted (eqb b 92) bs) (quoted-left (eqb b 92) bs)
@@ -124,25 +124,25 @@ plain_less (b ∷ bs) =
     (λ _. holds-bind (Left (length bs)) (Less (suc (length bs))) (found (quoted false bs) value_bad) _ (found_some (Left (length bs)) (quoted false bs) value_bad (quoted-left false bs))
     (λ w k. require-then (Less (suc (length bs))) (leb (length (unescape w.value)) most_value) value_bad _ (λ _. omega arith)))
 
-put-left : (n b : ℕ) (o : Option (Part (List ℕ))) → Some (Left n) o → Some (Left (suc n)) (put b o)
-put-left n b none h = tt
-put-left n b (some p) h = omega arith
+put-left : (n b : ℕ) (o : Option (Part (List ℕ))) → InSome (Left n) o → InSome (Left (suc n)) (put b o)
+put-left n b None h = tt
+put-left n b (Some p) h = omega arith
 
-longer : (n : ℕ) (o : Option (Part (List ℕ))) → Some (Left n) o → Some (Left (suc n)) o
-longer n none h = tt
-longer n (some p) h = omega arith
+longer : (n : ℕ) (o : Option (Part (List ℕ))) → InSome (Left n) o → InSome (Left (suc n)) o
+longer n None h = tt
+longer n (Some p) h = omega arith
 
-coded-left : (k : ℕ) (bs : List ℕ) → Some (Left (length bs)) (coded k bs)
+coded-left : (k : ℕ) (bs : List ℕ) → InSome (Left (length bs)) (coded k bs)
 unfolding coded
 coded-left k [] = tt
 coded-left (suc k) (b ∷ bs) = longer (length bs) (coded k bs) (coded-left k bs)
 coded-left zero (b ∷ bs) = at (eqb b 34) (λ m. coded-left m bs)
   where
-    on : (o : Option (Item ℕ)) → ((m : ℕ) → Some (Left (length bs)) (coded m bs)) → Some (Left (suc (length bs))) (coded_then o (λ more. coded more bs))
-    on none f = tt
-    on (some i) f = put-left (length bs) i.value (coded i.more bs) (f i.more)
+    on : (o : Option (Item ℕ)) → ((m : ℕ) → InSome (Left (length bs)) (coded m bs)) → InSome (Left (suc (length bs))) (coded_then o (λ more. coded more bs))
+    on None f = tt
+    on (Some i) f = put-left (length bs) i.value (coded i.more bs) (f i.more)
 
-    at : (t : Bool) → ((m : ℕ) → Some (Left (length bs)) (coded m bs)) → Some (Left (suc (length bs))) (coded_step t b bs (λ more. coded more bs))
+    at : (t : Bool) → ((m : ℕ) → InSome (Left (length bs)) (coded m bs)) → InSome (Left (suc (length bs))) (coded_step t b bs (λ more. coded more bs))
     at true f = omega arith
     at false f = on (coded_byte b bs) f
 

@@ -4,7 +4,7 @@ use Prim.Native.Nat.{ℕ, zero, suc, ◌+◌, ◌-◌, ◌*◌, ◌≤◌, ◌<�
 use mathlib.Core.Path.{◌≡◌, refl, sym, ap, ap₂, ◌∙◌, subst}
 use mathlib.Core.Bool.{Bool, true, false, not, ◌&&◌, ◌||◌, true≢false}
 use mathlib.Core.List.{List, [], ◌∷◌}
-use mathlib.Core.Option.{Option, none, some}
+use Rattle.std.specs.Prelude.{Option, None, Some}
 use native.Mathlib.Omega.{arith}
 use lib.ListN.{length, get_or, drop}
 use lib.Dec.{leb, ltb, eqb}
@@ -74,16 +74,16 @@ SoundRule (p ∷ ps) = SoundPair p × SoundRule ps
 
 -- ---- what holds of a value, if there is one
 
-abbrev pub Some : {A : Type 0} → (A → Type 0) → Option A → Type 0
-Some P none = Unit {0}
-Some P (some a) = P a
+abbrev pub InSome : {A : Type 0} → (A → Type 0) → Option A → Type 0
+InSome P None = Unit {0}
+InSome P (Some a) = P a
 
-pub pick_some : {A : Type 0} (P : A → Type 0) (t : Bool) (a b : Option A) → Some P a → Some P b → Some P (pick t a b)
-pick_some P t a b h k = pick_both (Some P) t a b h k
+pub pick_some : {A : Type 0} (P : A → Type 0) (t : Bool) (a b : Option A) → InSome P a → InSome P b → InSome P (pick t a b)
+pick_some P t a b h k = pick_both (InSome P) t a b h k
 
-pub found_some : {A : Type 0} (P : A → Type 0) (o : Option A) (f : Refusal) → Some P o → Holds P (found o f)
-found_some P none f h = tt
-found_some P (some a) f h = h
+pub found_some : {A : Type 0} (P : A → Type 0) (o : Option A) (f : Refusal) → InSome P o → Holds P (found o f)
+found_some P None f h = tt
+found_some P (Some a) f h = h
 
 pub require-then : {B : Type 0} (Q : B → Type 0) (t : Bool) (f : Refusal) (c : Checked Refusal B) → (t ≡ true → Holds Q c) → Holds Q (require t f >> c)
 require-then Q true f c g = g refl
@@ -97,45 +97,45 @@ In32 (pos n) = n < 2147483648
 In32 (negsuc n) = n < 2147483648
 
 abbrev pub Range : Option Setting → Type 0
-Range none = Unit {0}
-Range (some escape_none) = Unit {0}
-Range (some escape_replace) = Unit {0}
-Range (some watched) = Unit {0}
-Range (some unwatched) = Unit {0}
-Range (some (priority z)) = In32 z
+Range None = Unit {0}
+Range (Some escape_none) = Unit {0}
+Range (Some escape_replace) = Unit {0}
+Range (Some watched) = Unit {0}
+Range (Some unwatched) = Unit {0}
+Range (Some (priority z)) = In32 z
 
 minus_range : (m : ℕ) → m ≤ 2147483648 → In32 (minus m)
 minus_range zero h = omega arith
 minus_range (suc n) h = omega arith
 
-sign_range : (negative : Bool) (m : ℕ) → Some In32 (with_sign negative m)
+sign_range : (negative : Bool) (m : ℕ) → InSome In32 (with_sign negative m)
 sign_range true m = at (leb m 2147483648) refl
   where
-    at : (t : Bool) → leb m 2147483648 ≡ t → Some In32 (pick t (some (minus m)) none)
+    at : (t : Bool) → leb m 2147483648 ≡ t → InSome In32 (pick t (Some (minus m)) None)
     at true e = minus_range m (leb-true m 2147483648 e)
     at false e = tt
 sign_range false m = at (leb m 2147483647) refl
   where
-    at : (t : Bool) → leb m 2147483647 ≡ t → Some In32 (pick t (some (pos m)) none)
+    at : (t : Bool) → leb m 2147483647 ≡ t → InSome In32 (pick t (Some (pos m)) None)
     at true e = let h = leb-true m 2147483647 e in omega arith
     at false e = tt
 
-digits_range : (bs : List ℕ) (n m : ℕ) (negative : Bool) → Some In32 (digits_from bs n m negative)
+digits_range : (bs : List ℕ) (n m : ℕ) (negative : Bool) → InSome In32 (digits_from bs n m negative)
 unfolding digits_from
-digits_range [] n m negative = pick_some In32 (eqb n 0) none (with_sign negative m) tt (sign_range negative m)
+digits_range [] n m negative = pick_some In32 (eqb n 0) None (with_sign negative m) tt (sign_range negative m)
 digits_range (b ∷ bs) n m negative =
-    pick_some In32 (is_digit b && ltb n 10) (digits_from bs (n + 1) (m * 10 + (b - 48)) negative) none
+    pick_some In32 (is_digit b && ltb n 10) (digits_from bs (n + 1) (m * 10 + (b - 48)) negative) None
     (digits_range bs (n + 1) (m * 10 + (b - 48)) negative) tt
 
-integer_range : (bs : List ℕ) → Some In32 (integer_of bs)
+integer_range : (bs : List ℕ) → InSome In32 (integer_of bs)
 unfolding integer_of
 integer_range bs =
     pick_some In32 (eqb (get_or bs 0 0) 45) (digits_from (drop 1 bs) 0 0 true) (digits_from bs 0 0 false)
     (digits_range (drop 1 bs) 0 0 true) (digits_range bs 0 0 false)
 
-priority_range : (o : Option ℤ) → Some In32 o → Range (priority_of o)
-priority_range none h = tt
-priority_range (some z) h = h
+priority_range : (o : Option ℤ) → InSome In32 o → Range (priority_of o)
+priority_range None h = tt
+priority_range (Some z) h = h
 
 pick_range : (t : Bool) (a b : Option Setting) → Range a → Range b → Range (pick t a b)
 pick_range true a b h k = h
@@ -144,11 +144,11 @@ pick_range false a b h k = k
 pub setting_range : (v : List ℕ) → Range (setting_of v)
 unfolding setting_of
 setting_range v =
-    pick_range (same_bytes v (bytes "string_escape=none")) (some escape_none) _ tt
-    (pick_range (same_bytes v (bytes "string_escape=replace")) (some escape_replace) _ tt
-    (pick_range (same_bytes v (bytes "watch")) (some watched) _ tt
-    (pick_range (same_bytes v (bytes "nowatch")) (some unwatched) _ tt
-    (pick_range (starts priority_name v) (priority_of (integer_of (drop (length priority_name) v))) none
+    pick_range (same_bytes v (bytes "string_escape=none")) (Some escape_none) _ tt
+    (pick_range (same_bytes v (bytes "string_escape=replace")) (Some escape_replace) _ tt
+    (pick_range (same_bytes v (bytes "watch")) (Some watched) _ tt
+    (pick_range (same_bytes v (bytes "nowatch")) (Some unwatched) _ tt
+    (pick_range (starts priority_name v) (priority_of (integer_of (drop (length priority_name) v))) None
     (priority_range (integer_of (drop (length priority_name) v)) (integer_range (drop (length priority_name) v))) tt))))
 
 -- ---- parts of a line without NUL
@@ -186,10 +186,10 @@ abbrev RowsOk : List Row → Type 0
 RowsOk [] = Unit {0}
 RowsOk (r ∷ rs) = RowOk r.key r.takes × RowsOk rs
 
-row_in-ok : (rs : List Row) → RowsOk rs → (n : List ℕ) → Some (λ (r : Row). RowOk r.key r.takes) (row_in rs n)
+row_in-ok : (rs : List Row) → RowsOk rs → (n : List ℕ) → InSome (λ (r : Row). RowOk r.key r.takes) (row_in rs n)
 unfolding row_in
 row_in-ok [] h n = tt
-row_in-ok (r ∷ rs) (h, k) n = pick_some (λ (r : Row). RowOk r.key r.takes) (same_bytes r.name n) (some r) (row_in rs n) h (row_in-ok rs k n)
+row_in-ok (r ∷ rs) (h, k) n = pick_some (λ (r : Row). RowOk r.key r.takes) (same_bytes r.name n) (Some r) (row_in rs n) h (row_in-ok rs k n)
 
 rows_ok : RowsOk rows
 unfolding rows
@@ -218,17 +218,17 @@ ArgOk t a = ArgFor t a.value × (clean a.rest ≡ true)
 abbrev Braced : Part (List ℕ) → Type 0
 Braced a = (ok_text most_key a.value ≡ true) × (clean a.rest ≡ true)
 
-close-ok : (inside rest : List ℕ) → clean inside ≡ true → clean rest ≡ true → Some Braced (close_brace inside rest)
+close-ok : (inside rest : List ℕ) → clean inside ≡ true → clean rest ≡ true → InSome Braced (close_brace inside rest)
 close-ok inside [] h k = tt
 close-ok inside (b ∷ rest) h k = at (between 1 most_key (length inside)) refl
   where
-    at : (t : Bool) → between 1 most_key (length inside) ≡ t → Some Braced (pick t (some (record { value = inside; rest = rest })) none)
+    at : (t : Bool) → between 1 most_key (length inside) ≡ t → InSome Braced (pick t (Some (record { value = inside; rest = rest })) None)
     at true e =
         let (p, q) = and_both (leb 1 (length inside)) (leb (length inside) most_key) e in
         (both_and (leb 1 (length inside)) _ p (both_and (leb (length inside) most_key) (clean inside) q h), (and_both (not (eqb b 0)) (clean rest) k).1)
     at false e = tt
 
-braces_ok : (bs : List ℕ) → clean bs ≡ true → Some Braced (in_braces bs)
+braces_ok : (bs : List ℕ) → clean bs ≡ true → InSome Braced (in_braces bs)
 unfolding in_braces
 braces_ok bs h = let (p, q) = span-clean is_in_braces bs h in close-ok (span is_in_braces bs).value (span is_in_braces bs).rest p q
 
@@ -258,17 +258,17 @@ argument_ok t (b ∷ bs) h = argument_by-ok (eqb b 123) t b bs h
 abbrev CleanRest : Part Op → Type 0
 CleanRest o = clean o.rest ≡ true
 
-if_equals-ok : (c : ℕ) (o : Op) (rest : List ℕ) → clean rest ≡ true → Some CleanRest (if_equals c o rest)
-if_equals-ok c o rest h = pick_some CleanRest (eqb c 61) (some (record { value = o; rest = rest })) none h tt
+if_equals-ok : (c : ℕ) (o : Op) (rest : List ℕ) → clean rest ≡ true → InSome CleanRest (if_equals c o rest)
+if_equals-ok c o rest h = pick_some CleanRest (eqb c 61) (Some (record { value = o; rest = rest })) None h tt
 
-op_of-ok : (b c : ℕ) (after after2 : List ℕ) → clean after ≡ true → clean after2 ≡ true → Some CleanRest (op_of b c after after2)
+op_of-ok : (b c : ℕ) (after after2 : List ℕ) → clean after ≡ true → clean after2 ≡ true → InSome CleanRest (op_of b c after after2)
 op_of-ok b c after after2 h k =
-    pick_some CleanRest (eqb b 61) (pick (eqb c 61) (some (record { value = equal; rest = after2 })) (some (record { value = assign; rest = after }))) _
-    (pick_some CleanRest (eqb c 61) (some (record { value = equal; rest = after2 })) (some (record { value = assign; rest = after })) k h)
+    pick_some CleanRest (eqb b 61) (pick (eqb c 61) (Some (record { value = equal; rest = after2 })) (Some (record { value = assign; rest = after }))) _
+    (pick_some CleanRest (eqb c 61) (Some (record { value = equal; rest = after2 })) (Some (record { value = assign; rest = after })) k h)
     (pick_some CleanRest (eqb b 33) (if_equals c unequal after2) _ (if_equals-ok c unequal after2 k)
     (pick_some CleanRest (eqb b 43) (if_equals c add after2) _ (if_equals-ok c add after2 k)
     (pick_some CleanRest (eqb b 45) (if_equals c remove after2) _ (if_equals-ok c remove after2 k)
-    (pick_some CleanRest (eqb b 58) (if_equals c final after2) none (if_equals-ok c final after2 k) tt))))
+    (pick_some CleanRest (eqb b 58) (if_equals c final after2) None (if_equals-ok c final after2 k) tt))))
 
 op_ok : (allowed : List Op) (bs : List ℕ) → clean bs ≡ true → Holds CleanRest (read_op allowed bs)
 unfolding read_op
@@ -280,12 +280,12 @@ op_ok allowed bs h =
 
 -- ---- the value
 
-quoted_step-ok : (t : Bool) (b : ℕ) (bs : List ℕ) (o : Option (Part (List ℕ))) → clean (b ∷ bs) ≡ true → Some CleanPart o → Some CleanPart (quoted_step t b bs o)
+quoted_step-ok : (t : Bool) (b : ℕ) (bs : List ℕ) (o : Option (Part (List ℕ))) → clean (b ∷ bs) ≡ true → InSome CleanPart o → InSome CleanPart (quoted_step t b bs o)
 quoted_step-ok true b bs o h k = (refl, (and_both (not (eqb b 0)) (clean bs) h).1)
-quoted_step-ok false b bs none h k = tt
-quoted_step-ok false b bs (some p) h (k, l) = (both_and (not (eqb b 0)) (clean p.value) (and_both (not (eqb b 0)) (clean bs) h).0 k, l)
+quoted_step-ok false b bs None h k = tt
+quoted_step-ok false b bs (Some p) h (k, l) = (both_and (not (eqb b 0)) (clean p.value) (and_both (not (eqb b 0)) (clean bs) h).0 k, l)
 
-quoted-ok : (escaped : Bool) (bs : List ℕ) → clean bs ≡ true → Some CleanPart (quoted escaped bs)
+quoted-ok : (escaped : Bool) (bs : List ℕ) → clean bs ≡ true → InSome CleanPart (quoted escaped bs)
 unfolding quoted
 quoted-ok escaped [] h = tt
 quoted-ok escaped (b ∷ bs) h =
@@ -318,50 +318,50 @@ plain_ok bs h =
 abbrev NotNul : ℕ → Type 0
 NotNul b = not (eqb b 0) ≡ true
 
-escape_in-clean : (es : List Escape) → All (λ (e : Escape). NotNul e.byte) es → (c : ℕ) → Some NotNul (escape_in es c)
+escape_in-clean : (es : List Escape) → All (λ (e : Escape). NotNul e.byte) es → (c : ℕ) → InSome NotNul (escape_in es c)
 unfolding escape_in
 escape_in-clean [] h c = tt
-escape_in-clean (e ∷ es) (h, hs) c = pick_some NotNul (eqb e.letter c) (some e.byte) (escape_in es c) h (escape_in-clean es hs c)
+escape_in-clean (e ∷ es) (h, hs) c = pick_some NotNul (eqb e.letter c) (Some e.byte) (escape_in es c) h (escape_in-clean es hs c)
 
 escapes-clean : All (λ (e : Escape). NotNul e.byte) escapes
 unfolding escapes
 escapes-clean = (refl, (refl, (refl, (refl, (refl, (refl, (refl, (refl, (refl, (refl, tt))))))))))
 
-hex-clean : (h l : Option ℕ) → Some NotNul (hex_byte h l)
-hex-clean none l = tt
-hex-clean (some h) none = tt
-hex-clean (some h) (some l) = at (eqb (h * 16 + l) 0) refl
+hex-clean : (h l : Option ℕ) → InSome NotNul (hex_byte h l)
+hex-clean None l = tt
+hex-clean (Some h) None = tt
+hex-clean (Some h) (Some l) = at (eqb (h * 16 + l) 0) refl
   where
-    at : (t : Bool) → eqb (h * 16 + l) 0 ≡ t → Some NotNul (pick t none (some (h * 16 + l)))
+    at : (t : Bool) → eqb (h * 16 + l) 0 ≡ t → InSome NotNul (pick t None (Some (h * 16 + l)))
     at true e = tt
     at false e = rw e
 
-taking-clean : (n : ℕ) (o : Option ℕ) → Some NotNul o → Some (λ (i : Item ℕ). NotNul i.value) (taking n o)
-taking-clean n none h = tt
-taking-clean n (some b) h = h
+taking-clean : (n : ℕ) (o : Option ℕ) → InSome NotNul o → InSome (λ (i : Item ℕ). NotNul i.value) (taking n o)
+taking-clean n None h = tt
+taking-clean n (Some b) h = h
 
-coded_byte-clean : (b : ℕ) (bs : List ℕ) → NotNul b → Some (λ (i : Item ℕ). NotNul i.value) (coded_byte b bs)
+coded_byte-clean : (b : ℕ) (bs : List ℕ) → NotNul b → InSome (λ (i : Item ℕ). NotNul i.value) (coded_byte b bs)
 coded_byte-clean b bs h =
-    pick_some (λ (i : Item ℕ). NotNul i.value) (eqb b 92) (escaped bs) (some (record { value = b; more = 0 }))
+    pick_some (λ (i : Item ℕ). NotNul i.value) (eqb b 92) (escaped bs) (Some (record { value = b; more = 0 }))
     (pick_some (λ (i : Item ℕ). NotNul i.value) (eqb (get_or bs 0 0) 120) _ _
     (taking-clean 3 (hex_byte (hex_digit (get_or bs 1 0)) (hex_digit (get_or bs 2 0))) (hex-clean (hex_digit (get_or bs 1 0)) (hex_digit (get_or bs 2 0))))
     (taking-clean 1 (escape_in escapes (get_or bs 0 0)) (escape_in-clean escapes escapes-clean (get_or bs 0 0)))) h
 
-put-clean : (b : ℕ) (o : Option (Part (List ℕ))) → NotNul b → Some CleanPart o → Some CleanPart (put b o)
-put-clean b none h k = tt
-put-clean b (some p) h (k, l) = (both_and (not (eqb b 0)) (clean p.value) h k, l)
+put-clean : (b : ℕ) (o : Option (Part (List ℕ))) → NotNul b → InSome CleanPart o → InSome CleanPart (put b o)
+put-clean b None h k = tt
+put-clean b (Some p) h (k, l) = (both_and (not (eqb b 0)) (clean p.value) h k, l)
 
-coded-clean : (k : ℕ) (bs : List ℕ) → clean bs ≡ true → Some CleanPart (coded k bs)
+coded-clean : (k : ℕ) (bs : List ℕ) → clean bs ≡ true → InSome CleanPart (coded k bs)
 unfolding coded
 coded-clean k [] h = tt
 coded-clean (suc k) (b ∷ bs) h = coded-clean k bs (and_both (not (eqb b 0)) (clean bs) h).1
 coded-clean zero (b ∷ bs) h = at (eqb b 34) (and_both (not (eqb b 0)) (clean bs) h) (λ m c. coded-clean m bs c)
   where
-    on : (o : Option (Item ℕ)) → Some (λ (i : Item ℕ). NotNul i.value) o → ((m : ℕ) → Some CleanPart (coded m bs)) → Some CleanPart (coded_then o (λ more. coded more bs))
-    on none g f = tt
-    on (some i) g f = put-clean i.value (coded i.more bs) g (f i.more)
+    on : (o : Option (Item ℕ)) → InSome (λ (i : Item ℕ). NotNul i.value) o → ((m : ℕ) → InSome CleanPart (coded m bs)) → InSome CleanPart (coded_then o (λ more. coded more bs))
+    on None g f = tt
+    on (Some i) g f = put-clean i.value (coded i.more bs) g (f i.more)
 
-    at : (t : Bool) → (not (eqb b 0) ≡ true) × (clean bs ≡ true) → ((m : ℕ) → clean bs ≡ true → Some CleanPart (coded m bs)) → Some CleanPart (coded_step t b bs (λ more. coded more bs))
+    at : (t : Bool) → (not (eqb b 0) ≡ true) × (clean bs ≡ true) → ((m : ℕ) → clean bs ≡ true → InSome CleanPart (coded m bs)) → InSome CleanPart (coded_step t b bs (λ more. coded more bs))
     at true (p, q) f = (refl, q)
     at false (p, q) f = on (coded_byte b bs) (coded_byte-clean b bs p) (λ m. f m q)
 

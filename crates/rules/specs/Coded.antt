@@ -1,7 +1,7 @@
 -- Document 02, Item 1: a value with an `e` directly before its mark, where a backslash and what follows it stand for one byte.
 -- Assumes nothing.
 use Rattle.std.specs.Prelude.{ℕ, zero, suc, ◌+◌, ◌-◌, ◌*◌, Bool, true, false, List, [], ◌∷◌, eqb, get_or}
-use Rattle.std.proofs.Math.Option.{Option, none, some}
+use Rattle.std.specs.Prelude.{Option, None, Some}
 use Rattle.lists.specs.Lists.{pick}
 use Rattle.lists.specs.Bytes.{is_digit, between}
 use Rattle.lists.specs.Runs.{Part}
@@ -22,23 +22,23 @@ escapes =
     ∷ escape 92 92 ∷ escape 34 34 ∷ escape 39 39 ∷ []
 
 unfoldable pub escape_in : List Escape → ℕ → Option ℕ
-escape_in [] c = none
-escape_in (e ∷ es) c = pick (eqb e.letter c) (some e.byte) (escape_in es c)
+escape_in [] c = None
+escape_in (e ∷ es) c = pick (eqb e.letter c) (Some e.byte) (escape_in es c)
 
 -- a hex digit of either case
 abbrev pub hex_digit : ℕ → Option ℕ
-hex_digit b = pick (is_digit b) (some (b - 48)) (pick (between 97 102 b) (some (b - 87)) (pick (between 65 70 b) (some (b - 55)) none))
+hex_digit b = pick (is_digit b) (Some (b - 48)) (pick (between 97 102 b) (Some (b - 87)) (pick (between 65 70 b) (Some (b - 55)) None))
 
 -- two hex digits, not both zero
 abbrev pub hex_byte : Option ℕ → Option ℕ → Option ℕ
-hex_byte none l = none
-hex_byte (some h) none = none
-hex_byte (some h) (some l) = pick (eqb (h * 16 + l) 0) none (some (h * 16 + l))
+hex_byte None l = None
+hex_byte (Some h) None = None
+hex_byte (Some h) (Some l) = pick (eqb (h * 16 + l) 0) None (Some (h * 16 + l))
 
 -- a byte that stands for n bytes behind its first
 abbrev pub taking : ℕ → Option ℕ → Option (Item ℕ)
-taking n none = none
-taking n (some b) = some (record { value = b; more = n })
+taking n None = None
+taking n (Some b) = Some (record { value = b; more = n })
 
 -- what stands behind a backslash: x and two hex digits, or a letter of the table; past the end a byte reads as 0, which is neither
 abbrev pub escaped : List ℕ → Option (Item ℕ)
@@ -48,22 +48,22 @@ escaped bs =
 
 -- the byte that a place of the value stands for
 abbrev pub coded_byte : ℕ → List ℕ → Option (Item ℕ)
-coded_byte b bs = pick (eqb b 92) (escaped bs) (some (record { value = b; more = 0 }))
+coded_byte b bs = pick (eqb b 92) (escaped bs) (Some (record { value = b; more = 0 }))
 
 abbrev pub put : ℕ → Option (Part (List ℕ)) → Option (Part (List ℕ))
-put b none = none
-put b (some p) = some (record { value = b ∷ p.value; rest = p.rest })
+put b None = None
+put b (Some p) = Some (record { value = b ∷ p.value; rest = p.rest })
 
 abbrev pub coded_then : Option (Item ℕ) → (ℕ → Option (Part (List ℕ))) → Option (Part (List ℕ))
-coded_then none later = none
-coded_then (some i) later = put i.value (later i.more)
+coded_then None later = None
+coded_then (Some i) later = put i.value (later i.more)
 
 abbrev pub coded_step : Bool → ℕ → List ℕ → (ℕ → Option (Part (List ℕ))) → Option (Part (List ℕ))
-coded_step true b bs later = some (record { value = []; rest = bs })
+coded_step true b bs later = Some (record { value = []; rest = bs })
 coded_step false b bs later = coded_then (coded_byte b bs) later
 
 -- the value up to its closing mark, where k bytes still belong to the escape before; none for a fault or without a mark
 unfoldable pub coded : ℕ → List ℕ → Option (Part (List ℕ))
-coded k [] = none
+coded k [] = None
 coded zero (b ∷ bs) = coded_step (eqb b 34) b bs (λ more. coded more bs)
 coded (suc k) (b ∷ bs) = coded k bs

@@ -1,7 +1,7 @@
 -- Document 01, What the engine covers: the keys, the operators, and the table of what each key allows.
 -- Assumes nothing.
 use Rattle.std.specs.Prelude.{ℕ, Bool, true, false, ◌||◌, List, [], ◌∷◌, eqb}
-use Rattle.std.proofs.Math.Option.{Option, none, some}
+use Rattle.std.specs.Prelude.{Option, None, Some}
 use Rattle.lists.specs.Lists.{pick, any}
 use Rattle.lists.specs.Bytes.{same_bytes}
 use Rattle.lists.specs.Quoted.{bytes}
@@ -114,8 +114,8 @@ rows =
 
 -- the first row with that name
 unfoldable pub row_in : List Row → List ℕ → Option Row
-row_in [] n = none
-row_in (r ∷ rs) n = pick (same_bytes r.name n) (some r) (row_in rs n)
+row_in [] n = None
+row_in (r ∷ rs) n = pick (same_bytes r.name n) (Some r) (row_in rs n)
 
 unfoldable pub row_of : List ℕ → Option Row
 row_of n = row_in rows n

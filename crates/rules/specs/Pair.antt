@@ -1,7 +1,7 @@
 -- Document 01, Reading a line: a pair that was read, a rule, and what can be asked of them.
 -- Assumes nothing.
 use Rattle.std.specs.Prelude.{ℕ, Bool, List, [], ◌∷◌}
-use Rattle.std.proofs.Math.Option.{Option, none, some}
+use Rattle.std.specs.Prelude.{Option, None, Some}
 use Rattle.lists.specs.Lists.{pick}
 use Rattle.lists.specs.Bytes.{same_bytes}
 use Rattle.lists.specs.Quoted.{bytes}
@@ -25,8 +25,8 @@ is_builtin p = same_bytes p.argument (bytes "builtin")
 
 -- the value of the first pair with that key
 unfoldable pub value_of : Key → Rule → Option (List ℕ)
-value_of k [] = none
-value_of k (p ∷ ps) = pick (same_key p.key k) (some p.value) (value_of k ps)
+value_of k [] = None
+value_of k (p ∷ ps) = pick (same_key p.key k) (Some p.value) (value_of k ps)
 
 abbrev pub label_of : Rule → Option (List ℕ)
 label_of r = value_of LABEL r

@@ -1,7 +1,7 @@
 -- Document 01, Reading a line: pairs and lines, with refusals 10 to 17 in the order in which they are given.
 -- Assumes nothing.
 use Rattle.std.specs.Prelude.{ℕ, zero, suc, Bool, true, false, not, ◌&&◌, ◌||◌, List, [], ◌∷◌, eqb, leb, length, get_or, drop}
-use Rattle.std.proofs.Math.Option.{Option, none, some}
+use Rattle.std.specs.Prelude.{Option, None, Some}
 use Rattle.lists.specs.Lists.{pick, is_empty, is_some}
 use Rattle.lists.specs.Bytes.{is_upper, is_blank, same_bytes, holds}
 use Rattle.lists.specs.Runs.{Part, span}
@@ -62,16 +62,16 @@ read_argument t (b ∷ bs) = argument_by (eqb b 123) t b bs
 -- ---- 13: the operator
 
 abbrev pub if_equals : ℕ → Op → List ℕ → Option (Part Op)
-if_equals c o rest = pick (eqb c 61) (some (record { value = o; rest = rest })) none
+if_equals c o rest = pick (eqb c 61) (Some (record { value = o; rest = rest })) None
 
 -- the longest operator that two bytes begin with; the two rests stand behind one byte and behind both
 abbrev pub op_of : ℕ → ℕ → List ℕ → List ℕ → Option (Part Op)
 op_of b c after after2 =
-    pick (eqb b 61) (pick (eqb c 61) (some (record { value = equal; rest = after2 })) (some (record { value = assign; rest = after })))
+    pick (eqb b 61) (pick (eqb c 61) (Some (record { value = equal; rest = after2 })) (Some (record { value = assign; rest = after })))
     (pick (eqb b 33) (if_equals c unequal after2)
     (pick (eqb b 43) (if_equals c add after2)
     (pick (eqb b 45) (if_equals c remove after2)
-    (pick (eqb b 58) (if_equals c final after2) none))))
+    (pick (eqb b 58) (if_equals c final after2) None))))
 
 -- the operator at the head, one of those allowed; past the end of a line a byte reads as 0
 unfoldable pub read_op : List Op → List ℕ → Checked Refusal (Part Op)
@@ -83,13 +83,13 @@ read_op allowed bs = do
 -- ---- 14: the value
 
 abbrev pub quoted_step : Bool → ℕ → List ℕ → Option (Part (List ℕ)) → Option (Part (List ℕ))
-quoted_step true b bs r = some (record { value = []; rest = bs })
-quoted_step false b bs none = none
-quoted_step false b bs (some p) = some (record { value = b ∷ p.value; rest = p.rest })
+quoted_step true b bs r = Some (record { value = []; rest = bs })
+quoted_step false b bs None = None
+quoted_step false b bs (Some p) = Some (record { value = b ∷ p.value; rest = p.rest })
 
 -- the bytes up to the closing mark, as written: the first mark that has no backslash directly before it
 unfoldable pub quoted : Bool → List ℕ → Option (Part (List ℕ))
-quoted escaped [] = none
+quoted escaped [] = None
 quoted escaped (b ∷ bs) = quoted_step (eqb b 34 && not escaped) b bs (quoted (eqb b 92) bs)
 
 abbrev pub starts_mark : List ℕ → Bool

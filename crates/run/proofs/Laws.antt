@@ -4,9 +4,9 @@ use Prim.Native.Nat.{ℕ, ◌-◌, ◌≤◌, ◌<◌}
 use mathlib.Core.Path.{◌≡◌, sym, ap, ap₂, ◌∙◌, subst}
 use mathlib.Core.Bool.{false}
 use mathlib.Core.List.{List}
-use mathlib.Core.Option.{none, some}
+use Rattle.std.specs.Prelude.{None, Some}
 use borrow.Author.Tests.{le-leb, lt-leb}
-use lib.ListN.{length, replicate}
+use lib.ListN.{length}
 use Rattle.lists.proofs.Lists.{is_none}
 use Rattle.lists.specs.Lists.{is_some}
 use Rattle.lists.specs.Bytes.{Bytes}
@@ -17,7 +17,7 @@ use Rattle.rules.specs.Pair.{Rule}
 use Rattle.rules.specs.Reading.{reader}
 use Rattle.text.specs.Reading.{read_text}
 use Rattle.text.specs.Running.{Halt, Ran, next, run_from}
-use Rattle.text.specs.Run.{refusal, acceptance}
+use Rattle.text.specs.Run.{Answer, refusal, acceptance}
 use Rattle.device.specs.Device as D
 use Rattle.device.specs.Device.{Device, chain}
 use Rattle.device_lookup.specs.Lookup.{Chained}
@@ -31,11 +31,10 @@ use Rattle.outcome_target.specs.declared.Layout.{Layout}
 use Rattle.outcome_target.proofs.Edits.{layout_end}
 use Rattle.outcome_check.proofs.Answers.{sound-state, faulty-state}
 use Rattle.outcome_check.specs.Check.{checked_of}
-use Rattle.outcome_check.specs.declared.Checked.TheVariants.{Sound, Faulty}
 use Rattle.sheet.specs.Sheet as Sheets
 use Rattle.sheet.specs.Sheet.{Sheet}
 use Rattle.engine.specs.Operations.{engine, decode_for, run_checked, ran, run}
-use Rattle.answers.specs.Answers.{answered, Refuses, Accepts}
+use Rattle.answers.specs.Answers.{answered, Accepts}
 use Rattle.answers.specs.declared.Given.{Given}
 use Rattle.run.specs.Running.{Held}
 
@@ -56,11 +55,11 @@ module _ (t dev out sheet : List ℕ) (room : ℕ) where
       unfolding run ran run_checked
       run_device k = rw (le-leb fullest_outcome room h, e, is_none (D.decode dev) k)
 
-      module _ (d : Device) (f : D.decode dev ≡ some d) (r : Chain) (c : Chained d r) where
-        pub run_outcome : Faulty ≡ checked_of (O.decode r.len out) → run t dev out sheet room ≡ refusal room (line 0 outcome_bad)
+      module _ (d : Device) (f : D.decode dev ≡ Some d) (r : Chain) (c : Chained d r) where
+        pub run_outcome : None ≡ checked_of (O.decode r.len out) → run t dev out sheet room ≡ refusal room (line 0 outcome_bad)
         unfolding run ran run_checked decode_for
         run_outcome k =
-            let g : O.decode (length (chain d)) out ≡ none = ap (λ (n : ℕ). O.decode n out) (sym c.len) ∙ faulty-state (O.decode r.len out) k in
+            let g : O.decode (length (chain d)) out ≡ None = ap (λ (n : ℕ). O.decode n out) (sym c.len) ∙ faulty-state (O.decode r.len out) k in
             rw (le-leb fullest_outcome room h, e, f, g)
 
       module _ (r : Chain) (lay : Layout) (d : Device) (s : State) (w : Held dev out r lay d s) where
@@ -68,12 +67,12 @@ module _ (t dev out sheet : List ℕ) (room : ℕ) where
         unfolding run ran run_checked decode_for
         run_sheet k = rw (le-leb fullest_outcome room h, e, w.device, w.outcome, is_none (Sheets.decode sheet) k)
 
-        pub run-whole : (a : Sheet) → Sheets.decode sheet ≡ some a → run t dev out sheet room ≡ ran room (run_from (engine a) d next s rs)
+        pub run-whole : (a : Sheet) → Sheets.decode sheet ≡ Some a → run t dev out sheet room ≡ ran room (run_from (engine a) d next s rs)
         unfolding run run_checked decode_for
         run-whole a k = rw (le-leb fullest_outcome room h, e, w.device, w.outcome, k)
 
 -- both records are sound
-pub both_held : (dev out : List ℕ) (d : Device) → D.decode dev ≡ some d → (r : Chain) → Chained d r → (lay : Layout) → Sound lay ≡ checked_of (O.decode r.len out)
+pub both_held : (dev out : List ℕ) (d : Device) → D.decode dev ≡ Some d → (r : Chain) → Chained d r → (lay : Layout) → Some lay ≡ checked_of (O.decode r.len out)
     → (s : State) × Held dev out r lay d s
 both_held dev out d e r c lay k =
     let (s, f, g) = sound-state (O.decode r.len out) lay k in
@@ -111,10 +110,5 @@ sound-ended room n l lay v u c h e w i j m g k =
     ∙ ap₂ (λ (x y : ℕ). acceptance room x y (encode h.state)) i j
     ∙ ended-answer room c h e
 
-pub sound-refused : (room m : ℕ) (l : List ℕ) → l ≡ replicate m 0 → m ≡ room → (c : Ran State) (n : ℕ) (f : Refusal) → c ≡ refused (line n f)
-    → (g : Given) → Refuses g n f → answered g l ≡ ran room c
-sound-refused room m l b e c n f q g k =
-    ap (answered g) b
-    ∙ k m
-    ∙ ap (λ (x : ℕ). refusal x (line n f)) e
-    ∙ refused-answer room c (line n f) q
+pub sound-refused : (room m : ℕ) → m ≡ room → (c : Ran State) (f : Placed Refusal) → c ≡ refused f → (x : Answer) → x ≡ refusal m f → x ≡ ran room c
+sound-refused room m e c f q x k = k ∙ ap (λ (n : ℕ). refusal n f) e ∙ refused-answer room c f q

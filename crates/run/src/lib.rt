@@ -2,11 +2,14 @@
 
 #![tactic(auto)]
 
-ghost use Rattle.std.specs.Prelude.{List, ◌≡◌, true, ℕ, ◌*◌, ◌≤◌, length};
+ghost use Rattle.std.specs.Prelude.{List, ◌≡◌, true, ℕ, ◌+◌, ◌*◌, ◌≤◌, ◌<◌, length};
+ghost use Rattle.lists.specs.Checked.{line as on_line};
 ghost use Rattle.lists.specs.Lists.{is_some};
 ghost use Rattle.lists.specs.Sizes.{fullest_outcome, most_rules, most_text};
+ghost use Rattle.text.specs.Run.{refusal};
 ghost use Rattle.sheet.specs.Sheet.{decode};
 ghost use Rattle.engine.specs.Operations.{run as run_answer};
+ghost use Rattle.refusals.specs.Refusals.{refusal_of};
 ghost use Rattle.answers.specs.Answers.{answered};
 ghost use Rattle.reader.specs.Read.{Lends};
 ghost use Rattle.runner.specs.Runs.{Runnable};
@@ -14,11 +17,17 @@ ghost use Rattle.run.specs.Running.{Both, RunOf, Holds};
 
 use answers::Given;
 use device_lookup::Chain;
-use outcome_check::Checked;
 use outcome_target::Layout;
-use reader::TextRead;
 use refusals::Refusal;
-use runner::TextRan;
+
+// A run that leaves nothing.
+fn refuse(why: Refusal, line: usize, target: &mut [u8]) -> Given
+    requires { line < 4294967296 }
+    ensures { answered result target.new ≡ refusal (length target.old) (on_line line (refusal_of why)) }
+{
+    splice::clear(target);
+    answers::refused(why, line)
+}
 
 // The rules of a table over sound records.
 fn run_sound(
@@ -41,14 +50,8 @@ fn run_sound(
     match runner::run_rules(
         values, rows, rules, jumps, count, dev, chain, sheet, t, layout,
     ) {
-        TextRan::Ended(left, visited, tried) => {
-            let used = left.end;
-            answers::accepted(visited, tried, used)
-        }
-        TextRan::Refused(refusal, line) => {
-            splice::clear(t);
-            answers::refused(refusal, line)
-        }
+        Ok(ended) => answers::accepted(ended.visited, ended.tried, ended.layout.end),
+        Err(fault) => refuse(fault.refusal, fault.line, t),
     }
 }
 
@@ -70,25 +73,18 @@ pub fn run_table(
     ensures { (text : List ℕ) → Holds text values.now rows.now rules.now count → answered result target.new ≡ run_answer text device.now outcome.now sheet.now (length target.old) }
 {
     if !device_check::check(device) {
-        splice::clear(target);
-        return answers::refused(Refusal::DeviceBad, 0);
+        return refuse(Refusal::DeviceBad, 0, target);
     }
     let chain = device_lookup::chain_of(device);
-    match outcome_check::check(outcome, chain.len) {
-        Checked::Sound(layout) => {
-            if !sound {
-                splice::clear(target);
-                return answers::refused(Refusal::SheetBad, 0);
-            }
-            run_sound(
-                values, rows, rules, jumps, count, device, chain, sheet, outcome, layout, target,
-            )
-        }
-        Checked::Faulty => {
-            splice::clear(target);
-            answers::refused(Refusal::OutcomeBad, 0)
-        }
+    let Some(layout) = outcome_check::check(outcome, chain.len) else {
+        return refuse(Refusal::OutcomeBad, 0, target);
+    };
+    if !sound {
+        return refuse(Refusal::SheetBad, 0, target);
     }
+    run_sound(
+        values, rows, rules, jumps, count, device, chain, sheet, outcome, layout, target,
+    )
 }
 
 // The run with room for the text that a caller lends.
@@ -108,7 +104,7 @@ fn run_lent(
     ensures { answered result target.new ≡ run_answer text.now device.now outcome.now sheet.now (length target.old) }
 {
     match reader::read_text(text, values, rows, rules, labels, jumps) {
-        TextRead::Accepted(counts) => run_table(
+        Ok(counts) => run_table(
             values,
             rows,
             rules,
@@ -120,33 +116,33 @@ fn run_lent(
             sheet_check::check(sheet),
             target,
         ),
-        TextRead::Refused(refusal, line) => {
-            splice::clear(target);
-            answers::refused(refusal, line)
-        }
+        Err(fault) => refuse(fault.refusal, fault.line, target),
     }
 }
 
-// The run with room for the values and the rows that a caller lends.
-fn run_in(
+// The run with room for a text of V bytes, in R numbers of rows. To clear more room than a text needs takes longer than to run a short one.
+fn run_sized<const V: usize, const R: usize>(
     text: &[u8],
-    values: &mut [u8],
-    rows: &mut [u16],
     device: &[u8],
     outcome: &[u8],
     sheet: &[u8],
     target: &mut [u8],
 ) -> Given
-    requires { (fullest_outcome ≤ length target.old) × (length text.now ≤ most_text → Lends (length text.now) values.old rows.old) }
+    requires room { fullest_outcome ≤ length target.old }
+    requires fits { length text.now ≤ most_text → length text.now ≤ V }
+    requires small { V < 65536 }
+    requires enough { (R < 65536) × ((V + 1) * 4 ≤ R * 7) }
     ensures { answered result target.new ≡ run_answer text.now device.now outcome.now sheet.now (length target.old) }
 {
+    let mut values = [0u8; V];
+    let mut rows = [0u16; R];
     let mut rules = [0u16; 2048];
     let mut labels = [0u16; 512];
     let mut jumps = [0u16; 512];
     run_lent(
         text,
-        values,
-        rows,
+        &mut values,
+        &mut rows,
         &mut rules,
         &mut labels,
         &mut jumps,
@@ -157,70 +153,23 @@ fn run_in(
     )
 }
 
-// Room by the size of the text: to clear more than it needs takes longer than to run a short one.
-fn run_least(text: &[u8], device: &[u8], outcome: &[u8], sheet: &[u8], target: &mut [u8]) -> Given
-    requires { (fullest_outcome ≤ length target.old) × (length text.now ≤ 2048) }
-    ensures { answered result target.new ≡ run_answer text.now device.now outcome.now sheet.now (length target.old) }
-{
-    let mut values = [0u8; 2048];
-    let mut rows = [0u16; 1172];
-    run_in(text, &mut values, &mut rows, device, outcome, sheet, target)
-}
-
-fn run_quarter(text: &[u8], device: &[u8], outcome: &[u8], sheet: &[u8], target: &mut [u8]) -> Given
-    requires { (fullest_outcome ≤ length target.old) × (length text.now ≤ 8192) }
-    ensures { answered result target.new ≡ run_answer text.now device.now outcome.now sheet.now (length target.old) }
-{
-    let mut values = [0u8; 8192];
-    let mut rows = [0u16; 4684];
-    run_in(text, &mut values, &mut rows, device, outcome, sheet, target)
-}
-
-fn run_half(text: &[u8], device: &[u8], outcome: &[u8], sheet: &[u8], target: &mut [u8]) -> Given
-    requires { (fullest_outcome ≤ length target.old) × (length text.now ≤ 16384) }
-    ensures { answered result target.new ≡ run_answer text.now device.now outcome.now sheet.now (length target.old) }
-{
-    let mut values = [0u8; 16384];
-    let mut rows = [0u16; 9364];
-    run_in(text, &mut values, &mut rows, device, outcome, sheet, target)
-}
-
-fn run_most(text: &[u8], device: &[u8], outcome: &[u8], sheet: &[u8], target: &mut [u8]) -> Given
-    requires { (fullest_outcome ≤ length target.old) × (length text.now ≤ 24576) }
-    ensures { answered result target.new ≡ run_answer text.now device.now outcome.now sheet.now (length target.old) }
-{
-    let mut values = [0u8; 24576];
-    let mut rows = [0u16; 14044];
-    run_in(text, &mut values, &mut rows, device, outcome, sheet, target)
-}
-
-fn run_any(text: &[u8], device: &[u8], outcome: &[u8], sheet: &[u8], target: &mut [u8]) -> Given
-    requires { fullest_outcome ≤ length target.old }
-    ensures { answered result target.new ≡ run_answer text.now device.now outcome.now sheet.now (length target.old) }
-{
-    let mut values = [0u8; 32768];
-    let mut rows = [0u16; 18728];
-    run_in(text, &mut values, &mut rows, device, outcome, sheet, target)
-}
-
 pub fn run(text: &[u8], device: &[u8], outcome: &[u8], sheet: &[u8], target: &mut [u8]) -> Given
     ensures { answered result target.new ≡ run_answer text.now device.now outcome.now sheet.now (length target.old) }
 {
     if target.len() < outcome_target::FULLEST {
-        splice::clear(target);
-        return answers::refused(Refusal::TargetShort, 0);
+        return refuse(Refusal::TargetShort, 0, target);
     }
     if text.len() <= 2048 {
-        return run_least(text, device, outcome, sheet, target);
+        return run_sized::<2048, 1172>(text, device, outcome, sheet, target);
     }
     if text.len() <= 8192 {
-        return run_quarter(text, device, outcome, sheet, target);
+        return run_sized::<8192, 4684>(text, device, outcome, sheet, target);
     }
     if text.len() <= 16384 {
-        return run_half(text, device, outcome, sheet, target);
+        return run_sized::<16384, 9364>(text, device, outcome, sheet, target);
     }
     if text.len() <= 24576 {
-        return run_most(text, device, outcome, sheet, target);
+        return run_sized::<24576, 14044>(text, device, outcome, sheet, target);
     }
-    run_any(text, device, outcome, sheet, target)
+    run_sized::<32768, 18728>(text, device, outcome, sheet, target)
 }

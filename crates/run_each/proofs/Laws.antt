@@ -4,7 +4,7 @@ use Prim.Native.Nat.{ℕ, zero, suc, ◌+◌, ◌*◌, ◌-◌, ◌≤◌, ◌<�
 use mathlib.Core.Path.{◌≡◌, refl, sym, ap, ap₂, ◌∙◌, subst}
 use mathlib.Core.Bool.{true, false}
 use mathlib.Core.List.{List, [], ◌∷◌, ◌++◌, map, append_assoc, append-nil}
-use mathlib.Core.Option.{some}
+use Rattle.std.specs.Prelude.{Some, Result, Ok, Err}
 use native.Mathlib.Omega.{arith}
 use borrow.Author.Tests.{le-leb, lt-leb}
 use lib.ListN.{length, take, drop, get_or, replicate, length-append, length-map}
@@ -21,8 +21,8 @@ use Rattle.entries.specs.Parse.{got, many}
 use Rattle.engine.specs.Operations.{run}
 use Rattle.text.specs.Run.{Answer}
 use Rattle.reader.specs.Texts.{TextIs}
-use Rattle.reader.specs.declared.TextRead.{TextRead}
-use Rattle.reader.specs.declared.TextRead.TheVariants as read
+use Rattle.reader.specs.declared.Counts.{Counts}
+use Rattle.refusals.specs.declared.LineRefusal.{LineRefusal}
 use Rattle.runner.proofs.Running.{runnable}
 use Rattle.action_rows.proofs.Tables.{rules-same, runnable_same}
 use Rattle.answers.specs.Answers.{answered}
@@ -65,27 +65,27 @@ front-padded x zs made m room e h r z =
 
 -- ---- a text that was read
 
-pub readable : (x v r t l js : List ℕ) (o : TextRead) → TextIs x v r t l js o → most_rules * 4 ≤ length t → most_rules ≤ length js → Readable v r t js o
-readable x v r t l js (read.Accepted c) w a b = runnable x v r t l js c w a b
-readable x v r t l js (read.Refused f n) w a b = w.0
+pub readable : (x v r t l js : List ℕ) (o : Result Counts LineRefusal) → TextIs x v r t l js o → most_rules * 4 ≤ length t → most_rules ≤ length js → Readable v r t js o
+readable x v r t l js (Ok c) w a b = runnable x v r t l js c w a b
+readable x v r t l js (Err f) w a b = w.0
 
-pub read_as : (x v r t l js : List ℕ) (o : TextRead) → TextIs x v r t l js o → ReadAs x v r t o
-read_as x v r t l js (read.Accepted c) w = w.is
-read_as x v r t l js (read.Refused f n) w = w.1
+pub read_as : (x v r t l js : List ℕ) (o : Result Counts LineRefusal) → TextIs x v r t l js o → ReadAs x v r t o
+read_as x v r t l js (Ok c) w = w.is
+read_as x v r t l js (Err f) w = w.1
 
 -- the table is the same one with its actions noted
-pub noted_readable : (v r t t' js : List ℕ) (o : TextRead) → Noted r t t' o → Readable v r t js o → Readable v r t' js o
-noted_readable v r t t' js (read.Accepted c) w h = runnable_same v r t t' c.rules w js h
-noted_readable v r t t' js (read.Refused f n) w h = h
+pub noted_readable : (v r t t' js : List ℕ) (o : Result Counts LineRefusal) → Noted r t t' o → Readable v r t js o → Readable v r t' js o
+noted_readable v r t t' js (Ok c) w h = runnable_same v r t t' c.rules w js h
+noted_readable v r t t' js (Err f) w h = h
 
-pub noted_read_as : (x v r t t' : List ℕ) (o : TextRead) → Noted r t t' o → ReadAs x v r t o → ReadAs x v r t' o
-noted_read_as x v r t t' (read.Accepted c) w h = h ∙ ap ok (rules-same v r t t' c.rules w c.rules 0)
-noted_read_as x v r t t' (read.Refused f n) w h = h
+pub noted_read_as : (x v r t t' : List ℕ) (o : Result Counts LineRefusal) → Noted r t t' o → ReadAs x v r t o → ReadAs x v r t' o
+noted_read_as x v r t t' (Ok c) w h = h ∙ ap ok (rules-same v r t t' c.rules w c.rules 0)
+noted_read_as x v r t t' (Err f) w h = h
 
 -- ---- the runs so far
 
 -- i records of n are done, the next stands at p
-pub record Turning (v r t : List ℕ) (read : TextRead) (set sheet : List ℕ) (n : ℕ) (targets answers : List ℕ) (p i : ℕ) : Type 0 where
+pub record Turning (v r t : List ℕ) (read : Result Counts LineRefusal) (set sheet : List ℕ) (n : ℕ) (targets answers : List ℕ) (p i : ℕ) : Type 0 where
   pub done : List Lent
   pub left : List Lent
   pub all : lents_in set ≡ done ++ left
@@ -96,7 +96,7 @@ pub record Turning (v r t : List ℕ) (read : TextRead) (set sheet : List ℕ) (
   pub targets_are : (text : List ℕ) → ReadAs text v r t read → take (i * fullest_outcome) targets ≡ targets_of (each_runs text sheet done)
   pub answers_are : (text : List ℕ) → ReadAs text v r t read → answers ≡ padded (length answers) (answers_of (each_runs text sheet done))
 
-module _ (v r t : List ℕ) (read : TextRead) (set sheet : List ℕ) (n : ℕ) (x y : List ℕ) where
+module _ (v r t : List ℕ) (read : Result Counts LineRefusal) (set sheet : List ℕ) (n : ℕ) (x y : List ℕ) where
   pub turning_first : Going set n x y → Turning v r t read set sheet n x y 1 0
   turning_first g =
       record {
@@ -159,8 +159,8 @@ module _ (v r t : List ℕ) (read : TextRead) (set sheet : List ℕ) (n : ℕ) (
         → RunsIn text set sheet room places (take (n * fullest_outcome) x ++ (zs ++ drop (length x - n * fullest_outcome) (drop (n * fullest_outcome) x))) y
     turning_last h room zs m k a b z text e =
         let same : i ≡ n = omega (arith, h, w.upto) in
-        let none : w.left ≡ [] = empty w.left (many-length one_lent (n - i) (drop p set) w.left [] w.standing ∙ omega arith) in
-        let done : w.done ≡ lents_in set = sym (w.all ∙ ap (λ (l : List Lent). w.done ++ l) none ∙ append-nil w.done) in
+        let None : w.left ≡ [] = empty w.left (many-length one_lent (n - i) (drop p set) w.left [] w.standing ∙ omega arith) in
+        let done : w.done ≡ lents_in set = sym (w.all ∙ ap (λ (l : List Lent). w.done ++ l) None ∙ append-nil w.done) in
         record {
           targets_are = front-padded x zs _ (n * fullest_outcome) m
               (ap (λ (j : ℕ). take (j * fullest_outcome) x) (sym same) ∙ w.targets_are text e ∙ ap (λ (l : List Lent). targets_of (each_runs text sheet l)) done) room a z;
@@ -169,7 +169,7 @@ module _ (v r t : List ℕ) (read : TextRead) (set sheet : List ℕ) (n : ℕ) (
 
 -- ---- the set
 
-pub lents_are : (set : List ℕ) (ls : List Lent) → decode_lent set ≡ some ls → lents_in set ≡ ls
+pub lents_are : (set : List ℕ) (ls : List Lent) → decode_lent set ≡ Some ls → lents_in set ≡ ls
 unfolding lents_in
 lents_are set ls e = ap or_none e
 
@@ -178,12 +178,12 @@ pub record Known (set : List ℕ) (ls : List Lent) : Type 0 where
   pub few : get_or set 0 0 ≤ most_records
   pub counted : get_or set 0 0 ≡ length ls
 
-pub set_known : (set : List ℕ) (ls : List Lent) → decode_lent set ≡ some ls → Known set ls
+pub set_known : (set : List ℕ) (ls : List Lent) → decode_lent set ≡ Some ls → Known set ls
 set_known set ls e =
     let b = set_read_lem one_lent 0 most_records set ls e in
     record { some = b.some; few = b.few; counted = sym (many-length one_lent (get_or set 0 0) (drop 1 set) ls [] b.read) }
 
-pub going : (set : List ℕ) (ls : List Lent) → decode_lent set ≡ some ls → (n : ℕ) (targets answers : List ℕ) → n ≡ get_or set 0 0
+pub going : (set : List ℕ) (ls : List Lent) → decode_lent set ≡ Some ls → (n : ℕ) (targets answers : List ℕ) → n ≡ get_or set 0 0
     → n * fullest_outcome ≤ length targets → n * most_numbers ≤ length answers → answers ≡ replicate (length answers) 0 → Going set n targets answers
 going set ls e n targets answers c room places clear =
     let b = set_read_lem one_lent 0 most_records set ls e in
@@ -215,7 +215,7 @@ module _ (text set sheet : List ℕ) (room places : ℕ) where
   unfolding each_answer each_checked
   each_bad h = rw (is_none (decode_lent set) h)
 
-  module _ (ls : List Lent) (e : decode_lent set ≡ some ls) where
+  module _ (ls : List Lent) (e : decode_lent set ≡ Some ls) where
     pub each_short : room < length ls * fullest_outcome → each_answer text set sheet room places ≡ refused_set room places (of_set target_short)
     unfolding each_answer each_checked
     each_short h = rw (e, lt-leb (length ls * fullest_outcome) room h)

@@ -1,7 +1,7 @@
 -- A text that was read, the records that it runs over, and what their runs leave.
 -- Assumes nothing.
 use Rattle.std.specs.Prelude.{ℕ, ◌*◌, ◌≤◌, ◌<◌, ◌≡◌, List, [], length, drop, replicate}
-use Rattle.std.proofs.Math.Option.{Option, none, some}
+use Rattle.std.specs.Prelude.{Option, None, Some, Result, Ok, Err}
 use Rattle.lists.specs.Checked.{refused, line}
 use Rattle.lists.specs.Sizes.{fullest_outcome}
 use Rattle.splice.specs.Moves.{padded}
@@ -9,8 +9,8 @@ use Rattle.entries.specs.Parse.{got, many}
 use Rattle.rules.specs.Reading.{reader}
 use Rattle.text.specs.Reading.{read_text}
 use Rattle.refusals.specs.Refusals.{refusal_of}
-use Rattle.reader.specs.declared.TextRead.{TextRead}
-use Rattle.reader.specs.declared.TextRead.TheVariants as read
+use Rattle.refusals.specs.declared.LineRefusal.{LineRefusal}
+use Rattle.reader.specs.declared.Counts.{Counts}
 use Rattle.runner.specs.Runs.{Runnable}
 use Rattle.action_rows.specs.Actions.{ActionsPut}
 use Rattle.run.specs.Running.{Holds}
@@ -23,25 +23,25 @@ use Rattle.each.specs.Each.{each_runs, targets_of, answers_of, Each}
 -- ---- a text that was read
 
 -- a table that may run, or a line that can be written
-abbrev pub Readable : List ℕ → List ℕ → List ℕ → List ℕ → TextRead → Type 0
-Readable v r t js (read.Accepted c) = Runnable v r t js c.rules
-Readable v r t js (read.Refused f n) = n < 65536
+abbrev pub Readable : List ℕ → List ℕ → List ℕ → List ℕ → Result Counts LineRefusal → Type 0
+Readable v r t js (Ok c) = Runnable v r t js c.rules
+Readable v r t js (Err f) = f.line < 65536
 
 -- it is this text
-abbrev pub ReadAs : List ℕ → List ℕ → List ℕ → List ℕ → TextRead → Type 0
-ReadAs text v r t (read.Accepted c) = Holds text v r t c.rules
-ReadAs text v r t (read.Refused f n) = read_text reader text ≡ refused (line n (refusal_of f))
+abbrev pub ReadAs : List ℕ → List ℕ → List ℕ → List ℕ → Result Counts LineRefusal → Type 0
+ReadAs text v r t (Ok c) = Holds text v r t c.rules
+ReadAs text v r t (Err f) = read_text reader text ≡ refused (line f.line (refusal_of f.refusal))
 
 -- the row of each rule's ACTION is noted, if it is accepted
-abbrev pub Noted : List ℕ → List ℕ → List ℕ → TextRead → Type 0
-Noted r t t' (read.Accepted c) = ActionsPut r t t' c.rules
-Noted r t t' (read.Refused f n) = t' ≡ t
+abbrev pub Noted : List ℕ → List ℕ → List ℕ → Result Counts LineRefusal → Type 0
+Noted r t t' (Ok c) = ActionsPut r t t' c.rules
+Noted r t t' (Err f) = t' ≡ t
 
 -- ---- the records
 
 abbrev pub or_none : Option (List Lent) → List Lent
-or_none none = []
-or_none (some ls) = ls
+or_none None = []
+or_none (Some ls) = ls
 
 -- those of a set, none where it is refused
 unfoldable pub lents_in : List ℕ → List Lent

@@ -2,7 +2,7 @@
 
 #![tactic(auto)]
 
-ghost use Rattle.std.specs.Prelude.{List, [], ◌≡◌, ℕ, ◌+◌, ◌*◌, ◌≤◌, length, replicate};
+ghost use Rattle.std.specs.Prelude.{List, [], ◌≡◌, ℕ, ◌+◌, ◌*◌, ◌≤◌, ◌<◌, length};
 ghost use Rattle.lists.specs.Lists.{is_some};
 ghost use Rattle.lists.specs.Sizes.{fullest_outcome, most_rules, most_text};
 ghost use Rattle.splice.specs.Moves.{stored};
@@ -19,36 +19,13 @@ ghost use Rattle.run_each.specs.Runs.{Noted, Readable, ReadAs, Going, RunsIn, wr
 
 use answers::Given;
 use outcome_target::FULLEST;
-use reader::TextRead;
-use refusals::Refusal;
+use reader::Counts;
+use refusals::{LineRefusal, Refusal};
 
 // ---- the numbers of runs
 
 // How many an answer has.
 const NUMBERS: usize = 8;
-
-// Every number becomes zero.
-fn clear_numbers(t: &mut [u32])
-    ensures { t.new ≡ replicate (length t.old) 0 }
-{
-    let mut i = 0;
-    while i < t.len() {
-        t[i] = 0;
-        i += 1;
-    }
-}
-
-// `src` is copied over what stands at `at`.
-fn store_numbers(t: &mut [u32], at: usize, src: &[u32])
-    requires { at + length src.now ≤ length t.old }
-    ensures { t.new ≡ stored t.old at src.now }
-{
-    let mut i = 0;
-    while i < src.len() {
-        t[at + i] = src[i];
-        i += 1;
-    }
-}
 
 // The numbers that a run gave.
 fn put_numbers(t: &mut [u32], at: usize, given: Given)
@@ -65,14 +42,14 @@ fn put_numbers(t: &mut [u32], at: usize, given: Given)
         0,
         0,
     ];
-    store_numbers(t, at, &row);
+    t[at..at + NUMBERS].copy_from_slice(&row);
 }
 
 // ---- the runs
 
 // A text that was read, over one record beside its device.
 fn run_read(
-    read: TextRead,
+    read: Result<Counts, LineRefusal>,
     values: &[u8],
     rows: &[u16],
     rules: &[u16],
@@ -87,7 +64,7 @@ fn run_read(
     ensures { (text : List ℕ) → ReadAs text values.now rows.now rules.now read → answered result target.new ≡ run_answer text device.now outcome.now sheet.now (length target.old) }
 {
     match read {
-        TextRead::Accepted(counts) => run::run_table(
+        Ok(counts) => run::run_table(
             values,
             rows,
             rules,
@@ -99,16 +76,16 @@ fn run_read(
             sound,
             target,
         ),
-        TextRead::Refused(why, line) => {
+        Err(fault) => {
             splice::clear(target);
-            answers::refused(why, line)
+            answers::refused(fault.refusal, fault.line)
         }
     }
 }
 
 // The same over each of the n records of a set, each with room of its own; zeros behind the last.
 fn run_records(
-    read: TextRead,
+    read: Result<Counts, LineRefusal>,
     values: &[u8],
     rows: &[u16],
     rules: &[u16],
@@ -123,12 +100,9 @@ fn run_records(
     requires { Going set.now n targets.old answers.old × Readable values.now rows.now rules.now jumps.now read × (sound ≡ is_some (decode sheet.now)) }
     ensures { (text : List ℕ) → ReadAs text values.now rows.now rules.now read → RunsIn text set.now sheet.now (length targets.old) (length answers.old) targets.new answers.new }
 {
-    let mut p: usize = 1;
-    let mut i: usize = 0;
-    while i < n {
+    let mut p = 1;
+    for i in 0..n {
         let place = set_rows::lent_in(set, p);
-        let device = place.device;
-        let outcome = place.outcome;
         let start = i * FULLEST;
         let end = start + FULLEST;
         let given = run_read(
@@ -137,15 +111,14 @@ fn run_records(
             rows,
             rules,
             jumps,
-            set_rows::bytes_of(set, device),
-            set_rows::bytes_of(set, outcome),
+            set_rows::bytes_of(set, place.device),
+            set_rows::bytes_of(set, place.outcome),
             sheet,
             sound,
             &mut targets[start..end],
         );
         put_numbers(answers, i * NUMBERS, given);
-        p = outcome.end;
-        i += 1;
+        p = place.outcome.end;
     }
     splice::clear(&mut targets[n * FULLEST..]);
 }
@@ -153,13 +126,13 @@ fn run_records(
 // ---- room for the text
 
 // The row of each rule's ACTION is noted, if the text is accepted.
-fn note_actions(read: TextRead, rows: &[u16], rules: &mut [u16])
+fn note_actions(read: Result<Counts, LineRefusal>, rows: &[u16], rules: &mut [u16])
     requires { (v : List ℕ) × ((js : List ℕ) × Readable v rows.now rules.old js read) }
     ensures { Noted rows.now rules.old rules.new read }
 {
     match read {
-        TextRead::Accepted(counts) => action_rows::put_actions(rows, rules, counts.rules),
-        TextRead::Refused(_, _) => {}
+        Ok(counts) => action_rows::put_actions(rows, rules, counts.rules),
+        Err(_) => {}
     }
 }
 
@@ -197,27 +170,30 @@ fn each_lent(
     );
 }
 
-// The runs with room for the values and the rows that a caller lends.
-fn each_in(
+// The runs with room for a text of V bytes, in R numbers of rows, which is cleared once for all records.
+fn each_sized<const V: usize, const R: usize>(
     text: &[u8],
-    values: &mut [u8],
-    rows: &mut [u16],
     set: &[u8],
     n: usize,
     sheet: &[u8],
     targets: &mut [u8],
     answers: &mut [u32],
 )
-    requires { Going set.now n targets.old answers.old × (length text.now ≤ most_text → Lends (length text.now) values.old rows.old) }
+    requires going { Going set.now n targets.old answers.old }
+    requires fits { length text.now ≤ most_text → length text.now ≤ V }
+    requires small { V < 65536 }
+    requires enough { (R < 65536) × ((V + 1) * 4 ≤ R * 7) }
     ensures { RunsIn text.now set.now sheet.now (length targets.old) (length answers.old) targets.new answers.new }
 {
+    let mut values = [0u8; V];
+    let mut rows = [0u16; R];
     let mut rules = [0u16; 2048];
     let mut labels = [0u16; 512];
     let mut jumps = [0u16; 512];
     each_lent(
         text,
-        values,
-        rows,
+        &mut values,
+        &mut rows,
         &mut rules,
         &mut labels,
         &mut jumps,
@@ -229,58 +205,8 @@ fn each_in(
     );
 }
 
-// Room by the size of the text, which is cleared once for all records.
-fn each_short(
-    text: &[u8],
-    set: &[u8],
-    n: usize,
-    sheet: &[u8],
-    targets: &mut [u8],
-    answers: &mut [u32],
-)
-    requires { Going set.now n targets.old answers.old × (length text.now ≤ 8192) }
-    ensures { RunsIn text.now set.now sheet.now (length targets.old) (length answers.old) targets.new answers.new }
-{
-    let mut values = [0u8; 8192];
-    let mut rows = [0u16; 4684];
-    each_in(
-        text,
-        &mut values,
-        &mut rows,
-        set,
-        n,
-        sheet,
-        targets,
-        answers,
-    );
-}
-
-fn each_any(
-    text: &[u8],
-    set: &[u8],
-    n: usize,
-    sheet: &[u8],
-    targets: &mut [u8],
-    answers: &mut [u32],
-)
-    requires { Going set.now n targets.old answers.old }
-    ensures { RunsIn text.now set.now sheet.now (length targets.old) (length answers.old) targets.new answers.new }
-{
-    let mut values = [0u8; 32768];
-    let mut rows = [0u16; 18728];
-    each_in(
-        text,
-        &mut values,
-        &mut rows,
-        set,
-        n,
-        sheet,
-        targets,
-        answers,
-    );
-}
-
-fn each_sized(
+// Room by the size of the text.
+fn each_text(
     text: &[u8],
     set: &[u8],
     n: usize,
@@ -292,9 +218,10 @@ fn each_sized(
     ensures { RunsIn text.now set.now sheet.now (length targets.old) (length answers.old) targets.new answers.new }
 {
     if text.len() <= 8192 {
-        return each_short(text, set, n, sheet, targets, answers);
+        each_sized::<8192, 4684>(text, set, n, sheet, targets, answers);
+    } else {
+        each_sized::<32768, 18728>(text, set, n, sheet, targets, answers);
     }
-    each_any(text, set, n, sheet, targets, answers)
 }
 
 // ---- the operation
@@ -316,7 +243,7 @@ pub fn run_each(
 ) -> set_answers::Given
     ensures { wrote result targets.new answers.new ≡ each_answer text.now set.now sheet.now (length targets.old) (length answers.old) }
 {
-    clear_numbers(answers);
+    answers.fill(0);
     if !set_rows::check_lent(set) {
         return refuse(Refusal::SetBad, targets);
     }
@@ -327,6 +254,6 @@ pub fn run_each(
     if answers.len() < n * NUMBERS {
         return refuse(Refusal::TargetShort, targets);
     }
-    each_sized(text, set, n, sheet, targets, answers);
+    each_text(text, set, n, sheet, targets, answers);
     set_answers::accepted(0, 0, 0, n)
 }

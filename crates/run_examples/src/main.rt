@@ -43,38 +43,33 @@ const APART: usize = 65536;
 
 fn agree(want: &[u8], n: usize, b: u8) -> usize {
     if APART <= n {
-        return n;
+        n
+    } else if scan::byte_at(want, n) == b {
+        n.wrapping_add(1)
+    } else {
+        n.wrapping_add(APART)
     }
-    if scan::byte_at(want, n) == b {
-        return std::num::wrapping_add_usize(n, 1);
-    }
-    std::num::wrapping_add_usize(n, APART)
 }
 
 fn agree_all(want: &[u8], n: usize, s: &[u8]) -> usize {
     let mut m = n;
-    let mut i: usize = 0;
-    while i < s.len() {
-        m = agree(want, m, s[i]);
-        i += 1;
+    for b in s {
+        m = agree(want, m, *b);
     }
     m
 }
 
 fn agree_part(want: &[u8], n: usize, s: &[u8], from: usize, to: usize) -> usize {
-    if from <= to {
-        if to <= s.len() {
-            return agree_all(want, n, &s[from..to]);
-        }
+    if from <= to && to <= s.len() {
+        agree_all(want, n, &s[from..to])
+    } else {
+        n
     }
-    n
 }
 
 fn agree_number(want: &[u8], n: usize, v: u32) -> usize {
     let d = pieces::decimal(v);
-    let digits = d.digits;
-    let start = d.start;
-    agree_all(want, n, &digits[start..])
+    agree_all(want, n, &d.digits[d.start..])
 }
 
 // A number, and a blank before it.
@@ -93,17 +88,16 @@ fn agree_given(want: &[u8], given: Given) -> usize {
 // ---- the entries of a record or of a run list
 
 fn byte(s: &[u8], i: usize) -> u32 {
-    let b = scan::byte_at(s, i);
-    b as u32
+    u32::from(scan::byte_at(s, i))
 }
 
 // Two bytes as one number.
 fn pair(s: &[u8], i: usize) -> u32 {
-    byte(s, i) << 8 | byte(s, std::num::wrapping_add_usize(i, 1))
+    byte(s, i) << 8 | byte(s, i.wrapping_add(1))
 }
 
 // The place up to which they agree, and a place in the record.
-#[derive(Drop)]
+#[derive(Clone, Copy)]
 struct Spot {
     n: usize,
     at: usize,
@@ -119,7 +113,7 @@ enum Kind {
 }
 
 fn behind(at: usize, n: u32) -> usize {
-    std::num::wrapping_add_usize(at, n as usize)
+    at.wrapping_add(n as usize)
 }
 
 // A word, and a text of the record.
@@ -140,9 +134,10 @@ fn agree_property(want: &[u8], n: usize, t: &[u8], at: usize) -> Spot {
 
 fn agree_type(want: &[u8], n: usize, builtin: u32) -> usize {
     if builtin == 0 {
-        return agree_all(want, n, b"program ");
+        agree_all(want, n, b"program ")
+    } else {
+        agree_all(want, n, b"builtin ")
     }
-    agree_all(want, n, b"builtin ")
 }
 
 // Its type, its place, its template.
@@ -173,10 +168,8 @@ fn agree_entry(want: &[u8], n: usize, t: &[u8], at: usize, kind: Kind) -> Spot {
 
 fn agree_row(want: &[u8], from: Spot, t: &[u8], count: u32, kind: Kind) -> Spot {
     let mut spot = from;
-    let mut left = count;
-    while 0 < left {
+    for _ in 0..count {
         spot = agree_entry(want, spot.n, t, spot.at, kind);
-        left -= 1;
     }
     spot
 }
@@ -254,21 +247,15 @@ fn agree_close(want: &[u8], n: usize, device: &[u8], record: &[u8]) -> usize {
 
 // Whether all bytes from a place on are zero.
 fn is_zero(s: &[u8], from: usize) -> bool {
-    let mut i = from;
-    while i < s.len() {
-        if s[i] != 0 {
-            return false;
-        }
-        i += 1;
-    }
-    true
+    s.iter().skip(from).all(|b| *b == 0)
 }
 
 fn agree_rest(want: &[u8], n: usize, target: &[u8], used: usize) -> usize {
     if is_zero(target, used) {
-        return n;
+        n
+    } else {
+        agree_all(want, n, b"; not zero behind it")
     }
-    agree_all(want, n, b"; not zero behind it")
 }
 
 fn agree_made(want: &[u8], n: usize, device: &[u8], record: &[u8]) -> usize {
@@ -280,18 +267,17 @@ fn agree_outcome(want: &[u8], given: Given, device: &[u8], target: &[u8]) -> usi
     let used = given.used as usize;
     let n = agree_given(want, given);
     let m = agree_rest(want, n, target, used);
-    if given.number == 0 {
-        if used <= target.len() {
-            return agree_made(want, m, device, &target[0..used]);
-        }
+    if given.number == 0 && used <= target.len() {
+        agree_made(want, m, device, &target[..used])
+    } else {
+        m
     }
-    m
 }
 
 // The part of what must come out with which what came out agrees.
 fn say_common(stdout: Stdout, want: &[u8], n: usize) {
     if n <= want.len() {
-        say(stdout, &want[0..n]);
+        say(stdout, &want[..n]);
     }
 }
 
@@ -326,51 +312,23 @@ fn show_run(
 fn show_from(stdout: Stdout, case: &[u8], device: &[u8], outcome: &[u8], want: &[u8]) {
     let mut target = [0xaau8; 18125];
     let first = scan::byte_end(case, 0, b'\n');
-    if first < 4 {
-        return;
-    }
-    if case.len() <= first {
+    if first < 4 || case.len() <= first {
         return;
     }
     let name = &case[4..first];
     let text = &case[first + 1..];
-    match scan::byte_at(case, 2) {
-        b'<' => show_run(
-            stdout,
-            name,
-            text,
-            device,
-            outcome,
-            &SHEET,
-            &mut target[..18124],
-            want,
-        ),
-        b'!' => show_run(
-            stdout,
-            name,
-            text,
-            device,
-            outcome,
-            &LONGER,
-            &mut target,
-            want,
-        ),
-        _ => show_run(
-            stdout,
-            name,
-            text,
-            device,
-            outcome,
-            &SHEET,
-            &mut target,
-            want,
-        ),
-    }
+    let (sheet, room) = match scan::byte_at(case, 2) {
+        b'<' => (&SHEET[..], 18124),
+        b'!' => (&LONGER[..], 18125),
+        _ => (&SHEET[..], 18125),
+    };
+    let target = &mut target[..room];
+    show_run(stdout, name, text, device, outcome, sheet, target, want);
 }
 
 fn show_fresh(stdout: Stdout, case: &[u8], device: &[u8], start: &[u8], used: usize, want: &[u8]) {
     if used <= start.len() {
-        show_from(stdout, case, device, &start[0..used], want);
+        show_from(stdout, case, device, &start[..used], want);
     }
 }
 
@@ -394,13 +352,7 @@ fn show_case(stdout: Stdout, case: &[u8], want: &[u8]) {
 
 // Whether the line behind a case's rules says what must come out.
 fn ends_case(stdout: Stdout, case: &[u8], line: &[u8]) -> bool {
-    if line.len() < 3 {
-        return false;
-    }
-    if line[0] != b'=' {
-        return false;
-    }
-    if line[1] != b'>' {
+    if line.len() < 3 || !line.starts_with(b"=>") {
         return false;
     }
     show_case(stdout, case, &line[3..]);
@@ -409,13 +361,9 @@ fn ends_case(stdout: Stdout, case: &[u8], line: &[u8]) -> bool {
 
 // One line of the table, and where the case of the next line begins.
 fn show_line(stdout: Stdout, table: &[u8], case: usize, at: usize, end: usize) -> usize {
-    if case <= at {
-        if at <= end {
-            if end <= table.len() {
-                if ends_case(stdout, &table[case..at], &table[at..end]) {
-                    return std::num::wrapping_add_usize(end, 1);
-                }
-            }
+    if case <= at && at <= end && end <= table.len() {
+        if ends_case(stdout, &table[case..at], &table[at..end]) {
+            return end.wrapping_add(1);
         }
     }
     case

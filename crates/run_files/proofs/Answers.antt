@@ -4,10 +4,10 @@ use Prim.Native.Nat.{ℕ, ◌+◌, ◌-◌, ◌≤◌, ◌<◌}
 use mathlib.Core.Path.{◌≡◌, refl, sym, ap, ap₂, ◌∙◌, subst}
 use mathlib.Core.Bool.{true, false}
 use mathlib.Core.List.{List}
-use mathlib.Core.Option.{Option, none, some}
+use Rattle.std.specs.Prelude.{Option, None, Some}
 use native.Mathlib.Omega.{arith}
 use borrow.Author.Tests.{le-leb, lt-leb}
-use lib.ListN.{length, get_or, replicate}
+use lib.ListN.{length, get_or}
 use Rattle.lists.specs.Lists.{is_some}
 use Rattle.lists.proofs.Lists.{is_none}
 use Rattle.lists.specs.Checked.{Checked, refused, ok}
@@ -21,7 +21,6 @@ use Rattle.outcome.specs.State as O
 use Rattle.outcome.specs.State.{State, encode}
 use Rattle.outcome_check.proofs.Answers.{faulty-state}
 use Rattle.outcome_check.specs.Check.{checked_of}
-use Rattle.outcome_check.specs.declared.Checked.TheVariants.{Faulty}
 use Rattle.outcome_target.specs.Held as target
 use Rattle.outcome_target.specs.declared.Layout.{Layout}
 use Rattle.sheet.specs.Sheet as Sheets
@@ -30,13 +29,13 @@ use Rattle.engine.specs.Operations.{decode_for}
 use Rattle.records.specs.Records.{Denotes}
 use Rattle.run.specs.Running.{Held}
 use Rattle.run.proofs.Laws.{used_is}
-use Rattle.sets.specs.Answer.{Fault, of_set, Answer, refusal, acceptance}
+use Rattle.sets.specs.Answer.{of_set, Answer, refusal, acceptance}
 use Rattle.files.specs.Files.{File, decode_files, doubled, winners}
 use Rattle.files.specs.Operation.{FileFault, of_none, Loaded, load_all, Left, run_loaded, run_files, files_answer, files}
 use Rattle.file_rows.specs.Places.{files_at}
 use Rattle.file_order.specs.Order.{file_on, chosen}
 use Rattle.file_order.proofs.Numbers.{kept_at}
-use Rattle.set_answers.specs.Answers.{answered, Refuses, Accepts}
+use Rattle.set_answers.specs.Answers.{answered, Accepts}
 use Rattle.set_answers.specs.declared.Given.{Given}
 use Rattle.run_files.specs.Running.{Ranked, FaultAt, Readable, Winning}
 use Rattle.run_files.proofs.Places.{position_is}
@@ -51,10 +50,6 @@ loaded dev rec places lay d s h x l m = record {
   chained = h.chained;
   held = subst (λ (y : Layout). target.Held (length (chain d)) x y s) (sym h.layout) (l (length (chain d)) s h.outcome m);
 }
-
--- it was cleared
-pub cleared : (room m : ℕ) (l : List ℕ) (g : Given) (f : Fault) → Refuses g f → l ≡ replicate m 0 → m ≡ room → (x : Answer) → x ≡ refusal room f → answered g l ≡ x
-cleared room m l g f k b e x q = ap (answered g) b ∙ k m ∙ ap (λ (i : ℕ). refusal i f) e ∙ sym q
 
 -- it holds a record
 pub holds : (room n : ℕ) (l : List ℕ) (lay : Layout) (v w : ℕ) (left : Left) → target.Held n l lay left.state → v ≡ left.visited → w ≡ left.tried → length l ≡ room
@@ -74,11 +69,11 @@ module _ (set dev out sheet : List ℕ) (room : ℕ) where
   gives-short h = rw (lt-leb fullest_outcome room h, files)
 
   module _ (h : fullest_outcome ≤ room) where
-    pub gives_none : decode_files set ≡ none → files set dev out sheet room ≡ refusal room (of_set set_bad)
+    pub gives_none : decode_files set ≡ None → files set dev out sheet room ≡ refusal room (of_set set_bad)
     unfolding files
     gives_none e = rw (le-leb fullest_outcome room h, files) (rw e)
 
-    gives : (fs : List File) → decode_files set ≡ some fs → (c : Checked FileFault Left) → run_files fs dev out sheet ≡ c → files set dev out sheet room ≡ files_answer room fs c
+    gives : (fs : List File) → decode_files set ≡ Some fs → (c : Checked FileFault Left) → run_files fs dev out sheet ≡ c → files set dev out sheet room ≡ files_answer room fs c
     unfolding files
     gives fs e c r = rw (le-leb fullest_outcome room h, files) (rw (e, r))
 
@@ -86,7 +81,7 @@ module _ (set dev out sheet : List ℕ) (room : ℕ) where
     unfolding run_files
     twice fs t = rw t
 
-    pub gives-twice : (fs : List File) → decode_files set ≡ some fs → doubled fs ≡ true → files set dev out sheet room ≡ refusal room (of_set file_twice)
+    pub gives-twice : (fs : List File) → decode_files set ≡ Some fs → doubled fs ≡ true → files set dev out sheet room ≡ refusal room (of_set file_twice)
     gives-twice fs e t = gives fs e (refused (of_none file_twice)) (twice fs t)
 
 -- ---- the files that count
@@ -121,7 +116,7 @@ module _ (set starts : List ℕ) (n : ℕ) (order : List ℕ) (count : ℕ) (w :
     pub gives-text : (why : Refusal) (p l : ℕ) → FaultAt set starts order count (load_all (chosen set starts order count)) why p l
         → files set dev out sheet room ≡ refusal room (record { why = why; position = p; line = l })
     gives-text why p l f =
-        let x : FileFault = record { why = why; line = l; file = some (file_on set starts (get_or order f.k 0)) } in
+        let x : FileFault = record { why = why; line = l; file = Some (file_on set starts (get_or order f.k 0)) } in
         gives-fault (refused x) (text-refused x (loads (refused x) f.is)) why p l (record { k = f.k; few = f.few; position = f.position; line = f.line; is = refl })
 
     module _ (ls : List Loaded) (read : load_all (chosen set starts order count) ≡ ok ls) where
@@ -132,14 +127,14 @@ module _ (set starts : List ℕ) (n : ℕ) (order : List ℕ) (count : ℕ) (w :
       pub gives-device : is_some (D.decode dev) ≡ false → files set dev out sheet room ≡ refusal room (of_set device_bad)
       gives-device k = gives_whole device_bad (no-device k)
 
-      no-outcome : (d : Device) → D.decode dev ≡ some d → O.decode (length (chain d)) out ≡ none → run_files all dev out sheet ≡ refused (of_none outcome_bad)
+      no-outcome : (d : Device) → D.decode dev ≡ Some d → O.decode (length (chain d)) out ≡ None → run_files all dev out sheet ≡ refused (of_none outcome_bad)
       unfolding run_files decode_for
       no-outcome d e g = rw (w.once, loads (ok ls) read, e, g)
 
-      pub gives-outcome : (d : Device) → D.decode dev ≡ some d → (r : Chain) → Chained d r → Faulty ≡ checked_of (O.decode r.len out)
+      pub gives-outcome : (d : Device) → D.decode dev ≡ Some d → (r : Chain) → Chained d r → None ≡ checked_of (O.decode r.len out)
           → files set dev out sheet room ≡ refusal room (of_set outcome_bad)
       gives-outcome d e r c k =
-          let g : O.decode (length (chain d)) out ≡ none = ap (λ (m : ℕ). O.decode m out) (sym c.len) ∙ faulty-state (O.decode r.len out) k in
+          let g : O.decode (length (chain d)) out ≡ None = ap (λ (m : ℕ). O.decode m out) (sym c.len) ∙ faulty-state (O.decode r.len out) k in
           gives_whole outcome_bad (no-outcome d e g)
 
       module _ (r : Chain) (lay : Layout) (d : Device) (s : State) (held : Held dev out r lay d s) where
@@ -150,7 +145,7 @@ module _ (set starts : List ℕ) (n : ℕ) (order : List ℕ) (count : ℕ) (w :
         pub gives-sheet : is_some (Sheets.decode sheet) ≡ false → files set dev out sheet room ≡ refusal room (of_set sheet_bad)
         gives-sheet k = gives_whole sheet_bad (no-sheet k)
 
-        module _ (a : Sheet) (e : Sheets.decode sheet ≡ some a) where
+        module _ (a : Sheet) (e : Sheets.decode sheet ≡ Some a) where
           runs : run_files all dev out sheet ≡ run_loaded a d s 0 0 ls
           unfolding run_files decode_for
           runs = rw (w.once, loads (ok ls) read, held.device, held.outcome, e)

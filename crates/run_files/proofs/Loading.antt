@@ -3,7 +3,7 @@
 use Prim.Native.Nat.{ℕ, ◌+◌, ◌≤◌, ◌<◌}
 use mathlib.Core.Path.{◌≡◌, refl, sym, ap, ◌∙◌, subst}
 use mathlib.Core.List.{List, [], ◌∷◌}
-use mathlib.Core.Option.{some}
+use Rattle.std.specs.Prelude.{Some}
 use native.Mathlib.Omega.{arith}
 use lib.ListN.{length, drop, get_or}
 use Rattle.lists.specs.Checked.{Checked, refused, ok, Placed, line}
@@ -28,7 +28,7 @@ no_reading x e f = let both = sym e ∙ f in let z : ◌≡◌ {A = ℕ} 0 1 = c
 -- ---- the first of files
 
 abbrev pub fault_in : File → ℕ → Refusal → FileFault
-fault_in f n w = record { why = w; line = n; file = some f }
+fault_in f n w = record { why = w; line = n; file = Some f }
 
 module _ (f : File) (fs : List File) where
   pub load-fault : (n : ℕ) (w : Refusal) → read_text reader f.text ≡ refused (line n w) → load_all (f ∷ fs) ≡ refused (fault_in f n w)

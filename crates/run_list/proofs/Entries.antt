@@ -1,8 +1,9 @@
 -- One command, and the commands one behind the other.
 -- Assumes nothing.
 use Prim.Native.Nat.{ℕ, suc, ◌+◌, ◌-◌, ◌≤◌}
-use mathlib.Core.Path.{◌≡◌, refl, sym, ap, ap₂, ◌∙◌, subst}
-use mathlib.Core.Bool.{Bool, true, false}
+use mathlib.Core.Path.{◌≡◌, refl, sym, ap, ◌∙◌}
+use mathlib.Core.Bool.{Bool, false}
+use Rattle.std.specs.Prelude.{None, Some}
 use mathlib.Core.List.{List, [], ◌∷◌, ◌++◌}
 use native.Mathlib.Omega.{arith}
 use lib.ListN.{length, take, drop, length-append}
@@ -10,7 +11,7 @@ use lib.Seq.{length-take-le}
 use Rattle.lists.specs.Lists.{cat}
 use Rattle.lists.specs.Checked.{Checked, refused, ok, ◌>>=◌}
 use Rattle.lists.specs.Refusal.{Refusal, substitution_long}
-use Rattle.bits.specs.Fields.{Field, packed}
+use Rattle.bits.specs.Fields.{packed}
 use Rattle.bits.proofs.Fields.{length-packed}
 use Rattle.splice.specs.Moves.{stored}
 use Rattle.splice.proofs.Laws.{length-stored}
@@ -19,9 +20,6 @@ use Rattle.device.specs.Device.{Device}
 use Rattle.outcome.specs.State.{Run}
 use Rattle.engine.specs.Substitute.{Source, filled}
 use Rattle.engine.specs.Operations.{Command, enc_command, commands, run_list}
-use Rattle.insertion.specs.Append.{Placed}
-use Rattle.insertion.specs.declared.Put.{Put}
-use Rattle.insertion.specs.declared.Put.TheVariants.{Done, Full}
 use Rattle.insertion.proofs.Laws.{appended_none, appended_both}
 use Rattle.substitution.specs.Turns.{Text}
 use Rattle.run_list.specs.Lists.{head_fields, count_fields, Made, Listed, Leads, Written}
@@ -59,7 +57,7 @@ module _ (t y t₁ h t₂ : List ℕ) (at k : ℕ) (builtin : Bool) (o : Checked
       ∙ ap (λ (z : List ℕ). stored z at h) (text_there ∙ ap (λ (i : ℕ). stored t i (take k y)) n)
       ∙ head_stored t at h (take k y) (omega (arith, head_length))
 
-  pub command_made : Made builtin o t at (Done (at + 2 + k)) t₂
+  pub command_made : Made builtin o t at (Some (at + 2 + k)) t₂
   command_made =
       let x : List ℕ = take k y in (
         x,
@@ -77,19 +75,19 @@ module _ (d : Device) (ps : List Property) (y : List ℕ) (run : Run) (others : 
   abbrev pub source_of : Source
   source_of = record { device = d; place = run.place; properties = ps; output = y }
 
-  pub commands-more : (l l₁ : List ℕ) (at k : ℕ) → Made run.builtin (filled false source_of run.template) l at (Done k) l₁
+  pub commands-more : (l l₁ : List ℕ) (at k : ℕ) → Made run.builtin (filled false source_of run.template) l at (Some k) l₁
       → Leads (commands d ps y (run ∷ others)) l at (commands d ps y others) l₁ k
   unfolding commands
-  commands-more l l₁ at k (x, e, p) (Done n) m (cs, f, q) =
+  commands-more l l₁ at k (x, e, p) (Some n) m (cs, f, q) =
       let c : Command = record { builtin = run.builtin; text = x } in
-      (c ∷ cs, rw (e, f), appended_both (enc_command c) (cat enc_command cs) l at k l₁ p (Done n) m q)
-  commands-more l l₁ at k (x, e, p) Full m f = rw (e, f)
+      (c ∷ cs, rw (e, f), appended_both (enc_command c) (cat enc_command cs) l at k l₁ p (Some n) m q)
+  commands-more l l₁ at k (x, e, p) None m f = rw (e, f)
 
   pub commands_full : filled false source_of run.template ≡ refused substitution_long → commands d ps y (run ∷ others) ≡ refused substitution_long
   unfolding commands
   commands_full e = rw e
 
-pub commands-none : (d : Device) (ps : List Property) (y l : List ℕ) (at : ℕ) → at ≤ length l → Listed (commands d ps y []) l at (Done at) l
+pub commands-none : (d : Device) (ps : List Property) (y l : List ℕ) (at : ℕ) → at ≤ length l → Listed (commands d ps y []) l at (Some at) l
 unfolding commands
 commands-none d ps y l at h = ([], refl, appended_none l at h)
 
@@ -113,7 +111,7 @@ commands-count d ps y (r ∷ rs) cs e = go (filled false (source_of d ps y r rs)
 
 -- entries behind the first byte, and then the count in it
 pub list_written : (o : Checked Refusal (List Command)) (t t₁ h t₂ : List ℕ) (n k : ℕ) → 1 ≤ length t → ((cs : List Command) → o ≡ ok cs → length cs ≡ n)
-    → Listed o t 1 (Done k) t₁ → length t₁ ≡ length t → h ≡ packed (count_fields n) → t₂ ≡ lent_part t₁ 0 1 h → Written o t (Done k) t₂
+    → Listed o t 1 (Some k) t₁ → length t₁ ≡ length t → h ≡ packed (count_fields n) → t₂ ≡ lent_part t₁ 0 1 h → Written o t (Some k) t₂
 unfolding run_list
 list_written o t t₁ h t₂ n k room c (cs, e, p) l g f =
     let lh : length h ≡ 1 = ap length g ∙ length-packed (count_fields n) 1 refl in

@@ -1,10 +1,10 @@
 -- The rows of an outcome record that is lent, and a turn of the walk over its runs.
 -- Assumes nothing.
-use Prim.Native.Nat.{ℕ, ◌+◌, ◌-◌, ◌≤◌, ◌<◌}
-use mathlib.Core.Path.{◌≡◌, refl, sym, ap, ap₂, ◌∙◌, subst}
+use Prim.Native.Nat.{ℕ, ◌-◌, ◌≤◌, ◌<◌}
+use mathlib.Core.Path.{◌≡◌, sym, ap, ap₂, ◌∙◌, subst}
 use mathlib.Core.Bool.{Bool, true, false, ◌&&◌}
 use mathlib.Core.List.{List, [], ◌∷◌, ◌++◌, append_assoc}
-use mathlib.Core.Option.{some}
+use Rattle.std.specs.Prelude.{Some}
 use native.Mathlib.Omega.{arith}
 use borrow.Author.Tests.{leb-true}
 use lib.Dec.{leb}
@@ -45,7 +45,6 @@ use Rattle.substitution.specs.declared.Places.{Places}
 use Rattle.substitution.proofs.Sources.{chain_source}
 use Rattle.run_list.specs.Records.{Beside, Runs, Both}
 use Rattle.engine.specs.Substitute.{filled}
-use Rattle.insertion.specs.declared.Put.TheVariants.{Done}
 use Rattle.run_list.specs.Lists.{Made, Leads}
 use Rattle.run_list.proofs.Entries.{source_of, commands-more, commands_full}
 
@@ -60,7 +59,7 @@ pub record Row (A : Type 0) (one : List ℕ → Parse A) (rec : List ℕ) (xs : 
 
 module _ {A : Type 0} {part : Section} {enc : A → List ℕ} {list : State → List A} {anew : State → List A → State} (T : RowOf A part enc list anew)
     {ok : A → Bool} {one : List ℕ → Parse A} (L : Laws A enc ok one) where
-  pub record_row : (n : ℕ) (rec : List ℕ) (s : State) → Bytes rec → decode n rec ≡ some s → all ok (list s) ≡ true
+  pub record_row : (n : ℕ) (rec : List ℕ) (s : State) → Bytes rec → decode n rec ≡ Some s → all ok (list s) ≡ true
       → (at count : ℕ) → at ≡ start_of (layout_of s) part → count ≡ number_at rec (count_place part) (count_width part) → Row A one rec (list s) at count
   unfolding encode
   record_row n rec s b e each at count p q =
@@ -90,7 +89,7 @@ module _ {A : Type 0} {part : Section} {enc : A → List ℕ} {list : State → 
       }
 
 module _ (dev rec : List ℕ) (r : Chain) (lay : Layout) (d : Device) (s : State) (b : Bytes rec) (w : Both dev rec r lay d s) where
-  decoded : decode (length (chain d)) rec ≡ some s
+  decoded : decode (length (chain d)) rec ≡ Some s
   unfolding decode_for
   decoded = w.outcome
 
@@ -161,12 +160,12 @@ module _ (rec : List ℕ) (left : ℕ) (d : Device) (ps : List Property) (y : Li
   abbrev pub template_at : List ℕ
   template_at = take (q.end - q.start) (drop q.start rec)
 
-  pub here_leads : (l l₁ : List ℕ) (at k : ℕ) → Made q.builtin (filled false (source_of d ps y h.run h.others) template_at) l at (Done k) l₁
+  pub here_leads : (l l₁ : List ℕ) (at k : ℕ) → Made q.builtin (filled false (source_of d ps y h.run h.others) template_at) l at (Some k) l₁
       → Leads (commands d ps y rs) l at (commands d ps y h.others) l₁ k
   here_leads l l₁ at k m =
-      let n : Made h.run.builtin (filled false (source_of d ps y h.run h.others) h.run.template) l at (Done k) l₁ =
-      subst (λ (b : Bool). Made b (filled false (source_of d ps y h.run h.others) h.run.template) l at (Done k) l₁) h.is.type
-      (subst (λ (x : List ℕ). Made q.builtin (filled false (source_of d ps y h.run h.others) x) l at (Done k) l₁) h.is.template m)
+      let n : Made h.run.builtin (filled false (source_of d ps y h.run h.others) h.run.template) l at (Some k) l₁ =
+      subst (λ (b : Bool). Made b (filled false (source_of d ps y h.run h.others) h.run.template) l at (Some k) l₁) h.is.type
+      (subst (λ (x : List ℕ). Made q.builtin (filled false (source_of d ps y h.run h.others) x) l at (Some k) l₁) h.is.template m)
       in
       subst (λ (x : List Run). Leads (commands d ps y x) l at (commands d ps y h.others) l₁ k) (sym h.whole) (commands-more d ps y h.run h.others l l₁ at k n)
 

@@ -1,7 +1,7 @@
 -- The records that the run list is made of, as code has them.
 -- Assumes nothing.
 use Rattle.std.specs.Prelude.{ℕ, ◌≤◌, ◌≡◌, List, length, drop}
-use Rattle.std.proofs.Math.Option.{some}
+use Rattle.std.specs.Prelude.{Some}
 use Rattle.entries.specs.Parse.{got, many}
 use Rattle.entries.specs.Entry.{Property, one_prop}
 use Rattle.device.specs.Device.{Device, chain, decode}
@@ -16,7 +16,7 @@ use Rattle.engine.specs.Operations.{decode_for}
 -- ---- a device record, and the properties and the output of an outcome record
 
 pub record Beside (dev rec : List ℕ) (r : Chain) (at n : ℕ) (d : Device) (ps : List Property) (x : List ℕ) : Type 0 where
-  pub device : decode dev ≡ some d
+  pub device : decode dev ≡ Some d
   pub chained : Chained d r
   pub inside : at ≤ length rec
   pub rest : List ℕ
@@ -38,9 +38,9 @@ OfRuns dev rec r at n p left P = (d : Device) (ps : List Property) (x : List ℕ
 -- ---- both records
 
 pub record Both (dev rec : List ℕ) (r : Chain) (lay : Layout) (d : Device) (s : State) : Type 0 where
-  pub device : decode dev ≡ some d
+  pub device : decode dev ≡ Some d
   pub chained : Chained d r
-  pub outcome : decode_for d rec ≡ some s
+  pub outcome : decode_for d rec ≡ Some s
   pub layout : lay ≡ layout_of s
 
 abbrev pub RecordStands : List ℕ → List ℕ → Chain → Layout → Type 0

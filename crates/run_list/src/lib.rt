@@ -6,7 +6,6 @@ ghost use Rattle.std.specs.Prelude.{◌≡◌, true, false, ◌+◌, ◌*◌, �
 ghost use Rattle.lists.specs.Sizes.{fullest_run_list};
 ghost use Rattle.bits.specs.Fields.{packed};
 ghost use Rattle.template.specs.Template.{well_formed};
-ghost use Rattle.bits.specs.Fields.{bit};
 ghost use Rattle.engine.specs.Substitute.{filled};
 ghost use Rattle.engine.specs.Operations.{commands};
 ghost use Rattle.substitution.specs.Places.{Sourced, OfSource};
@@ -15,7 +14,6 @@ ghost use Rattle.run_list.specs.Records.{RunsStand, OfRuns, RecordStands, OfReco
 
 use bits::BitCursor;
 use device_lookup::Chain;
-use insertion::Put;
 use outcome_target::{Layout, Section};
 use substitution::Places;
 
@@ -24,18 +22,12 @@ pub const FULLEST: usize = 8225;
 
 // ---- heads
 
-fn bit_of(b: bool) -> usize
-    ensures { result ≡ bit b }
-{
-    if b { 1 } else { 0 }
-}
-
 // Builtin 1, length 10, unused 5.
 fn write_head(head: &mut [u8], builtin: bool, len: usize)
     requires { length head.old ≡ 2 }
     ensures { head.new ≡ packed (head_fields builtin len) }
 {
-    let len_at = BitCursor { at: 0 }.put(head, 1, bit_of(builtin));
+    let len_at = BitCursor { at: 0 }.put(head, 1, usize::from(builtin));
     let unused_at = len_at.put(head, 10, len);
     unused_at.put(head, 5, 0);
 }
@@ -60,19 +52,15 @@ fn put_command(
     dev: &[u8],
     rec: &[u8],
     from: Places,
-) -> Put
+) -> Option<usize>
     requires { (at + 514 ≤ length t.old) × (well_formed template.now ≡ true) × Sourced dev.now rec.now from }
     ensures { Short at result × OfSource dev.now rec.now from (λ s. Made builtin (filled false s template.now) t.old at result t.new) }
 {
     let start = at + 2;
     let end = start + 512;
-    match substitution::substitute(template, dev, rec, from, false, &mut t[start..end]) {
-        Put::Done(k) => {
-            write_head(&mut t[at..start], builtin, k);
-            Put::Done(start + k)
-        }
-        Put::Full => Put::Full,
-    }
+    let k = substitution::substitute(template, dev, rec, from, false, &mut t[start..end])?;
+    write_head(&mut t[at..start], builtin, k);
+    Some(start + k)
 }
 
 // The entries of the n runs that stand from `first` on, behind the list's head.
@@ -85,38 +73,31 @@ fn put_runs(
     count: usize,
     first: usize,
     n: usize,
-) -> Put
+) -> Option<usize>
     requires { (1 + 514 * n ≤ length t.old) × RunsStand dev.now rec.now chain properties count first n }
     ensures { OfRuns dev.now rec.now chain properties count first n (λ d ps x rs. Listed (commands d ps x rs) t.old 1 result t.new) }
 {
     let mut at: usize = 1;
     let mut p = first;
-    let mut left = n;
-    while 0 < left {
+    for _ in 0..n {
         let run = outcome_readers::run_at(rec, p);
-        let start = run.start;
-        let end = run.end;
         let from = substitution::places_of(chain, run.place, properties, count);
-        let Put::Done(k) = put_command(t, at, run.builtin, &rec[start..end], dev, rec, from) else {
-            return Put::Full;
-        };
-        at = k;
-        p = end;
-        left -= 1;
+        at = put_command(t, at, run.builtin, &rec[run.start..run.end], dev, rec, from)?;
+        p = run.end;
     }
-    Put::Done(at)
+    Some(at)
 }
 
 // ---- the list
 
 // The run list of a sound record beside a sound device record; full is refusal 30.
-pub fn write(t: &mut [u8], dev: &[u8], rec: &[u8], chain: Chain, layout: Layout) -> Put
+pub fn write(t: &mut [u8], dev: &[u8], rec: &[u8], chain: Chain, layout: Layout) -> Option<usize>
     requires { (fullest_run_list ≤ length t.old) × RecordStands dev.now rec.now chain layout }
     ensures { OfRecord dev.now rec.now chain layout (λ d s. Written (commands d s.properties s.output s.runs) t.old result t.new) }
 {
     let runs = outcome_target::count_of(rec, Section::Runs);
     let count = outcome_target::count_of(rec, Section::Properties);
-    match put_runs(
+    let k = put_runs(
         t,
         dev,
         rec,
@@ -125,11 +106,7 @@ pub fn write(t: &mut [u8], dev: &[u8], rec: &[u8], chain: Chain, layout: Layout)
         count,
         layout.runs,
         runs,
-    ) {
-        Put::Done(k) => {
-            write_count(&mut t[0..1], runs);
-            Put::Done(k)
-        }
-        Put::Full => Put::Full,
-    }
+    )?;
+    write_count(&mut t[0..1], runs);
+    Some(k)
 }

@@ -4,7 +4,7 @@ use Prim.Native.Nat.{ℕ, zero, suc, ◌+◌, ◌-◌, ◌*◌, ◌≤◌, ◌<�
 use mathlib.Core.Path.{◌≡◌, refl, sym, ◌∙◌, ap, ap₂, subst}
 use mathlib.Core.Bool.{true, false}
 use mathlib.Core.List.{List, ◌∷◌}
-use mathlib.Core.Option.{Option, none, some}
+use Rattle.std.specs.Prelude.{Option, None, Some, Result, Ok, Err}
 use native.Mathlib.Omega.{arith}
 use native.Mathlib.Nat.{add-zero}
 use borrow.Author.Tests.{eq-eqb, ne_eqb}
@@ -17,6 +17,7 @@ use Rattle.lists.proofs.Lists.{is-some}
 use Rattle.lists.proofs.Moves.{ap_at}
 use Rattle.refusals.specs.Refusals.{refusal_of}
 use Rattle.refusals.specs.declared.Refusal.{Refusal}
+use Rattle.refusals.specs.declared.LineRefusal.{LineRefusal}
 use Rattle.rules.specs.Pair.{Rule, goto_of}
 use Rattle.device.specs.Device.{Device}
 use Rattle.device_lookup.specs.declared.Chain.{Chain}
@@ -45,8 +46,7 @@ use Rattle.step.specs.declared.Stepped.{Stepped}
 use Rattle.step.specs.declared.Stepped.TheVariants as stepped
 use Rattle.runner.specs.Runs.{Runnable, behind_of, runs, RuleSays, RuleRuns, Says, Runs}
 use Rattle.runner.specs.declared.RuleRan.{RuleRan}
-use Rattle.runner.specs.declared.RuleRan.TheVariants as rule
-use Rattle.runner.specs.declared.TextRan.TheVariants as all
+use Rattle.runner.specs.declared.Ended.{Ended}
 
 -- ---- a table that was read may run
 
@@ -93,55 +93,55 @@ module _ (v r t js : List ℕ) (n i : ℕ) (h : i < n) (w : Runnable v r t js n)
 
   -- where a jump leaves the run
   jumped : (g : Option (List ℕ)) (k : ℕ) → Resolved v r t i n g k → (a : Sheet) (d : Device) (s : State) → later a d (after true g) s ≡ runs v r t n a d s (behind_of k i)
-  jumped none k e a d s = rw (eq-eqb k 0 e)
-  jumped (some g) k (p, b) a d s = rw (ne_eqb k 0 (λ e. omega arith)) (seek_jump v r t g n a d s (i + 1) (k - 1) b)
+  jumped None k e a d s = rw (eq-eqb k 0 e)
+  jumped (Some g) k (p, b) a d s = rw (ne_eqb k 0 (λ e. omega arith)) (seek_jump v r t g n a d s (i + 1) (k - 1) b)
 
   jump_in : (g : Option (List ℕ)) (k : ℕ) → Resolved v r t i n g k → (i < behind_of k i) × (behind_of k i ≤ n)
-  jump_in none k e = rw (eq-eqb k 0 e) (omega arith, omega arith)
-  jump_in (some g) k (a, b) = rw (ne_eqb k 0 (λ e. omega arith)) (omega (arith, b.from), omega (arith, b.within))
+  jump_in None k e = rw (eq-eqb k 0 e) (omega arith, omega arith)
+  jump_in (Some g) k (a, b) = rw (ne_eqb k 0 (λ e. omega arith)) (omega (arith, b.from), omega (arith, b.within))
 
-  module _ (from to : ℕ) (is-from : from ≡ get_or t (i * 4 + 1) 0) (is-to : to ≡ get_or t (i * 4 + 2) 0) (dev : List ℕ) (places : Chain) (sheet x : List ℕ) (lay : Layout) (x' : List ℕ) (o : Stepped)
+  module _ (from to : ℕ) (is-from : from ≡ get_or t (i * 4 + 1) 0) (is-to : to ≡ get_or t (i * 4 + 2) 0) (dev : List ℕ) (places : Chain) (sheet x : List ℕ) (lay : Layout) (x' : List ℕ) (o : Result Stepped Refusal)
       (c : Steps v r from to dev places sheet x lay x' o) where
-    says : (y : Stepped) → o ≡ y → (a : Sheet) → decode sheet ≡ some a → (d : Device) (s : State) → Denotes dev places x lay d s → step.Says dev places lay d s x' y (step a d pairs s) (tried d pairs s)
+    says : (y : Result Stepped Refusal) → o ≡ y → (a : Sheet) → decode sheet ≡ Some a → (d : Device) (s : State) → Denotes dev places x lay d s → step.Says dev places lay d s x' y (step a d pairs s) (tried d pairs s)
     says y q a e d s z = rw (← q, ← is-from, ← is-to) (c.says a e d s z)
 
-    few : (y : Stepped) → o ≡ y → step.Few y
+    few : (y : Result Stepped Refusal) → o ≡ y → step.Few y
     few y q = subst step.Few q c.few
 
     abbrev by : Sheet → Device → ℕ → Checked refusal.Refusal (text.Stepped State) → Ran State
     by a d k b = started (engine a) b number k (goto_of pairs) (later a d)
 
-    pub rule_missed : (k : ℕ) → o ≡ stepped.Missed k → RuleSays v r t n i dev places sheet x lay x' (rule.Next lay (i + 1) k)
+    pub rule_missed : (k : ℕ) → o ≡ Ok (stepped.Missed k) → RuleSays v r t n i dev places sheet x lay x' (Ok (record { layout = lay; next = i + 1; tried = k }))
     rule_missed k q = (
       omega arith,
       omega arith,
-      few (stepped.Missed k) q,
-      λ a e d s z. let (f, z', m) = says (stepped.Missed k) q a e d s z in (s, z', begun a d s ∙ ap₂ (by a d) (sym m) f),
+      few (Ok (stepped.Missed k)) q,
+      λ a e d s z. let (f, z', m) = says (Ok (stepped.Missed k)) q a e d s z in (s, z', begun a d s ∙ ap₂ (by a d) (sym m) f),
     )
 
-    pub rule_failed : (lay' : Layout) (k : ℕ) → o ≡ stepped.Failed lay' k → RuleSays v r t n i dev places sheet x lay x' (rule.Next lay' (i + 1) k)
+    pub rule_failed : (lay' : Layout) (k : ℕ) → o ≡ Ok (stepped.Failed lay' k) → RuleSays v r t n i dev places sheet x lay x' (Ok (record { layout = lay'; next = i + 1; tried = k }))
     rule_failed lay' k q = (
       omega arith,
       omega arith,
-      few (stepped.Failed lay' k) q,
-      λ a e d s z. let (s', f, z', m) = says (stepped.Failed lay' k) q a e d s z in (s', z', begun a d s ∙ ap₂ (by a d) (sym m) f),
+      few (Ok (stepped.Failed lay' k)) q,
+      λ a e d s z. let (s', f, z', m) = says (Ok (stepped.Failed lay' k)) q a e d s z in (s', z', begun a d s ∙ ap₂ (by a d) (sym m) f),
     )
 
-    pub rule-left : (lay' : Layout) (k : ℕ) → o ≡ stepped.Left lay' k → (j : ℕ) → j ≡ behind_of (get_or js i 0) i → RuleSays v r t n i dev places sheet x lay x' (rule.Next lay' j k)
+    pub rule-left : (lay' : Layout) (k : ℕ) → o ≡ Ok (stepped.Left lay' k) → (j : ℕ) → j ≡ behind_of (get_or js i 0) i → RuleSays v r t n i dev places sheet x lay x' (Ok (record { layout = lay'; next = j; tried = k }))
     rule-left lay' k q j e =
         let (low, high) = jump_in (goto_of pairs) (get_or js i 0) (w.jumps i h) in
         rw e (
           low,
           high,
-          few (stepped.Left lay' k) q,
+          few (Ok (stepped.Left lay' k)) q,
           λ a is d s z.
-              let (s', f, z', m) = says (stepped.Left lay' k) q a is d s z in
+              let (s', f, z', m) = says (Ok (stepped.Left lay' k)) q a is d s z in
               (s', z', begun a d s ∙ ap₂ (by a d) (sym m) f ∙ ap (more 1 k) (jumped (goto_of pairs) (get_or js i 0) (w.jumps i h) a d s')),
         )
 
-    pub rule-refused : (f : Refusal) → o ≡ stepped.Refused f → RuleSays v r t n i dev places sheet x lay x' (rule.Refused f)
+    pub rule-refused : (f : Refusal) → o ≡ Err f → RuleSays v r t n i dev places sheet x lay x' (Err f)
     rule-refused f q a is d s z =
-        let e : step a d pairs s ≡ refused (refusal_of f) = says (stepped.Refused f) q a is d s z in
+        let e : step a d pairs s ≡ refused (refusal_of f) = says (Err f) q a is d s z in
         begun a d s ∙ ap (by a d (tried d pairs s)) e
 
 -- ---- one after the other
@@ -153,7 +153,7 @@ module _ (v r t : List ℕ) (n : ℕ) (dev : List ℕ) (places : Chain) (sheet x
     pub within : i ≤ n
     pub few : k ≤ i
     pub tried : u ≤ k * most_chain
-    pub going : (a : Sheet) → decode sheet ≡ some a → (d : Device) (s₀ : State) → Denotes dev places x₀ lay₀ d s₀
+    pub going : (a : Sheet) → decode sheet ≡ Some a → (d : Device) (s₀ : State) → Denotes dev places x₀ lay₀ d s₀
         → (s : State) × Denotes dev places x lay d s × (more k u (runs v r t n a d s i) ≡ run_from (engine a) d next s₀ (rules_from v r t 0 n))
 
   pub going_start : Going x₀ lay₀ 0 0 0
@@ -169,16 +169,16 @@ module _ (v r t : List ℕ) (n : ℕ) (dev : List ℕ) (places : Chain) (sheet x
     pub still_ready : is_some (decode sheet) ≡ true → Ready dev places x₀ lay₀ → Ready dev places x lay
     still_ready q (d, s₀, z) = let (a, e) = is-some (decode sheet) q in let (s, z', _) = g.going a e d s₀ z in (d, s, z')
 
-    module _ (x' : List ℕ) (o : RuleRan) (y : RuleRuns v r t n i dev places sheet x lay x' o) where
-      says_so : (q : RuleRan) → o ≡ q → RuleSays v r t n i dev places sheet x lay x' q
+    module _ (x' : List ℕ) (o : Result RuleRan Refusal) (y : RuleRuns v r t n i dev places sheet x lay x' o) where
+      says_so : (q : Result RuleRan Refusal) → o ≡ q → RuleSays v r t n i dev places sheet x lay x' q
       says_so q e = subst (RuleSays v r t n i dev places sheet x lay x') e y.says
 
-      pub further : (lay' : Layout) (j m : ℕ) → o ≡ rule.Next lay' j m → (i < j) × (j ≤ n) × (m ≤ most_chain)
-      further lay' j m e = let (a, b, f, c) = says_so (rule.Next lay' j m) e in (a, b, f)
+      pub further : (z : RuleRan) → o ≡ Ok z → (i < z.next) × (z.next ≤ n) × (z.tried ≤ most_chain)
+      further ran e = let (a, b, f, c) = says_so (Ok ran) e in (a, b, f)
 
-      pub going_on : (lay' : Layout) (j m : ℕ) → o ≡ rule.Next lay' j m → Going x' lay' (k + 1) (u + m) j
-      going_on lay' j m e =
-          let (a, b, l, c) = says_so (rule.Next lay' j m) e in
+      pub going_on : (z : RuleRan) → o ≡ Ok z → Going x' z.layout (k + 1) (u + z.tried) z.next
+      going_on ran e =
+          let (a, b, l, c) = says_so (Ok ran) e in
           let f = g.few in
           let tried = g.tried in
           record {
@@ -189,20 +189,20 @@ module _ (v r t : List ℕ) (n : ℕ) (dev : List ℕ) (places : Chain) (sheet x
             going = λ h is d s₀ z₀.
                 let (s, z, q) = g.going h is d s₀ z₀ in
                 let (s', z', q') = c h is d s z in
-                (s', z', sym (more-more k u 1 m (runs v r t n h d s' j)) ∙ ap (more k u) (sym q') ∙ q);
+                (s', z', sym (more-more k u 1 ran.tried (runs v r t n h d s' ran.next)) ∙ ap (more k u) (sym q') ∙ q);
           }
 
-      pub going_refused : (f : Refusal) → o ≡ rule.Refused f → (m : ℕ) → m ≡ get_or t (i * 4) 0 → m < 65536 → Runs v r t n dev places sheet x₀ lay₀ x' (all.Refused f m)
+      pub going_refused : (f : Refusal) → o ≡ Err f → (m : ℕ) → m ≡ get_or t (i * 4) 0 → m < 65536 → Runs v r t n dev places sheet x₀ lay₀ x' (Err (record { refusal = f; line = m }))
       going_refused f e m q l = record {
         says = λ a is d s₀ z₀.
             let (s, z, w) = g.going a is d s₀ z₀ in
-            sym w ∙ ap (more k u) (says_so (rule.Refused f) e a is d s z) ∙ rw q;
+            sym w ∙ ap (more k u) (says_so (Err f) e a is d s z) ∙ rw q;
         small = l;
         length = y.length ∙ g.room;
       }
 
     -- behind the last rule
-    pub going_end : n ≤ i → n ≤ most_rules → Runs v r t n dev places sheet x₀ lay₀ x (all.Ended lay k u)
+    pub going_end : n ≤ i → n ≤ most_rules → Runs v r t n dev places sheet x₀ lay₀ x (Ok (record { layout = lay; visited = k; tried = u }))
     unfolding run_from
     going_end h few =
         let f = g.few in

@@ -11,21 +11,23 @@ ghost use Rattle.runner.specs.Runs.{behind_of, Runnable, RuleRuns, Runs};
 
 use device_lookup::Chain;
 use outcome_target::Layout;
-use refusals::Refusal;
+use refusals::{LineRefusal, Refusal};
 use step::Stepped;
 
-// A rule left the record in a layout, and the run goes on before a rule, so many devices were tried; or it is refused.
-#[derive(Drop)]
-pub enum RuleRan {
-    Next(Layout, usize, usize),
-    Refused(Refusal),
+// The layout of the record that a rule left, the rule before which the run goes on, and the devices tried.
+#[derive(Clone, Copy)]
+pub struct RuleRan {
+    pub layout: Layout,
+    pub next: usize,
+    pub tried: usize,
 }
 
-// The layout of the record that is left, the visited count and the devices tried, or a refusal and its line.
-#[derive(Drop)]
-pub enum TextRan {
-    Ended(Layout, usize, usize),
-    Refused(Refusal, usize),
+// The layout of the record that is left, the visited count and the devices tried.
+#[derive(Clone, Copy)]
+pub struct Ended {
+    pub layout: Layout,
+    pub visited: usize,
+    pub tried: usize,
 }
 
 // The rule that follows one that matched.
@@ -34,10 +36,7 @@ fn behind(jumps: &[u16], i: usize) -> usize
     ensures { result ≡ behind_of (get_or jumps.now i 0) i }
 {
     let k = table::number_at(jumps, i);
-    if k == 0 {
-        return i + 1;
-    }
-    k - 1
+    if k == 0 { i + 1 } else { k - 1 }
 }
 
 fn run_rule(
@@ -52,18 +51,30 @@ fn run_rule(
     sheet: &[u8],
     t: &mut [u8],
     layout: Layout,
-) -> RuleRan
+) -> Result<RuleRan, Refusal>
     requires { (i < count) × Runnable values.now rows.now rules.now jumps.now count × Ready dev.now chain t.old layout × (is_some (decode sheet.now) ≡ true) }
     ensures { RuleRuns values.now rows.now rules.now count i dev.now chain sheet.now t.old layout t.new result }
 {
     let from = table::number_at(rules, i * 4 + 1);
     let to = table::number_at(rules, i * 4 + 2);
     let first = table::number_at(rules, i * 4 + 3);
-    match step::step(values, rows, from, to, first, dev, chain, sheet, t, layout) {
-        Stepped::Missed(tried) => RuleRan::Next(layout, i + 1, tried),
-        Stepped::Failed(left, tried) => RuleRan::Next(left, i + 1, tried),
-        Stepped::Left(left, tried) => RuleRan::Next(left, behind(jumps, i), tried),
-        Stepped::Refused(refusal) => RuleRan::Refused(refusal),
+    let stepped = step::step(values, rows, from, to, first, dev, chain, sheet, t, layout)?;
+    match stepped {
+        Stepped::Missed(tried) => Ok(RuleRan {
+            layout,
+            next: i + 1,
+            tried,
+        }),
+        Stepped::Failed(layout, tried) => Ok(RuleRan {
+            layout,
+            next: i + 1,
+            tried,
+        }),
+        Stepped::Left(layout, tried) => Ok(RuleRan {
+            layout,
+            next: behind(jumps, i),
+            tried,
+        }),
     }
 }
 
@@ -79,7 +90,7 @@ pub fn run_rules(
     sheet: &[u8],
     t: &mut [u8],
     layout: Layout,
-) -> TextRan
+) -> Result<Ended, LineRefusal>
     requires { Runnable values.now rows.now rules.now jumps.now count × Ready dev.now chain t.old layout × (is_some (decode sheet.now) ≡ true) }
     ensures { Runs values.now rows.now rules.now count dev.now chain sheet.now t.old layout t.new result }
 {
@@ -87,21 +98,26 @@ pub fn run_rules(
     let mut visited: usize = 0;
     let mut tried: usize = 0;
     let mut i: usize = 0;
+    // By hand, since a jump moves the index on by more than one.
     while i < count {
         match run_rule(
             values, rows, rules, jumps, count, i, dev, chain, sheet, t, layout,
         ) {
-            RuleRan::Next(left, next, more) => {
-                layout = left;
+            Ok(ran) => {
+                layout = ran.layout;
                 visited += 1;
-                tried += more;
-                i = next;
+                tried += ran.tried;
+                i = ran.next;
             }
-            RuleRan::Refused(refusal) => return TextRan::Refused(
+            Err(refusal) => return Err(LineRefusal {
                 refusal,
-                table::number_at(rules, i * 4),
-            ),
+                line: table::number_at(rules, i * 4),
+            }),
         }
     }
-    TextRan::Ended(layout, visited, tried)
+    Ok(Ended {
+        layout,
+        visited,
+        tried,
+    })
 }

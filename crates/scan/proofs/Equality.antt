@@ -1,12 +1,13 @@
 -- Two lists compared byte by byte: one law for each way on.
 -- Assumes nothing.
 use Prim.Native.Nat.{ℕ, zero, suc, ◌+◌, ◌-◌, ◌≤◌, ◌<◌}
-use mathlib.Core.Path.{◌≡◌, refl, sym, ◌∙◌}
-use mathlib.Core.Bool.{Bool, true, false}
+use mathlib.Core.Path.{◌≡◌, refl, sym, ap, ◌∙◌}
+use mathlib.Core.Bool.{Bool, true, false, ◌&&◌}
 use mathlib.Core.List.{List, [], ◌∷◌}
 use native.Mathlib.Omega.{arith}
 use borrow.Author.Tests.{eq-eqb, ne_eqb}
-use lib.ListN.{length, get_or, drop, drop_of_length-le}
+use lib.ListN.{length, get_or, take, drop, drop_of_length-le}
+use lib.Pointwise.{pointwise}
 use lib.Seq.{drop-drop}
 use lib.Dec.{eqb}
 use Rattle.lists.specs.Bytes.{same_bytes, starts}
@@ -20,6 +21,20 @@ same-unequal [] [] n = absurd (n refl)
 same-unequal [] (y ∷ b) n = refl
 same-unequal (x ∷ a) [] n = refl
 same-unequal (x ∷ a) (y ∷ b) n = rw (same-unequal a b (λ e. n (omega arith))) (and-false (eqb x y))
+
+-- what `==` and `starts_with` of two texts compare
+pub same_pairs : (a b : List ℕ) → pointwise eqb a b ≡ same_bytes a b
+unfolding same_bytes
+same_pairs [] [] = refl
+same_pairs [] (y ∷ b) = refl
+same_pairs (x ∷ a) [] = refl
+same_pairs (x ∷ a) (y ∷ b) = ap (λ t. eqb x y && t) (same_pairs a b)
+
+pub starts_pairs : (name bs : List ℕ) → pointwise eqb name (take (length name) bs) ≡ starts name bs
+unfolding starts
+starts_pairs [] bs = refl
+starts_pairs (x ∷ name) [] = refl
+starts_pairs (x ∷ name) (y ∷ bs) = ap (λ t. eqb x y && t) (starts_pairs name bs)
 
 module _ (a b : List ℕ) (i : ℕ) where
   pub same-on : i < length a → i < length b → get_or a i 0 ≡ get_or b i 0 → same_bytes (drop i a) (drop i b) ≡ same_bytes (drop (i + 1) a) (drop (i + 1) b)
@@ -61,24 +76,3 @@ module _ (a b : List ℕ) (m n : ℕ) (h : m ≤ n) (k : length a ≤ m + n) (l 
   pub same_two : SameFrom a b 0 (0 + n) → (r : Bool) → (r ≡ true → SameFrom a b m (m + n)) → (r ≡ false → same_bytes (drop m a) (drop m b) ≡ false) → r ≡ same_bytes a b
   same_two f true g d = sym (f ∙ same-behind a b m (0 + n) (omega arith) (g refl ∙ same_out a b (m + n) k (omega arith)))
   same_two f false g d = sym (differs-behind a b 0 m (omega arith) (d refl))
-
--- ---- a name that begins a list
-
-pub starts_short : (name bs : List ℕ) → length bs < length name → starts name bs ≡ false
-unfolding starts
-starts_short [] bs h = absurd (omega arith)
-starts_short (x ∷ name) [] h = refl
-starts_short (x ∷ name) (y ∷ bs) h = rw (starts_short name bs (omega arith)) (and-false (eqb x y))
-
-module _ (name s : List ℕ) (k i : ℕ) where
-  pub starts-on : k < length name → i < length s → get_or name k 0 ≡ get_or s i 0 → starts (drop k name) (drop i s) ≡ starts (drop (k + 1) name) (drop (i + 1) s)
-  unfolding starts
-  starts-on h l e = rw (rest_at name k h, rest_at s i l, eq-eqb (get_or name k 0) (get_or s i 0) e)
-
-  pub starts-differs : k < length name → i < length s → (get_or name k 0 ≡ get_or s i 0 → ⊥) → starts (drop k name) (drop i s) ≡ false
-  unfolding starts
-  starts-differs h l n = rw (rest_at name k h, rest_at s i l, ne_eqb (get_or name k 0) (get_or s i 0) n)
-
-  pub starts-whole : length name ≤ k → starts (drop k name) (drop i s) ≡ true
-  unfolding starts
-  starts-whole h = rw (drop_of_length-le name {i = k} h)

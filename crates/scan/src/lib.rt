@@ -2,10 +2,10 @@
 
 #![tactic(auto)]
 
-ghost use Rattle.std.specs.Prelude.{◌≡◌, true, false, ◌+◌, ◌≤◌, length, get_or, take, drop};
+ghost use Rattle.std.specs.Prelude.{◌≡◌, ℕ, Bool, true, false, ◌+◌, ◌≤◌, length, get_or, take, drop};
 ghost use Rattle.lists.specs.Bytes.{is_upper, is_digit, is_blank, is_space, same_bytes, starts};
 ghost use Rattle.lists.specs.Runs.{split_at, last_of, trim, chomp, ends_in_space, end_digits};
-ghost use Rattle.scan.specs.Ends.{RunEnd, is_not};
+ghost use Rattle.scan.specs.Ends.{RunEnd, RunStart, is_not, is_newline};
 ghost use Rattle.scan.specs.Groups.{SameFrom, LacksFrom, Met, AboveFrom};
 
 // ---- bytes
@@ -13,7 +13,7 @@ ghost use Rattle.scan.specs.Groups.{SameFrom, LacksFrom, Met, AboveFrom};
 pub fn wide(b: u8) -> usize
     ensures { result ≡ b }
 {
-    b as usize
+    usize::from(b)
 }
 
 // The byte at a place, 0 past the end.
@@ -26,39 +26,26 @@ pub fn byte_at(s: &[u8], i: usize) -> u8
 pub fn is_upper(b: u8) -> bool
     ensures { result ≡ is_upper b }
 {
-    match b {
-        b'A'..=b'Z' => true,
-        _ => false,
-    }
+    matches!(b, b'A'..=b'Z')
 }
 
 pub fn is_digit(b: u8) -> bool
     ensures { result ≡ is_digit b }
 {
-    match b {
-        b'0'..=b'9' => true,
-        _ => false,
-    }
+    matches!(b, b'0'..=b'9')
 }
 
 pub fn is_blank(b: u8) -> bool
     ensures { result ≡ is_blank b }
 {
-    match b {
-        b' ' | b'\t' => true,
-        _ => false,
-    }
+    matches!(b, b' ' | b'\t')
 }
 
 // Whitespace: bytes 9 to 13 and 32.
 pub fn is_space(b: u8) -> bool
     ensures { result ≡ is_space b }
 {
-    match b {
-        b' ' => true,
-        9..=13 => true,
-        _ => false,
-    }
+    matches!(b, b' ' | 9..=13)
 }
 
 // ---- equality
@@ -66,17 +53,7 @@ pub fn is_space(b: u8) -> bool
 pub fn same(a: &[u8], b: &[u8]) -> bool
     ensures { result ≡ same_bytes a.now b.now }
 {
-    if a.len() != b.len() {
-        return false;
-    }
-    let mut i: usize = 0;
-    while i < a.len() {
-        if a[i] != b[i] {
-            return false;
-        }
-        i += 1;
-    }
-    true
+    a == b
 }
 
 // Whether two texts agree in the n bytes from a place on, which are looked at together.
@@ -85,12 +62,10 @@ fn same_group(a: &[u8], b: &[u8], at: usize, n: usize) -> bool
     ensures { (result ≡ true → SameFrom a.now b.now at (at + n)) × (result ≡ false → same_bytes (drop at a.now) (drop at b.now) ≡ false) }
 {
     let mut same = true;
-    let mut i = at;
-    while i < at + n {
+    for i in at..at + n {
         if a[i] != b[i] {
             same = false;
         }
-        i += 1;
     }
     same
 }
@@ -105,6 +80,7 @@ fn same_groups(a: &[u8], b: &[u8]) -> bool
     if !same_group(a, b, last, 8) {
         return false;
     }
+    // By hand, since the index moves on by whole groups.
     let mut i: usize = 0;
     while i < last {
         if !same_group(a, b, i, 8) {
@@ -133,10 +109,7 @@ fn same_ends(a: &[u8], b: &[u8], n: usize) -> bool
     requires { (n ≤ length a.now) × (length a.now ≤ n + n) × (length a.now ≡ length b.now) }
     ensures { result ≡ same_bytes a.now b.now }
 {
-    if !same_group(a, b, 0, n) {
-        return false;
-    }
-    same_group(a, b, a.len() - n, n)
+    same_group(a, b, 0, n) && same_group(a, b, a.len() - n, n)
 }
 
 // The same as `same`, for texts of which few are longer than 16 bytes.
@@ -147,16 +120,11 @@ pub fn same_short(a: &[u8], b: &[u8]) -> bool
     if len != b.len() {
         return false;
     }
-    if len < 4 {
-        return same(a, b);
+    match len {
+        4..=8 => same_ends(a, b, 4),
+        9..=16 => same_ends(a, b, 8),
+        _ => same(a, b),
     }
-    if len <= 8 {
-        return same_ends(a, b, 4);
-    }
-    if len <= 16 {
-        return same_ends(a, b, 8);
-    }
-    same(a, b)
 }
 
 // Whether a name begins at a place.
@@ -164,72 +132,122 @@ pub fn starts_at(s: &[u8], at: usize, name: &[u8]) -> bool
     requires { at ≤ length s.now }
     ensures { result ≡ starts name.now (drop at s.now) }
 {
-    if s.len() - at < name.len() {
-        return false;
+    s[at..].starts_with(name)
+}
+
+// ---- classes of bytes
+
+pub trait Class: Copy {
+    ghost holds: { Self → ℕ → Bool };
+
+    fn has(self, b: u8) -> bool
+        ensures { result ≡ holds self b };
+}
+
+#[derive(Clone, Copy)]
+pub struct Upper;
+
+#[derive(Clone, Copy)]
+pub struct Digit;
+
+#[derive(Clone, Copy)]
+pub struct Blank;
+
+#[derive(Clone, Copy)]
+pub struct Space;
+
+#[derive(Clone, Copy)]
+pub struct Newline;
+
+// Every byte but this one.
+#[derive(Clone, Copy)]
+pub struct Not(pub u8);
+
+impl Class for Upper {
+    ghost holds = { λ class. is_upper };
+
+    fn has(self, b: u8) -> bool {
+        is_upper(b)
     }
-    let mut k: usize = 0;
-    while k < name.len() {
-        if name[k] != s[at + k] {
-            return false;
-        }
-        k += 1;
+}
+
+impl Class for Digit {
+    ghost holds = { λ class. is_digit };
+
+    fn has(self, b: u8) -> bool {
+        is_digit(b)
     }
-    true
+}
+
+impl Class for Blank {
+    ghost holds = { λ class. is_blank };
+
+    fn has(self, b: u8) -> bool {
+        is_blank(b)
+    }
+}
+
+impl Class for Space {
+    ghost holds = { λ class. is_space };
+
+    fn has(self, b: u8) -> bool {
+        is_space(b)
+    }
+}
+
+impl Class for Newline {
+    ghost holds = { λ class. is_newline };
+
+    fn has(self, b: u8) -> bool {
+        b == b'\n'
+    }
+}
+
+impl Class for Not {
+    ghost holds = { λ class. is_not class.0 };
+
+    fn has(self, b: u8) -> bool {
+        b != self.0
+    }
 }
 
 // ---- the end of a run that starts at a place
 
+// The end of the bytes of a class.
+pub fn run_end<C: Class>(s: &[u8], at: usize, class: C) -> usize
+    ensures { RunEnd (C.holds class) s.now at result }
+{
+    for i in at..s.len() {
+        if !class.has(s[i]) {
+            return i;
+        }
+    }
+    at.max(s.len())
+}
+
 pub fn upper_end(s: &[u8], at: usize) -> usize
     ensures { RunEnd is_upper s.now at result }
 {
-    let mut i = at;
-    while i < s.len() {
-        if !is_upper(s[i]) {
-            return i;
-        }
-        i += 1;
-    }
-    i
+    run_end(s, at, Upper)
 }
 
 pub fn digit_end(s: &[u8], at: usize) -> usize
     ensures { RunEnd is_digit s.now at result }
 {
-    let mut i = at;
-    while i < s.len() {
-        if !is_digit(s[i]) {
-            return i;
-        }
-        i += 1;
-    }
-    i
+    run_end(s, at, Digit)
 }
 
 pub fn blank_end(s: &[u8], at: usize) -> usize
     ensures { RunEnd is_blank s.now at result }
 {
-    let mut i = at;
-    while i < s.len() {
-        if !is_blank(s[i]) {
-            return i;
-        }
-        i += 1;
-    }
-    i
+    run_end(s, at, Blank)
 }
 
 // The place of the first byte b, or the end.
 pub fn byte_end(s: &[u8], at: usize, b: u8) -> usize
     ensures { RunEnd (is_not b) s.now at result }
 {
-    let mut i = at;
-    while i < s.len() {
-        if s[i] == b {
-            return i;
-        }
-        i += 1;
-    }
-    i
+    run_end(s, at, Not(b))
 }
 
 // Whether one of the n bytes from a place on, which are looked at together, is b.
@@ -238,12 +256,10 @@ pub fn in_group(s: &[u8], at: usize, n: usize, b: u8) -> bool
     ensures { (result ≡ false → LacksFrom b s.now at (at + n)) × (result ≡ true → Met b s.now at (at + n)) }
 {
     let mut found = false;
-    let mut i = at;
-    while i < at + n {
+    for i in at..at + n {
         if s[i] == b {
             found = true;
         }
-        i += 1;
     }
     found
 }
@@ -257,6 +273,7 @@ fn lacks(s: &[u8], at: usize, b: u8) -> bool
         return false;
     }
     let last = s.len() - 8;
+    // By hand, since the index moves on by whole groups.
     let mut i = at;
     while i < last {
         if in_group(s, i, 8, b) {
@@ -286,12 +303,10 @@ fn low_in_group(s: &[u8], at: usize) -> bool
     ensures { result ≡ false → AboveFrom s.now at (at + 16) }
 {
     let mut low = false;
-    let mut i = at;
-    while i < at + 16 {
+    for i in at..at + 16 {
         if s[i] <= b'\n' {
             low = true;
         }
-        i += 1;
     }
     low
 }
@@ -301,6 +316,7 @@ pub fn line_groups(s: &[u8], at: usize) -> usize
     requires { at ≤ length s.now }
     ensures { (at ≤ result) × (result ≤ length s.now) × AboveFrom s.now at result }
 {
+    // By hand, since the index moves on by whole groups.
     let mut i = at;
     while 16 <= s.len() - i {
         if low_in_group(s, i) {
@@ -321,68 +337,49 @@ pub fn line_end(s: &[u8], at: usize) -> usize
 
 // ---- at the end
 
+// The place where the bytes of a class at the end begin.
+fn run_start<C: Class>(s: &[u8], class: C) -> usize
+    ensures { RunStart (C.holds class) s.now result }
+{
+    for i in (0..s.len()).rev() {
+        if !class.has(s[i]) {
+            return i + 1;
+        }
+    }
+    0
+}
+
 // The length without the whitespace at the end.
 pub fn trimmed_len(s: &[u8]) -> usize
     ensures { (result ≤ length s.now) × (take result s.now ≡ trim s.now) }
 {
-    let mut n = s.len();
-    while 0 < n {
-        if !is_space(s[n - 1]) {
-            return n;
-        }
-        n -= 1;
-    }
-    n
+    run_start(s, Space)
 }
 
 // The length without the newlines at the end (document 02, Item 6).
 pub fn chomped_len(s: &[u8]) -> usize
     ensures { (result ≤ length s.now) × (take result s.now ≡ chomp s.now) }
 {
-    let mut n = s.len();
-    while 0 < n {
-        if s[n - 1] != b'\n' {
-            return n;
-        }
-        n -= 1;
-    }
-    n
+    run_start(s, Newline)
 }
 
 pub fn ends_in_space(s: &[u8]) -> bool
     ensures { result ≡ ends_in_space s.now }
 {
     let n = s.len();
-    if n == 0 {
-        return false;
-    }
-    is_space(s[n - 1])
+    0 < n && is_space(s[n - 1])
 }
 
 // The place where the digits at the end begin.
 pub fn digits_start(s: &[u8]) -> usize
     ensures { (result ≤ length s.now) × (drop result s.now ≡ end_digits s.now) }
 {
-    let mut n = s.len();
-    while 0 < n {
-        if !is_digit(s[n - 1]) {
-            return n;
-        }
-        n -= 1;
-    }
-    n
+    run_start(s, Digit)
 }
 
 // The place behind the last byte b, or the start.
 pub fn last_part(s: &[u8], b: u8) -> usize
     ensures { (result ≤ length s.now) × (drop result s.now ≡ last_of (split_at b s.now)) }
 {
-    let mut n = s.len();
-    while 0 < n {
-        if s[n - 1] == b {
-            return n;
-        }
-        n -= 1;
-    }
-    n
+    run_start(s, Not(b))
 }

@@ -2,6 +2,8 @@
 -- Assumes nothing.
 use Rattle.std.specs.Prelude.{ℕ, ◌-◌, ◌≡◌, List, ◌++◌, length, replicate}
 use Rattle.sets.specs.Answer.{Fault, Answer, refusal, acceptance}
+use Rattle.refusals.specs.Refusals.{refusal_of}
+use Rattle.refusals.specs.declared.SetRefusal.{SetRefusal}
 use Rattle.set_answers.specs.declared.Given.{Given}
 
 abbrev pub answered : Given → List ℕ → Answer
@@ -15,6 +17,10 @@ answered g bs = record {
   count = g.count;
   bytes = bs;
 }
+
+-- what code refuses with
+abbrev pub fault_of : SetRefusal → Fault
+fault_of f = record { why = refusal_of f.refusal; position = f.position; line = f.line }
 
 -- a refusal, where the whole target is zero
 abbrev pub Refuses : Given → Fault → Type 0

@@ -1,15 +1,12 @@
 -- Where the parts of a lent set stand, as code reads them.
 -- Assumes nothing.
 use Rattle.std.specs.Prelude.{ℕ, ◌+◌, ◌-◌, ◌≤◌, ◌≡◌, List, length, take, drop}
-use Rattle.entries.specs.Parse.{got, bad}
+use Rattle.std.specs.Prelude.{Option, None, Some}
+use Rattle.entries.specs.Parse.{Parse, got, bad}
 use Rattle.sets.specs.Sets.{one_long}
 use Rattle.sets.specs.Lent.{Lent, one_lent}
 use Rattle.set_rows.specs.declared.Part.{Part}
-use Rattle.set_rows.specs.declared.PartRead.{PartRead}
-use Rattle.set_rows.specs.declared.PartRead.TheVariants as part
 use Rattle.set_rows.specs.declared.LentPlace.{LentPlace}
-use Rattle.set_rows.specs.declared.LentRead.{LentRead}
-use Rattle.set_rows.specs.declared.LentRead.TheVariants as lent
 
 -- ---- a part
 
@@ -35,9 +32,9 @@ pub record LongIs (set : List ℕ) (p : ℕ) (r : Part) : Type 0 where
   pub inside : Inside set r
   pub read : one_long (drop p set) ≡ got (bytes_in set r) (drop r.end set)
 
-abbrev pub LongReads : List ℕ → ℕ → PartRead → Type 0
-LongReads set p (part.Inside r) = LongIs set p r
-LongReads set p part.Outside = one_long (drop p set) ≡ bad
+abbrev pub LongReads : List ℕ → ℕ → Option Part → Type 0
+LongReads set p (Some r) = LongIs set p r
+LongReads set p None = one_long (drop p set) ≡ bad
 
 -- ---- a record beside its device
 
@@ -56,6 +53,18 @@ pub record LentIs (set : List ℕ) (p : ℕ) (r : LentPlace) : Type 0 where
   pub onward : p ≤ r.outcome.end
   pub read : one_lent (drop p set) ≡ got (lent_in set r) (drop r.outcome.end set)
 
-abbrev pub LentReads : List ℕ → ℕ → LentRead → Type 0
-LentReads set p (lent.Inside r) = LentIs set p r
-LentReads set p lent.Outside = one_lent (drop p set) ≡ bad
+abbrev pub LentReads : List ℕ → ℕ → Option LentPlace → Type 0
+LentReads set p (Some r) = LentIs set p r
+LentReads set p None = one_lent (drop p set) ≡ bad
+
+-- ---- an entry, whatever it is
+
+-- only that something was read, and what is left behind it
+abbrev pub skip : {A : Type 0} → Parse A → Parse (Unit {0})
+skip (got a r) = got tt r
+skip bad = bad
+
+-- where the one at place p ends
+abbrev pub EndReads : (List ℕ → Parse (Unit {0})) → List ℕ → ℕ → Option ℕ → Type 0
+EndReads one set p (Some q) = (q ≤ length set) × (one (drop p set) ≡ got tt (drop q set))
+EndReads one set p None = one (drop p set) ≡ bad

@@ -2,11 +2,13 @@
 
 #![tactic(auto)]
 
-ghost use Rattle.std.specs.Prelude.{◌≡◌, ◌≤◌, ◌<◌, length, get_or};
+ghost use Rattle.std.specs.Prelude.{◌≡◌, ◌≤◌, ◌<◌, List, ℕ, length, get_or};
 ghost use Rattle.lists.specs.Lists.{is_some};
 ghost use Rattle.bits.specs.Bits.{number_at};
-ghost use Rattle.sets.specs.Lent.{decode_lent};
-ghost use Rattle.set_rows.specs.Places.{bytes_in, Inside, LongFrom, LongIs, LongReads, LentFrom, LentIs, LentReads};
+ghost use Rattle.entries.specs.Parse.{Parse};
+ghost use Rattle.sets.specs.Sets.{decode_set};
+ghost use Rattle.sets.specs.Lent.{one_lent, decode_lent};
+ghost use Rattle.set_rows.specs.Places.{bytes_in, Inside, LongFrom, LongIs, LongReads, LentFrom, LentIs, LentReads, skip, EndReads};
 
 use bits::BitCursor;
 
@@ -31,28 +33,19 @@ pub struct Part {
     pub end: usize,
 }
 
-#[derive(Drop)]
-pub enum PartRead {
-    Inside(Part),
-    Outside,
-}
-
 // The bytes themselves.
 pub fn bytes_of<'a>(set: &'a [u8], part: Part) -> &'a [u8]
     requires { Inside set.now part }
     ensures { result.now ≡ bytes_in set.now part }
 {
-    let start = part.start;
-    let end = part.end;
-    &set[start..end]
+    &set[part.start..part.end]
 }
 
 fn length_in(head: &[u8]) -> usize
     requires { 2 ≤ length head.now }
     ensures { (result ≡ number_at head.now 0 16) × (result < 65536) }
 {
-    let read = BitCursor { at: 0 }.take(head, 16);
-    read.value
+    BitCursor { at: 0 }.take(head, 16).value
 }
 
 // The one that is known to stand at a place.
@@ -68,20 +61,20 @@ pub fn long_in(set: &[u8], p: usize) -> Part
 }
 
 // The one at any place, if the set reaches so far.
-pub fn long_at(set: &[u8], p: usize) -> PartRead
+pub fn long_at(set: &[u8], p: usize) -> Option<Part>
     requires { p ≤ length set.now }
     ensures { LongReads set.now p result }
 {
     let room = set.len() - p;
     if room < 2 {
-        return PartRead::Outside;
+        return None;
     }
     let start = p + 2;
     let len = length_in(&set[p..start]);
     if room - 2 < len {
-        return PartRead::Outside;
+        return None;
     }
-    PartRead::Inside(Part {
+    Some(Part {
         start,
         end: start + len,
     })
@@ -89,16 +82,10 @@ pub fn long_at(set: &[u8], p: usize) -> PartRead
 
 // ---- a record beside its device
 
-#[derive(Drop)]
+#[derive(Clone, Copy)]
 pub struct LentPlace {
     pub device: Part,
     pub outcome: Part,
-}
-
-#[derive(Drop)]
-pub enum LentRead {
-    Inside(LentPlace),
-    Outside,
 }
 
 // The two that are known to stand at a place.
@@ -112,41 +99,60 @@ pub fn lent_in(set: &[u8], p: usize) -> LentPlace
 }
 
 // The two at any place, if the set reaches so far.
-pub fn lent_at(set: &[u8], p: usize) -> LentRead
+pub fn lent_at(set: &[u8], p: usize) -> Option<LentPlace>
     requires { p ≤ length set.now }
     ensures { LentReads set.now p result }
 {
-    let PartRead::Inside(device) = long_at(set, p) else {
-        return LentRead::Outside;
-    };
-    let PartRead::Inside(outcome) = long_at(set, device.end) else {
-        return LentRead::Outside;
-    };
-    LentRead::Inside(LentPlace { device, outcome })
+    let device = long_at(set, p)?;
+    let outcome = long_at(set, device.end)?;
+    Some(LentPlace { device, outcome })
 }
 
 // ---- the set
+
+// What stands at each place of a set.
+pub trait Entry {
+    // What is read at the front of bytes, whatever it is.
+    ghost one: { List ℕ → Parse (Unit {0}) };
+
+    // Where the one at a place ends, if the set reaches so far.
+    fn end_at(set: &[u8], p: usize) -> Option<usize>
+        requires { p ≤ length set.now }
+        ensures { EndReads one set.now p result };
+}
+
+// The bytes are a set of so many entries, with nothing behind them.
+pub fn is_set<E: Entry>(set: &[u8], least: usize, most: usize) -> bool
+    ensures { result ≡ is_some (decode_set least most E.one set.now) }
+{
+    if set.is_empty() {
+        return false;
+    }
+    let count = count_of(set);
+    if count < least || most < count {
+        return false;
+    }
+    let mut p = 1;
+    for _ in 0..count {
+        let Some(end) = E::end_at(set, p) else {
+            return false;
+        };
+        p = end;
+    }
+    p == set.len()
+}
+
+impl Entry for LentPlace {
+    ghost one = { λ bs. skip (one_lent bs) };
+
+    fn end_at(set: &[u8], p: usize) -> Option<usize> {
+        Some(lent_at(set, p)?.outcome.end)
+    }
+}
 
 // The bytes are a set of at most 64 such pairs (else refusal 7).
 pub fn check_lent(set: &[u8]) -> bool
     ensures { result ≡ is_some (decode_lent set.now) }
 {
-    if set.len() < 1 {
-        return false;
-    }
-    let count = count_of(set);
-    if MOST_RECORDS < count {
-        return false;
-    }
-    let mut p: usize = 1;
-    let mut left = count;
-    while 0 < left {
-        let LentRead::Inside(place) = lent_at(set, p) else {
-            return false;
-        };
-        let outcome = place.outcome;
-        p = outcome.end;
-        left -= 1;
-    }
-    p == set.len()
+    is_set::<LentPlace>(set, 0, MOST_RECORDS)
 }

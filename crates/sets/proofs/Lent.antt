@@ -4,7 +4,7 @@ use Prim.Native.Nat.{ℕ, ◌≤◌}
 use mathlib.Core.Path.{◌≡◌, sym, ap, ◌∙◌, subst}
 use mathlib.Core.Bool.{true}
 use mathlib.Core.List.{List, ◌++◌, append_assoc}
-use mathlib.Core.Option.{some}
+use Rattle.std.specs.Prelude.{Some}
 use native.Mathlib.Omega.{arith}
 use lib.ListN.{length}
 use Rattle.lists.specs.Lists.{all}
@@ -39,11 +39,11 @@ pub lent-laws : Laws Lent enc_lent ok_lent one_lent
 lent-laws = record { there = lent_there; back = lent_back }
 
 -- records of up to 65,535 bytes, sound or not
-pub laid_out : (ls : List Lent) → length ls ≤ most_records → all ok_lent ls ≡ true → decode_lent (encode_lent ls) ≡ some ls
+pub laid_out : (ls : List Lent) → length ls ≤ most_records → all ok_lent ls ≡ true → decode_lent (encode_lent ls) ≡ Some ls
 laid_out ls m h = set_there lent-laws 0 most_records ls (omega arith) m h
 
 -- so 7 is for other bytes alone
-pub laid_back : (bs : List ℕ) (ls : List Lent) → Bytes bs → decode_lent bs ≡ some ls
+pub laid_back : (bs : List ℕ) (ls : List Lent) → Bytes bs → decode_lent bs ≡ Some ls
     → (bs ≡ encode_lent ls) × (all ok_lent ls ≡ true) × (0 ≤ length ls) × (length ls ≤ most_records)
 laid_back bs ls h e = set_back lent-laws 0 most_records bs ls h e
 

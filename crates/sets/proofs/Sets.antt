@@ -4,7 +4,8 @@ use Prim.Native.Nat.{ℕ, suc, ◌≤◌, ◌<◌}
 use mathlib.Core.Path.{◌≡◌, refl, sym, ap, ap₂, ◌∙◌, subst}
 use mathlib.Core.Bool.{Bool, true, false}
 use mathlib.Core.List.{List, [], ◌∷◌, ◌++◌, append_assoc, append-nil}
-use mathlib.Core.Option.{Option, none, some, none-ne-some, some-injective}
+use Rattle.std.specs.Prelude.{Option, None, Some}
+use Rattle.std.proofs.lemmas.Option.{none-some, same_Some}
 use native.Mathlib.Omega.{arith}
 use lib.Dec.{leb}
 use lib.ListN.{length}
@@ -56,29 +57,29 @@ long-laws = record { there = long_there; back = long-back }
 
 -- ---- a set
 
-pub whole-some : {A : Type 0} (p : Parse A) (a : A) → whole p ≡ some a → p ≡ got a []
-whole-some {A = A} bad a e = absurd (none-ne-some a e)
-whole-some {A = A} (got x (b ∷ bs)) a e = absurd (none-ne-some a e)
-whole-some {A = A} (got x []) a e = ap (λ (y : A). got y []) (some-injective x a e)
+pub whole-some : {A : Type 0} (p : Parse A) (a : A) → whole p ≡ Some a → p ≡ got a []
+whole-some {A = A} bad a e = absurd (none-some a e)
+whole-some {A = A} (got x (b ∷ bs)) a e = absurd (none-some a e)
+whole-some {A = A} (got x []) a e = ap (λ (y : A). got y []) (same_Some x a e)
 
 module _ {A : Type 0} {enc : A → List ℕ} {ok : A → Bool} {one : List ℕ → Parse A} (L : Laws A enc ok one) (least most : ℕ) where
   -- every set within its size is read back from its layout, so it is not refused
-  pub set_there : (xs : List A) → least ≤ length xs → length xs ≤ most → all ok xs ≡ true → decode_set least most one (encode_set enc xs) ≡ some xs
+  pub set_there : (xs : List A) → least ≤ length xs → length xs ≤ most → all ok xs ≡ true → decode_set least most one (encode_set enc xs) ≡ Some xs
   unfolding decode_set encode_set
   set_there xs l m h =
       rw (both_and (leb least (length xs)) (leb (length xs) most) (le-leb least (length xs) l) (le-leb (length xs) most m), decode_set)
       (ap whole (ap (many one (length xs)) (sym (append-nil (cat enc xs))) ∙ many_there L xs [] h))
 
   -- and nothing else is
-  pub set_back : (bs : List ℕ) (xs : List A) → Bytes bs → decode_set least most one bs ≡ some xs
+  pub set_back : (bs : List ℕ) (xs : List A) → Bytes bs → decode_set least most one bs ≡ Some xs
       → (bs ≡ encode_set enc xs) × (all ok xs ≡ true) × (least ≤ length xs) × (length xs ≤ most)
   unfolding decode_set encode_set
-  set_back [] xs h e = absurd (none-ne-some xs e)
+  set_back [] xs h e = absurd (none-some xs e)
   set_back (n ∷ bs) xs h e = at (between least most n) refl e
     where
-      at : (t : Bool) → between least most n ≡ t → elim t as (λ _. Option (List A)) [ true ↦ whole (many one n bs) | false ↦ none ] ≡ some xs
+      at : (t : Bool) → between least most n ≡ t → elim t as (λ _. Option (List A)) [ true ↦ whole (many one n bs) | false ↦ None ] ≡ Some xs
           → (n ∷ bs ≡ length xs ∷ cat enc xs) × (all ok xs ≡ true) × (least ≤ length xs) × (length xs ≤ most)
-      at false f e = absurd (none-ne-some xs e)
+      at false f e = absurd (none-some xs e)
       at true f e =
           let (w, o, l) = many-back L n bs xs [] (λ i. h (suc i)) (whole-some (many one n bs) xs e) in
           let (p, q) = and_both (leb least n) (leb n most) f in

@@ -1,7 +1,7 @@
 -- Document 02, Item 7: a lent set of outcome records, each behind its device record.
 -- Assumes nothing.
 use Rattle.std.specs.Prelude.{ℕ, Bool, ◌&&◌, List, ◌++◌}
-use Rattle.std.proofs.Math.Option.{Option}
+use Rattle.std.specs.Prelude.{Option}
 use Rattle.entries.specs.Parse.{Parse, got, bind}
 use Rattle.sets.specs.Sets.{ok_long, enc_long, one_long, encode_set, decode_set}
 

@@ -1,7 +1,7 @@
 -- Document 02, Items 7, 11 and 14: the bytes of a lent set, which are the number of its entries and then the entries.
 -- Assumes nothing.
 use Rattle.std.specs.Prelude.{ℕ, Bool, true, false, List, [], ◌∷◌, ◌++◌, leb, length}
-use Rattle.std.proofs.Math.Option.{Option, none, some}
+use Rattle.std.specs.Prelude.{Option, None, Some}
 use Rattle.lists.specs.Lists.{cat}
 use Rattle.lists.specs.Bytes.{between}
 use Rattle.bits.specs.Bits.{number_at}
@@ -36,11 +36,11 @@ encode_set enc xs = length xs ∷ cat enc xs
 
 -- what was read, if no byte is left
 abbrev pub whole : {A : Type 0} → Parse A → Option A
-whole bad = none
-whole (got a (b ∷ bs)) = none
-whole (got a []) = some a
+whole bad = None
+whole (got a (b ∷ bs)) = None
+whole (got a []) = Some a
 
 -- the sets of `least` to `most` entries, and no others (refusal 7)
 unfoldable pub decode_set : {A : Type 0} → ℕ → ℕ → (List ℕ → Parse A) → List ℕ → Option (List A)
-decode_set least most one [] = none
-decode_set least most one (n ∷ bs) = elim (between least most n) [ true ↦ whole (many one n bs) | false ↦ none ]
+decode_set least most one [] = None
+decode_set least most one (n ∷ bs) = elim (between least most n) [ true ↦ whole (many one n bs) | false ↦ None ]

@@ -5,7 +5,7 @@ use Prim.Native.String.{String}
 use mathlib.Core.Path.{◌≡◌, refl}
 use mathlib.Core.Bool.{Bool, true, false, not}
 use mathlib.Core.List.{List, [], ◌∷◌, ◌++◌}
-use mathlib.Core.Option.{Option, none, some}
+use Rattle.std.specs.Prelude.{Option, None, Some}
 use lib.Dec.{eqb}
 use lib.ListN.{length, take, set, replicate}
 use Rattle.lists.specs.Lists.{is_some}
@@ -21,8 +21,8 @@ pub data Case : Type 0 where
   sized : String → ℕ → List ℕ → Case
 
 abbrev packs : Option Sheet → List ℕ → Bool
-packs none bs = false
-packs (some rs) bs = same_bytes (encode rs) bs
+packs None bs = false
+packs (Some rs) bs = same_bytes (encode rs) bs
 
 unfoldable pub right : Case → Bool
 unfolding same_bytes to_bits from_bits bits_of bytes_of number_at packed encode decode

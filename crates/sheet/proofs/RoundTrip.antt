@@ -6,7 +6,7 @@ use mathlib.Core.Path.{◌≡◌, refl, sym, ap, ap₂, ◌∙◌, subst}
 use mathlib.Core.Logic.{◌↔◌}
 use mathlib.Core.Bool.{Bool, true, false, ◌&&◌}
 use mathlib.Core.List.{List, [], ◌∷◌, ◌++◌, append_assoc, append-nil}
-use mathlib.Core.Option.{Option, some, none}
+use Rattle.std.specs.Prelude.{Option, Some, None}
 use native.Mathlib.Omega.{arith}
 use lib.ListN.{length, take, drop, length-append, take-append-drop}
 use lib.Seq.{take-append_seam, drop-append_seam, length-take-le}
@@ -123,7 +123,7 @@ reply_laws = record { there = reply_there; back = reply_back }
 
 -- ---- the sheet
 
-pub there : (rs : Sheet) → Good rs → length (encode rs) ≤ most_sheet → decode (encode rs) ≡ some rs
+pub there : (rs : Sheet) → Good rs → length (encode rs) ≤ most_sheet → decode (encode rs) ≡ Some rs
 unfolding decode encode
 there rs g h =
     let m : many one_reply (length rs) (cat enc_reply rs) ≡ got rs [] =
@@ -131,24 +131,24 @@ there rs g h =
     in
     rw (le-leb (length (length rs ∷ cat enc_reply rs)) most_sheet h, m, le-leb (length rs) most_replies g.few, g.apart, decode, ended)
 
-ended-back : (p : Parse Sheet) (rs : Sheet) → ended p ≡ some rs → (p ≡ got rs []) × (whole rs ≡ true)
+ended-back : (p : Parse Sheet) (rs : Sheet) → ended p ≡ Some rs → (p ≡ got rs []) × (whole rs ≡ true)
 ended-back bad rs e = let z : ◌≡◌ {A = ℕ} 0 1 = cc in absurd (omega arith)
 ended-back (got v (b ∷ bs)) rs e = let z : ◌≡◌ {A = ℕ} 0 1 = cc in absurd (omega arith)
 ended-back (got v []) rs e = at (whole v) refl e
   where
-    at : (t : Bool) → whole v ≡ t → ended (got v []) ≡ some rs → (got v [] ≡ got rs []) × (whole rs ≡ true)
-    at true h e = let q : some v ≡ some rs = rw (h, ended) at e in let w : v ≡ rs = cc in (ap (λ (x : Sheet). got x []) w, ap whole (sym w) ∙ h)
-    at false h e = let q : none ≡ some rs = rw (h, ended) at e in let z : ◌≡◌ {A = ℕ} 0 1 = cc in absurd (omega arith)
+    at : (t : Bool) → whole v ≡ t → ended (got v []) ≡ Some rs → (got v [] ≡ got rs []) × (whole rs ≡ true)
+    at true h e = let q : Some v ≡ Some rs = rw (h, ended) at e in let w : v ≡ rs = cc in (ap (λ (x : Sheet). got x []) w, ap whole (sym w) ∙ h)
+    at false h e = let q : None ≡ Some rs = rw (h, ended) at e in let z : ◌≡◌ {A = ℕ} 0 1 = cc in absurd (omega arith)
 
-pub back : (bs : List ℕ) (rs : Sheet) → Bytes bs → decode bs ≡ some rs → Packing bs rs
+pub back : (bs : List ℕ) (rs : Sheet) → Bytes bs → decode bs ≡ Some rs → Packing bs rs
 unfolding decode encode
 back [] rs by e = let z : ◌≡◌ {A = ℕ} 0 1 = cc in absurd (omega arith)
 back (k ∷ bs) rs by e = at (leb (length (k ∷ bs)) most_sheet) refl
   where
     at : (t : Bool) → leb (length (k ∷ bs)) most_sheet ≡ t → Packing (k ∷ bs) rs
-    at false h = let q : none ≡ some rs = rw (h, decode) at e in let z : ◌≡◌ {A = ℕ} 0 1 = cc in absurd (omega arith)
+    at false h = let q : None ≡ Some rs = rw (h, decode) at e in let z : ◌≡◌ {A = ℕ} 0 1 = cc in absurd (omega arith)
     at true h =
-        let q : ended (many one_reply k bs) ≡ some rs = rw (h, decode) at e in
+        let q : ended (many one_reply k bs) ≡ Some rs = rw (h, decode) at e in
         let (p, w) = ended-back (many one_reply k bs) rs q in
         let (x, y, n) = many-back reply_laws k bs rs [] (λ i. by (suc i)) p in
         let (few, apart) = and_both (leb (length rs) most_replies) (distinct (commands_of rs)) w in
@@ -158,19 +158,19 @@ back (k ∷ bs) rs by e = at (leb (length (k ∷ bs)) most_sheet) refl
           short = leb-true (length (k ∷ bs)) most_sheet h;
         }
 
-pub refused_exactly : (bs : List ℕ) → Bytes bs → (decode bs ≡ none) ↔ ((rs : Sheet) → Packing bs rs → ⊥)
+pub refused_exactly : (bs : List ℕ) → Bytes bs → (decode bs ≡ None) ↔ ((rs : Sheet) → Packing bs rs → ⊥)
 refused_exactly bs by = (never, at (decode bs) refl)
   where
-    never : decode bs ≡ none → (rs : Sheet) → Packing bs rs → ⊥
+    never : decode bs ≡ None → (rs : Sheet) → Packing bs rs → ⊥
     never e rs p =
-        let q : decode bs ≡ some rs = subst (λ (x : List ℕ). decode x ≡ some rs) p.packs (there rs p.good (subst (λ (x : List ℕ). length x ≤ most_sheet) (sym p.packs) p.short)) in
-        let f : none ≡ some rs = sym e ∙ q in
+        let q : decode bs ≡ Some rs = subst (λ (x : List ℕ). decode x ≡ Some rs) p.packs (there rs p.good (subst (λ (x : List ℕ). length x ≤ most_sheet) (sym p.packs) p.short)) in
+        let f : None ≡ Some rs = sym e ∙ q in
         let z : ◌≡◌ {A = ℕ} 0 1 = cc in
         omega arith
 
-    at : (o : Option Sheet) → decode bs ≡ o → ((rs : Sheet) → Packing bs rs → ⊥) → decode bs ≡ none
-    at none e f = e
-    at (some rs) e f = absurd (f rs (back bs rs by e))
+    at : (o : Option Sheet) → decode bs ≡ o → ((rs : Sheet) → Packing bs rs → ⊥) → decode bs ≡ None
+    at None e f = e
+    at (Some rs) e f = absurd (f rs (back bs rs by e))
 
 -- ---- what the layout spends
 

@@ -1,7 +1,7 @@
 -- Document 02, Item 6: the answer sheet, its layout, and the sheets that are sound.
 -- Assumes nothing.
 use Rattle.std.specs.Prelude.{ℕ, ◌+◌, ◌≤◌, ◌≡◌, Bool, true, false, ◌&&◌, List, [], ◌∷◌, ◌++◌, map, length, take, drop, leb, eqb}
-use Rattle.std.proofs.Math.Option.{Option, some, none}
+use Rattle.std.specs.Prelude.{Option, Some, None}
 use Rattle.lists.specs.Lists.{pick, cat, all}
 use Rattle.lists.specs.Bytes.{same_bytes, clean, distinct, ok_text}
 use Rattle.lists.specs.Sizes.{most_sheet, most_replies, most_command, most_output}
@@ -68,14 +68,14 @@ whole rs = leb (length rs) most_replies && distinct (commands_of rs)
 
 -- nothing after the end
 abbrev pub ended : Parse Sheet → Option Sheet
-ended bad = none
-ended (got rs (b ∷ bs)) = none
-ended (got rs []) = elim (whole rs) [ true ↦ some rs | false ↦ none ]
+ended bad = None
+ended (got rs (b ∷ bs)) = None
+ended (got rs []) = elim (whole rs) [ true ↦ Some rs | false ↦ None ]
 
 -- the sound sheets, and no others: to 32,768 bytes (refusal 6)
 unfoldable pub decode : List ℕ → Option Sheet
-decode [] = none
-decode (k ∷ bs) = elim (leb (length (k ∷ bs)) most_sheet) [ true ↦ ended (many one_reply k bs) | false ↦ none ]
+decode [] = None
+decode (k ∷ bs) = elim (leb (length (k ∷ bs)) most_sheet) [ true ↦ ended (many one_reply k bs) | false ↦ None ]
 
 -- a sheet as Item 6 allows it
 pub record Good (rs : Sheet) : Type 0 where
@@ -92,5 +92,5 @@ texts (r ∷ rs) = length r.command + length r.output + texts rs
 
 -- the entry of a command
 unfoldable pub reply_to : List ℕ → Sheet → Option Reply
-reply_to c [] = none
-reply_to c (r ∷ rs) = pick (same_bytes r.command c) (some r) (reply_to c rs)
+reply_to c [] = None
+reply_to c (r ∷ rs) = pick (same_bytes r.command c) (Some r) (reply_to c rs)

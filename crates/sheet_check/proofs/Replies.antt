@@ -4,7 +4,7 @@ use Prim.Native.Nat.{ℕ, zero, suc, ◌+◌, ◌-◌, ◌≤◌, ◌<◌}
 use mathlib.Core.Path.{◌≡◌, refl, sym, ap, ap₂, ◌∙◌}
 use mathlib.Core.Bool.{Bool, true, false, ◌&&◌}
 use mathlib.Core.List.{List, [], ◌∷◌}
-use mathlib.Core.Option.{Option, none, some}
+use Rattle.std.specs.Prelude.{Option, None, Some, Result, Ok, Err}
 use native.Mathlib.Omega.{arith}
 use borrow.Author.Tests.{leb-true, leb-false}
 use lib.Dec.{leb, eqb}
@@ -20,13 +20,10 @@ use Rattle.bits.specs.Fields.{flag_at}
 use Rattle.entries.specs.Parse.{Parse, got, bind, keep, many}
 use Rattle.entries.proofs.Rows.{through}
 use Rattle.entries.proofs.Entries.{kept}
-use Rattle.rows.specs.Entry.{head_len, name_len, rest_len, size, name, rest, Placed}
+use Rattle.rows.specs.Entry.{head_len, name_len, rest_len, size, name, rest}
 use Rattle.rows.specs.Row.{find_in}
 use Rattle.rows.specs.declared.Kind.TheVariants as kind
-use Rattle.rows.specs.declared.Entry.{Entry}
 use Rattle.rows.specs.declared.Found.{Found}
-use Rattle.rows.specs.declared.Found.TheVariants as found
-use Rattle.rows.proofs.Turns.{place-name, place_rest}
 use Rattle.rows.proofs.Readers.{Reads, leb-more, short, swap, head_cut, head_whole}
 use Rattle.sheet.specs.Sheet.{Reply, Sheet, ok_reply, reply_at, reply_on, one_reply, reply_to}
 use Rattle.sheet.proofs.RoundTrip.{reply_sizes}
@@ -82,35 +79,27 @@ reply_got bs a r e =
     let (h, o) = and_both (leb (size kind.Reply bs) (length bs)) (ok_here bs) t in
     (leb-true (size kind.Reply bs) (length bs) h, (and_both (eqb (number_at (take 3 bs) 21 3) 0) (ok_reply (reply_here bs)) o).1, x, y)
 
--- the test of a reply, in the places that code has
-pub reply_ok : (l : List ℕ) (p : ℕ) (e : Entry) → Placed kind.Reply l p e
-    → ok_reply_of (take (e.name - p) (drop p l)) (take (e.rest - e.name) (drop e.name l)) (take (e.end - e.rest) (drop e.rest l)) ≡ ok_here (drop p l)
-reply_ok l p e w =
-    let h : e.name - p ≡ 3 = omega (arith, w.start) in
-    ap (λ (i : ℕ). ok_reply_of (take i (drop p l)) (take (e.rest - e.name) (drop e.name l)) (take (e.end - e.rest) (drop e.rest l))) h
-    ∙ ap₂ (ok_reply_of (take 3 (drop p l))) (place-name kind.Reply l p e w) (place_rest kind.Reply l p e w)
-
 -- ---- the search
 
 -- a reply at a place of the sheet, with its output's place and length
-pub record Here (l : List ℕ) (o : Option Reply) (p v k : ℕ) : Type 0 where
-  pub is : o ≡ some (reply_here (drop p l))
-  pub sound : ok_reply (reply_here (drop p l)) ≡ true
-  pub head : p + 3 ≤ length l
-  pub output : rest kind.Reply (drop p l) ≡ take k (drop v l)
-  pub within : v + k ≤ length l
-  pub few : k ≤ most_output
+pub record Here (l : List ℕ) (o : Option Reply) (f : Found) : Type 0 where
+  pub is : o ≡ Some (reply_here (drop f.at l))
+  pub sound : ok_reply (reply_here (drop f.at l)) ≡ true
+  pub head : f.at + 3 ≤ length l
+  pub output : rest kind.Reply (drop f.at l) ≡ take f.len (drop f.value l)
+  pub within : f.value + f.len ≤ length l
+  pub few : f.len ≤ most_output
 
-abbrev pub Finds : List ℕ → Found → Option Reply → Type 0
-Finds l (found.At p v k) o = Here l o p v k
-Finds l (found.Missing p) o = o ≡ none
+abbrev pub Finds : List ℕ → Result Found ℕ → Option Reply → Type 0
+Finds l (Ok f) o = Here l o f
+Finds l (Err p) o = o ≡ None
 
-finds_pick : (l : List ℕ) (t : Bool) (f g : Found) (o q : Option Reply) → Finds l f o → Finds l g q → Finds l (pick t f g) (pick t o q)
+finds_pick : (l : List ℕ) (t : Bool) (f g : Result Found ℕ) (o q : Option Reply) → Finds l f o → Finds l g q → Finds l (pick t f g) (pick t o q)
 finds_pick l true f g o q h k = h
 finds_pick l false f g o q h k = k
 
 here_at : (l : List ℕ) (p : ℕ) → size kind.Reply (drop p l) ≤ length (drop p l) → ok_reply (reply_here (drop p l)) ≡ true
-    → Here l (some (reply_here (drop p l))) p (p + head_len kind.Reply + name_len kind.Reply (drop p l)) (rest_len kind.Reply (drop p l))
+    → Here l (Some (reply_here (drop p l))) (record { at = p; value = p + head_len kind.Reply + name_len kind.Reply (drop p l); len = rest_len kind.Reply (drop p l) })
 here_at l p h o =
     let m = name_len kind.Reply (drop p l) in
     let k = rest_len kind.Reply (drop p l) in

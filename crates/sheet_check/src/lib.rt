@@ -9,7 +9,7 @@ ghost use Rattle.rows.specs.Row.{end_of};
 ghost use Rattle.sheet.specs.Sheet.{one_reply, decode};
 ghost use Rattle.sheet_check.specs.Replies.{ok_reply_of, AnswersTo};
 
-use rows::{EntryRead, Found, Kind, RowEnd};
+use rows::{EntryTest, Kind};
 
 // ---- the check
 
@@ -18,44 +18,35 @@ fn ok_reply(head: &[u8], command: &[u8], output: &[u8]) -> bool
     requires { 3 ≤ length head.now }
     ensures { result ≡ ok_reply_of head.now command.now output.now }
 {
-    let h = rows::reply_head(head);
-    if h.unused != 0 {
-        return false;
-    }
-    if !rows::ok_text(command, 512) {
-        return false;
-    }
-    if 512 < output.len() {
-        return false;
-    }
-    rows::clean(output)
+    rows::reply_head(head).unused == 0
+        && rows::ok_text(command, 512)
+        && output.len() <= 512
+        && rows::clean(output)
 }
 
-// The place behind n replies from `at` on, each of them sound.
-fn check_replies(sheet: &[u8], at: usize, n: usize) -> RowEnd
+#[derive(Clone, Copy)]
+struct ReplyTest;
+
+impl EntryTest for ReplyTest {
+    ghost use Rattle.rows.specs.declared.Kind.TheVariants as kinds;
+
+    const KIND: Kind = Kind::Reply;
+
+    ghost KIND = { kinds.Reply };
+
+    ghost ok = { λ t. ok_reply_of };
+
+    fn holds(&self, head: &[u8], command: &[u8], output: &[u8]) -> bool {
+        ok_reply(head, command, output)
+    }
+}
+
+// The place behind n replies from `at` on, if each of them is sound.
+fn check_replies(sheet: &[u8], at: usize, n: usize) -> Option<usize>
     requires { at ≤ length sheet.now }
     ensures { result ≡ end_of (length sheet.now) (many one_reply n (drop at sheet.now)) }
 {
-    let mut p = at;
-    let mut left = n;
-    while 0 < left {
-        let EntryRead::Inside(entry) = rows::entry_at(sheet, p, Kind::Reply) else {
-            return RowEnd::Bad;
-        };
-        let command = entry.name;
-        let output = entry.rest;
-        let end = entry.end;
-        if !ok_reply(
-            &sheet[p..command],
-            &sheet[command..output],
-            &sheet[output..end],
-        ) {
-            return RowEnd::Bad;
-        }
-        p = end;
-        left -= 1;
-    }
-    RowEnd::At(p)
+    rows::check_entries(sheet, at, n, &ReplyTest)
 }
 
 // It is a sound answer sheet (else refusal 6).
@@ -72,7 +63,7 @@ pub fn check(sheet: &[u8]) -> bool
     if 64 < n {
         return false;
     }
-    let RowEnd::At(end) = check_replies(sheet, 1, n) else {
+    let Some(end) = check_replies(sheet, 1, n) else {
         return false;
     };
     if end < sheet.len() {
@@ -83,24 +74,29 @@ pub fn check(sheet: &[u8]) -> bool
 
 // ---- the search
 
-// What a sheet says to a command: whether the program succeeded, and where its output begins and its length; or nothing.
-#[derive(Drop)]
-pub enum Replied {
-    At(bool, usize, usize),
-    Missing,
+// What a sheet says to a command: whether the program succeeded, and where its output begins and its length.
+#[derive(Clone, Copy)]
+pub struct Reply {
+    pub success: bool,
+    pub start: usize,
+    pub len: usize,
 }
 
 // The reply to a command on a sound sheet; no output is read.
-pub fn find(sheet: &[u8], command: &[u8]) -> Replied
+pub fn find(sheet: &[u8], command: &[u8]) -> Option<Reply>
     requires { is_some (decode sheet.now) ≡ true }
     ensures { AnswersTo command.now sheet.now result }
 {
     let n = sheet[0] as usize;
     match rows::find(sheet, 1, n, Kind::Reply, command) {
-        Found::At(p, output, len) => {
-            let h = rows::reply_head(&sheet[p..p + 3]);
-            Replied::At(h.success == 1, output, len)
+        Ok(found) => {
+            let h = rows::reply_head(&sheet[found.at..found.at + 3]);
+            Some(Reply {
+                success: h.success == 1,
+                start: found.value,
+                len: found.len,
+            })
         }
-        Found::Missing(_) => Replied::Missing,
+        Err(_) => None,
     }
 }

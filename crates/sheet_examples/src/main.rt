@@ -7,7 +7,6 @@ ghost use Rattle.std.specs.Prelude.{◌≡◌, true, ◌*◌, ◌≤◌, ◌<◌
 ghost use Rattle.lists.specs.Lists.{is_some};
 ghost use Rattle.sheet.specs.Sheet.{decode};
 
-use sheet_check::Replied;
 use std::io;
 use std::io::{Read, Stdout};
 
@@ -48,16 +47,16 @@ fn read_sheet(digits: &[u8], sheet: &mut [u8]) -> usize
 fn say_reply(stdout: Stdout, sheet: &[u8], command: &[u8])
     requires { is_some (decode sheet.now) ≡ true }
 {
-    let Replied::At(success, start, len) = sheet_check::find(sheet, command) else {
+    let Some(reply) = sheet_check::find(sheet, command) else {
         say(stdout, b"missing");
         return;
     };
-    if success {
+    if reply.success {
         say(stdout, b"success ");
     } else {
         say(stdout, b"failure ");
     }
-    say(stdout, &sheet[start..start + len]);
+    say(stdout, &sheet[reply.start..reply.start + reply.len]);
 }
 
 fn ask(stdout: Stdout, command: &[u8], sheet: &[u8]) {

@@ -4,7 +4,8 @@ use Prim.Native.Nat.{ℕ, zero, suc, ◌+◌, ◌-◌, ◌*◌, ◌^◌, ◌≤�
 use mathlib.Core.Path.{◌≡◌, refl, ap, ◌∙◌}
 use mathlib.Core.Bool.{Bool, true, false, ◌&&◌}
 use mathlib.Core.List.{List, [], ◌∷◌}
-use mathlib.Core.Option.{none, some, none-ne-some, some-injective}
+use Rattle.std.specs.Prelude.{None, Some}
+use Rattle.std.proofs.lemmas.Option.{none-some, same_Some}
 use native.Mathlib.Nat.{not-suc-le-zero, pow-le-pow_right}
 use native.Mathlib.Numerals.{add-one}
 use native.Mathlib.Omega.{arith}
@@ -58,15 +59,15 @@ module _ (s : List ℕ) (i n m : ℕ) (g : Bool) where
   unfolding digits_from
   digit_more h t k = rw (rest_at s i h, t, lt-ltb n 10 k)
 
-  pub digit_not : i < length s → is_digit (get_or s i 0) ≡ false → digits_from (drop i s) n m g ≡ none
+  pub digit_not : i < length s → is_digit (get_or s i 0) ≡ false → digits_from (drop i s) n m g ≡ None
   unfolding digits_from
   digit_not h t = rw (rest_at s i h, t)
 
-  pub digit_many : i < length s → 10 ≤ n → digits_from (drop i s) n m g ≡ none
+  pub digit_many : i < length s → 10 ≤ n → digits_from (drop i s) n m g ≡ None
   unfolding digits_from
   digit_many h k = rw (rest_at s i h, le-ltb n 10 k, and-false (is_digit (get_or s i 0)))
 
-  pub digits-end : length s ≤ i → digits_from (drop i s) n m g ≡ pick (eqb n 0) none (with_sign g m)
+  pub digits-end : length s ≤ i → digits_from (drop i s) n m g ≡ pick (eqb n 0) None (with_sign g m)
   unfolding digits_from
   digits-end h = rw (drop_of_length-le s h)
 
@@ -76,36 +77,36 @@ minus-fits : (m : ℕ) → m ≤ 2147483648 → SFits w32 (minus m)
 minus-fits zero h = record { sfits = omega arith }
 minus-fits (suc m) h = record { sfits = omega arith }
 
-sign_fits : (g : Bool) (m : ℕ) (z : ℤ) → with_sign g m ≡ some z → SFits w32 z
+sign_fits : (g : Bool) (m : ℕ) (z : ℤ) → with_sign g m ≡ Some z → SFits w32 z
 sign_fits true m z e = go (leb m 2147483648) refl e
   where
-    go : (t : Bool) → leb m 2147483648 ≡ t → pick t (some (minus m)) none ≡ some z → SFits w32 z
-    go true h q = rw (← some-injective (minus m) z q) (minus-fits m (leb-true m 2147483648 h))
-    go false h q = absurd (none-ne-some z q)
+    go : (t : Bool) → leb m 2147483648 ≡ t → pick t (Some (minus m)) None ≡ Some z → SFits w32 z
+    go true h q = rw (← same_Some (minus m) z q) (minus-fits m (leb-true m 2147483648 h))
+    go false h q = absurd (none-some z q)
 sign_fits false m z e = go (leb m 2147483647) refl e
   where
-    go : (t : Bool) → leb m 2147483647 ≡ t → pick t (some (pos m)) none ≡ some z → SFits w32 z
-    go true h q = rw (← some-injective (pos m) z q) (record { sfits = omega (arith, leb-true m 2147483647 h) })
-    go false h q = absurd (none-ne-some z q)
+    go : (t : Bool) → leb m 2147483647 ≡ t → pick t (Some (pos m)) None ≡ Some z → SFits w32 z
+    go true h q = rw (← same_Some (pos m) z q) (record { sfits = omega (arith, leb-true m 2147483647 h) })
+    go false h q = absurd (none-some z q)
 
-digits_fit : (bs : List ℕ) (n m : ℕ) (g : Bool) (z : ℤ) → digits_from bs n m g ≡ some z → SFits w32 z
+digits_fit : (bs : List ℕ) (n m : ℕ) (g : Bool) (z : ℤ) → digits_from bs n m g ≡ Some z → SFits w32 z
 unfolding digits_from
 digits_fit [] n m g z e = go (eqb n 0) e
   where
-    go : (t : Bool) → pick t none (with_sign g m) ≡ some z → SFits w32 z
-    go true q = absurd (none-ne-some z q)
+    go : (t : Bool) → pick t None (with_sign g m) ≡ Some z → SFits w32 z
+    go true q = absurd (none-some z q)
     go false q = sign_fits g m z q
 digits_fit (b ∷ bs) n m g z e = go (is_digit b && ltb n 10) e (λ q. digits_fit bs (n + 1) (m * 10 + (b - 48)) g z q)
   where
-    go : (t : Bool) → pick t (digits_from bs (n + 1) (m * 10 + (b - 48)) g) none ≡ some z
-        → (digits_from bs (n + 1) (m * 10 + (b - 48)) g ≡ some z → SFits w32 z) → SFits w32 z
+    go : (t : Bool) → pick t (digits_from bs (n + 1) (m * 10 + (b - 48)) g) None ≡ Some z
+        → (digits_from bs (n + 1) (m * 10 + (b - 48)) g ≡ Some z → SFits w32 z) → SFits w32 z
     go true q others = others q
-    go false q others = absurd (none-ne-some z q)
+    go false q others = absurd (none-some z q)
 
-pub integer_fits : (bs : List ℕ) (z : ℤ) → integer_of bs ≡ some z → SFits w32 z
+pub integer_fits : (bs : List ℕ) (z : ℤ) → integer_of bs ≡ Some z → SFits w32 z
 unfolding integer_of
 integer_fits bs z e = go (eqb (get_or bs 0 0) 45) e
   where
-    go : (t : Bool) → pick t (digits_from (drop 1 bs) 0 0 true) (digits_from bs 0 0 false) ≡ some z → SFits w32 z
+    go : (t : Bool) → pick t (digits_from (drop 1 bs) 0 0 true) (digits_from bs 0 0 false) ≡ Some z → SFits w32 z
     go true q = digits_fit (drop 1 bs) 0 0 true z q
     go false q = digits_fit bs 0 0 false z q

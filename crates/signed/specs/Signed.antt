@@ -1,21 +1,17 @@
--- What the code's answers stand for in the definitions.
+-- What the code's settings stand for in the definitions.
 -- Assumes nothing.
-use Rattle.std.proofs.Math.Option.{Option, none, some}
-use Rattle.std.specs.Prelude.{ℤ}
-use Rattle.rules.specs.Setting.{Setting, escape_none, escape_replace, watched, unwatched, priority}
-use Rattle.signed.specs.declared.NumberRead.{NumberRead}
-use Rattle.signed.specs.declared.NumberRead.TheVariants as number
-use Rattle.signed.specs.declared.SettingRead.{SettingRead}
-use Rattle.signed.specs.declared.SettingRead.TheVariants.{EscapeNone, EscapeReplace, Watch, NoWatch, Priority, Faulty}
+use Rattle.std.specs.Prelude.{Option, None, Some}
+use Rattle.rules.specs.Setting as rules
+use Rattle.signed.specs.declared.Setting.{Setting}
+use Rattle.signed.specs.declared.Setting.TheVariants.{EscapeNone, EscapeReplace, Watch, NoWatch, Priority}
 
-abbrev pub number_of : NumberRead → Option ℤ
-number_of (number.Number z) = some z
-number_of number.Faulty = none
+abbrev pub setting_by : Setting → rules.Setting
+setting_by EscapeNone = rules.escape_none
+setting_by EscapeReplace = rules.escape_replace
+setting_by Watch = rules.watched
+setting_by NoWatch = rules.unwatched
+setting_by (Priority z) = rules.priority z
 
-abbrev pub set_by : SettingRead → Option Setting
-set_by EscapeNone = some escape_none
-set_by EscapeReplace = some escape_replace
-set_by Watch = some watched
-set_by NoWatch = some unwatched
-set_by (Priority z) = some (priority z)
-set_by Faulty = none
+abbrev pub set_by : Option Setting → Option rules.Setting
+set_by None = None
+set_by (Some s) = Some (setting_by s)

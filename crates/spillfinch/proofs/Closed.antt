@@ -3,7 +3,7 @@
 use Prim.Native.Nat.{ℕ}
 use mathlib.Core.Path.{◌≡◌, sym, ap, ap₂, ◌∙◌, subst}
 use mathlib.Core.List.{List, [], ◌∷◌}
-use mathlib.Core.Option.{some}
+use Rattle.std.specs.Prelude.{Some}
 use lib.ListN.{take}
 use Rattle.sheet.specs.Sheet.{Sheet}
 use Rattle.engine.specs.Operations.{decode_for}
@@ -26,7 +26,7 @@ stays_closed k text dev out sheet a room x stays written target (w, t) =
     record {
       kept = λ z.
           let (s, held, same) = stays.kept (sym (ap number_in w) ∙ z) in
-          (s, subst (λ (bs : List ℕ). decode_for x.device bs ≡ some s) (sym (ap₂ (λ (n b : List ℕ). take (used_in n) b) w t)) held, same);
+          (s, subst (λ (bs : List ℕ). decode_for x.device bs ≡ Some s) (sym (ap₂ (λ (n b : List ℕ). take (used_in n) b) w t)) held, same);
       accepted = accepted_checked a (drop_text k text) stays.accepted;
       lines = stays.lines;
       dropped = λ written' target' g. (

@@ -3,7 +3,8 @@
 use Prim.Native.Nat.{ℕ}
 use mathlib.Core.Path.{◌≡◌, sym, ap, ◌∙◌, subst}
 use mathlib.Core.List.{List}
-use mathlib.Core.Option.{some, some-injective}
+use Rattle.std.specs.Prelude.{Some}
+use Rattle.std.proofs.lemmas.Option.{same_Some}
 use lib.ListN.{length}
 use Rattle.lists.specs.Lists.{nth}
 use Rattle.lists.specs.Bytes.{Bytes}
@@ -31,11 +32,11 @@ module _ (text sheet : List ℕ) (by : Bytes sheet) where
       }
 
   -- by the records that the set holds
-  alone_in : (c : EachCall text sheet) (ls : List Lent) → decode_lent c.set ≡ some ls → (k : ℕ) (l : Lent) → nth k ls ≡ some l
+  alone_in : (c : EachCall text sheet) (ls : List Lent) → decode_lent c.set ≡ Some ls → (k : ℕ) (l : Lent) → nth k ls ≡ Some l
       → RunGives text l.device l.outcome sheet fullest_outcome (answer_in c k) (target_in c k)
   alone_in c ls e k l h =
       let r = runs_alone c in
-      r.alone k l (subst (λ (xs : List Lent). nth k xs ≡ some l) (some-injective ls r.lents (sym e ∙ r.held)) h)
+      r.alone k l (subst (λ (xs : List Lent). nth k xs ≡ Some l) (same_Some ls r.lents (sym e ∙ r.held)) h)
 
 pub each_runs_lem : EachRuns
 each_runs_lem = record {

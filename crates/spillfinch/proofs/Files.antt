@@ -3,7 +3,7 @@
 use Prim.Native.Nat.{ℕ, zero, suc, ◌+◌, ◌-◌, ◌≤◌}
 use mathlib.Core.Path.{◌≡◌, refl, sym, ap, ◌∙◌}
 use mathlib.Core.List.{List, [], ◌∷◌}
-use mathlib.Core.Option.{some}
+use Rattle.std.specs.Prelude.{Some}
 use borrow.Author.Tests.{le-leb}
 use lib.ListN.{length, replicate}
 use lib.Seq.{take-append_seam}
@@ -49,7 +49,7 @@ same_room text dev out sheet room room' r r' =
 -- what a file's run gives, and the others behind it
 abbrev turn : (ℕ → ℕ → List ℕ → Given) → File → joined.Given → Given
 turn others f b =
-    onward b.number (others b.visited b.tried b.left) (record { number = b.number; line = b.line; file = some f.name; visited = 0; tried = 0; left = [] })
+    onward b.number (others b.visited b.tried b.left) (record { number = b.number; line = b.line; file = Some f.name; visited = 0; tried = 0; left = [] })
 
 behind : (A B : Type 0) (k : ℕ) (x y z : Given) → followed k A B → (A → x ≡ y) → onward k x z ≡ onward k y z
 behind A B zero x y z f a = a f

@@ -3,7 +3,7 @@
 use Prim.Native.Nat.{ℕ, zero, suc, ◌+◌, ◌≤◌}
 use mathlib.Core.Path.{◌≡◌, refl, sym, ap, ◌∙◌, subst}
 use mathlib.Core.List.{List, [], ◌∷◌}
-use mathlib.Core.Option.{some}
+use Rattle.std.specs.Prelude.{Some}
 use native.Mathlib.Omega.{arith}
 use lib.ListN.{length, take}
 use Rattle.lists.specs.Lists.{All}
@@ -75,7 +75,7 @@ onward-turn : (s : Sheet) (A B : Type 0) (k : ℕ) (x y z : Given) → followed 
 onward-turn s A B zero x y z f a = a f
 onward-turn s A B (suc k) x y z f a = refl
 
-module _ (sheet : List ℕ) (a : Sheet) (by : Bytes sheet) (is : Sheets.decode sheet ≡ some a) (dev : List ℕ) where
+module _ (sheet : List ℕ) (a : Sheet) (by : Bytes sheet) (is : Sheets.decode sheet ≡ Some a) (dev : List ℕ) where
   jobs_roomy : (out : List ℕ) (ts : List (List ℕ)) (cs : List Call) → InTurn dev sheet out ts cs → Roomy (jobs_of ts cs)
   jobs_roomy out [] cs i = tt
   jobs_roomy out (t ∷ ts) [] i = none_roomy (t ∷ ts)
@@ -120,7 +120,7 @@ module _ (sheet : List ℕ) (a : Sheet) (by : Bytes sheet) (is : Sheets.decode s
 pub given_back : (x : Answer) (c : Call) → Gives c.written c.target x → back c ≡ given x
 given_back x c (w, b) = rw (w, b) refl
 
-module _ (sheet : List ℕ) (a : Sheet) (by : Bytes sheet) (is : Sheets.decode sheet ≡ some a) where
+module _ (sheet : List ℕ) (a : Sheet) (by : Bytes sheet) (is : Sheets.decode sheet ≡ Some a) where
   abbrev demanded : text.Demand3 (engine a)
   demanded = engine_demand3 a (sheets.back sheet a by is).good
 

@@ -1,7 +1,7 @@
 -- Document 02, Item 13, of the exported function: what calls of `spillfinch_run` write where a key is closed in the record that they start from.
 -- Assumes nothing.
 use Rattle.std.specs.Prelude.{ℕ, ◌≡◌, true, List, ◌++◌, take, drop}
-use Rattle.std.proofs.Math.Option.{some}
+use Rattle.std.specs.Prelude.{Some}
 use Rattle.lists.specs.Bytes.{Bytes}
 use Rattle.text.specs.Lines.{newlines}
 use Rattle.device.specs.Device.{Device}
@@ -21,7 +21,7 @@ but_visited written = take 2 written ++ drop 3 written
 -- of a call beside a device, from a record in which the key is closed
 pub record StaysClosed (k : ClosingKey) (text dev out sheet : List ℕ) (d : Device) (s : State) (room : ℕ) (written target : List ℕ) : Type 0 where
   -- if it is not refused, the record that it leaves holds under the key what the first one held, and the key is closed as it was
-  pub kept : number_in written ≡ 0 → (s' : State) × (decode_for d (left_in written target) ≡ some s') × Same k s s'
+  pub kept : number_in written ≡ 0 → (s' : State) × (decode_for d (left_in written target) ≡ Some s') × Same k s s'
   -- the check accepts the text without the assignments to the key, which has as many newlines
   pub accepted : Checked (drop_text k text)
   pub lines : newlines (drop_text k text) ≡ newlines text
@@ -32,5 +32,5 @@ pub record StaysClosed (k : ClosingKey) (text dev out sheet : List ℕ) (d : Dev
 -- of every call for a text that the check accepts, with sound records and a sound sheet, for each of the six keys
 abbrev pub Closed : Type 0
 Closed = (k : ClosingKey) (text dev out sheet : List ℕ) (a : Sheet) (room : ℕ) (written target : List ℕ) → Checked text → (x : Sound dev out)
-    → Bytes sheet → decode sheet ≡ some a → is_closed k x.state ≡ true → RunGives text dev out sheet room written target
+    → Bytes sheet → decode sheet ≡ Some a → is_closed k x.state ≡ true → RunGives text dev out sheet room written target
     → StaysClosed k text dev out sheet x.device x.state room written target

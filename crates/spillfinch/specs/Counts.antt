@@ -1,7 +1,7 @@
 -- What the counts that a call of `spillfinch_run` writes keep to.
 -- Assumes nothing.
 use Rattle.std.specs.Prelude.{ℕ, ◌*◌, ◌≤◌, ◌≡◌, List, length}
-use Rattle.std.proofs.Math.Option.{some}
+use Rattle.std.specs.Prelude.{Some}
 use Rattle.lists.specs.Checked.{ok, Placed}
 use Rattle.text.specs.Reading.{read_text}
 use Rattle.rules.specs.Pair.{Rule}
@@ -14,7 +14,7 @@ pub record Counted (text dev out sheet : List ℕ) (room : ℕ) (written target 
   -- no more rules are visited than the text has
   pub visited : (rs : List (Placed Rule)) → read_text reader text ≡ ok rs → visited_in written ≤ length rs
   -- document 02, Item 9: for each of them no more devices are tried than the chain has
-  pub tried : (d : Device) → decode dev ≡ some d → tried_in written ≤ visited_in written * length (chain d)
+  pub tried : (d : Device) → decode dev ≡ Some d → tried_in written ≤ visited_in written * length (chain d)
 
 -- of every call, refused or not
 abbrev pub Counts : Type 0

@@ -2,7 +2,7 @@
 -- of `spillfinch_run` writes for it alone.
 -- Assumes nothing.
 use Rattle.std.specs.Prelude.{ℕ, ◌≡◌, List, length}
-use Rattle.std.proofs.Math.Option.{some}
+use Rattle.std.specs.Prelude.{Some}
 use Rattle.lists.specs.Lists.{nth}
 use Rattle.lists.specs.Bytes.{Bytes}
 use Rattle.lists.specs.Sizes.{fullest_outcome}
@@ -33,12 +33,12 @@ answer_in c k = part_of most_numbers k c.answers
 -- the records of the set are counted, and the target and the numbers of each are what a call for it alone writes, refused or not
 pub record RunsAlone (text sheet : List ℕ) (c : EachCall text sheet) : Type 0 where
   pub lents : List Lent
-  pub held : decode_lent c.set ≡ some lents
+  pub held : decode_lent c.set ≡ Some lents
   pub counted : count_in c.written ≡ length lents
-  pub alone : (k : ℕ) (l : Lent) → nth k lents ≡ some l → RunGives text l.device l.outcome sheet fullest_outcome (answer_in c k) (target_in c k)
+  pub alone : (k : ℕ) (l : Lent) → nth k lents ≡ Some l → RunGives text l.device l.outcome sheet fullest_outcome (answer_in c k) (target_in c k)
 
 pub record EachRuns : Type 0 where
   pub runs_alone : (text sheet : List ℕ) → Bytes sheet → (c : EachCall text sheet) → RunsAlone text sheet c
   -- a pair of records has the same target and numbers wherever it stands, in any set: another order gives the same ones in that order
-  pub anywhere : (text sheet : List ℕ) → Bytes sheet → (c d : EachCall text sheet) (ls ms : List Lent) → decode_lent c.set ≡ some ls → decode_lent d.set ≡ some ms
-      → (j k : ℕ) (l : Lent) → nth j ls ≡ some l → nth k ms ≡ some l → (target_in c j ≡ target_in d k) × (answer_in c j ≡ answer_in d k)
+  pub anywhere : (text sheet : List ℕ) → Bytes sheet → (c d : EachCall text sheet) (ls ms : List Lent) → decode_lent c.set ≡ Some ls → decode_lent d.set ≡ Some ms
+      → (j k : ℕ) (l : Lent) → nth j ls ≡ Some l → nth k ms ≡ Some l → (target_in c j ≡ target_in d k) × (answer_in c j ≡ answer_in d k)

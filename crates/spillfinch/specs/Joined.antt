@@ -2,7 +2,7 @@
 -- with one answer sheet in all of them (document 02, Item 6).
 -- Assumes nothing.
 use Rattle.std.specs.Prelude.{ℕ, zero, suc, ◌+◌, ◌≤◌, ◌≡◌, ◌↔◌, List, [], ◌∷◌, length, take, get_or}
-use Rattle.std.proofs.Math.Option.{some}
+use Rattle.std.specs.Prelude.{Some}
 use Rattle.lists.specs.Lists.{All}
 use Rattle.lists.specs.Bytes.{Bytes}
 use Rattle.lists.specs.Checked.{ok, Placed}
@@ -103,8 +103,8 @@ pub record Sound (dev out : List ℕ) : Type 0 where
   pub device : Device
   pub state : State
   pub bytes : Bytes out
-  pub read : D.decode dev ≡ some device
-  pub held : decode_for device out ≡ some state
+  pub read : D.decode dev ≡ Some device
+  pub held : decode_for device out ≡ Some state
 
 -- of the calls with one sheet
 pub record WithSheet (sheet : List ℕ) (a : Sheet) : Type 0 where
@@ -125,4 +125,4 @@ pub record WithSheet (sheet : List ℕ) (a : Sheet) : Type 0 where
 
 -- for every sound sheet
 abbrev pub Demand3 : Type 0
-Demand3 = (sheet : List ℕ) (a : Sheet) → Bytes sheet → Sheets.decode sheet ≡ some a → WithSheet sheet a
+Demand3 = (sheet : List ℕ) (a : Sheet) → Bytes sheet → Sheets.decode sheet ≡ Some a → WithSheet sheet a

@@ -1,7 +1,7 @@
 -- Document 02, Item 14, of the exported functions: what is wanted of what calls of `spillfinch_plan_check` and `spillfinch_plan` write.
 -- Assumes nothing.
 use Rattle.std.specs.Prelude.{ℕ, ◌≡◌, ◌↔◌, true, false, List, [], ◌∷◌, take}
-use Rattle.std.proofs.Math.Option.{some}
+use Rattle.std.specs.Prelude.{Some}
 use Rattle.lists.specs.Lists.{All}
 use Rattle.lists.specs.Checked.{ok}
 use Rattle.lists.specs.Sizes.{fullest_outcome}
@@ -28,7 +28,7 @@ pub record Calls (text dev : List ℕ) : Type 0 where
 pub record Names (text : List ℕ) (n : Naming) (c : Calls text n.bytes_lent) : Type 0 where
   pub accepted : number_in c.written ≡ 0
   pub state : State
-  pub left : decode_for n.device (take (used_in c.written) c.target) ≡ some state
+  pub left : decode_for n.device (take (used_in c.written) c.target) ≡ Some state
   pub linked : state.links ≡ n.link ∷ []
 
 -- of a call that is not refused: the verdict is 1 exactly where such calls do so for every device of the set

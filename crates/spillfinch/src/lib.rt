@@ -13,28 +13,19 @@ use answers::Given;
 fn put_answer(given: Given, answer: &mut [u32; 8])
     ensures { answer.new ≡ numbers (answered given []) }
 {
+    put_counted(given, 0, answer);
+}
+
+// The same with a count.
+fn put_counted(given: Given, count: u32, answer: &mut [u32; 8])
+    ensures { answer.new ≡ numbers_with (answered given []) count }
+{
     *answer = [
         given.number,
         given.line,
         given.visited,
         given.used,
         given.tried,
-        0,
-        0,
-        0,
-    ];
-}
-
-// The same with a count.
-fn put_counted(struck: Given, count: u32, answer: &mut [u32; 8])
-    ensures { answer.new ≡ numbers_with (answered struck []) count }
-{
-    *answer = [
-        struck.number,
-        struck.line,
-        struck.visited,
-        struck.used,
-        struck.tried,
         0,
         count,
         0,
@@ -112,8 +103,7 @@ pub fn spillfinch_strike(text: &[u8], target: &mut [u8], strikes: &mut [u16], an
     ensures { StrikeGives text.now (length target.old) (length strikes.old) answer.new target.new strikes.new }
 {
     let struck = strike::strike(text, target, strikes);
-    let given = struck.given;
-    put_counted(given, struck.count, answer);
+    put_counted(struck.given, struck.count, answer);
 }
 
 // Document 02, Item 7.

@@ -11,11 +11,7 @@ ghost use Rattle.splice.specs.Moves.{stored, opened, inserted, removed, shifted,
 pub fn clear(t: &mut [u8])
     ensures { t.new ≡ replicate (length t.old) 0 }
 {
-    let mut i = 0;
-    while i < t.len() {
-        t[i] = 0;
-        i += 1;
-    }
+    t.fill(0);
 }
 
 // `src` is copied over what stands at `at`.
@@ -23,11 +19,7 @@ pub fn store(t: &mut [u8], at: usize, src: &[u8])
     requires { at + length src.now ≤ length t.old }
     ensures { t.new ≡ stored t.old at src.now }
 {
-    let mut i = 0;
-    while i < src.len() {
-        t[at + i] = src[i];
-        i += 1;
-    }
+    t[at..at + src.len()].copy_from_slice(src);
 }
 
 // How much is copied at once.
@@ -37,7 +29,7 @@ const ROOM: usize = 4096;
 fn next_size(left: usize) -> usize
     ensures { (result ≤ left) × (result ≤ 4096) × (0 < left → 0 < result) }
 {
-    if ROOM < left { ROOM } else { left }
+    left.min(ROOM)
 }
 
 // What stands from `from` up to `to` is copied over what stands at `at`, also where both overlap: by way of a copy.

@@ -4,7 +4,7 @@ use Prim.Native.Nat.{ℕ, ◌≤◌}
 use mathlib.Core.Path.{◌≡◌, refl, sym, ◌∙◌, ap, subst}
 use mathlib.Core.Bool.{Bool, true, false, ◌||◌}
 use mathlib.Core.List.{List, [], ◌∷◌}
-use mathlib.Core.Option.{Option, some}
+use Rattle.std.specs.Prelude.{Option, Some, Result, Ok, Err}
 use lib.ListN.{length}
 use native.Mathlib.Omega.{arith}
 use Rattle.lists.specs.Lists.{all, any}
@@ -30,10 +30,7 @@ use Rattle.device_lookup.proofs.Devices.{chain_few}
 use Rattle.matching.specs.Answers.{place_in, tried_in, near_of, is_asked, asks_in, Asks}
 use Rattle.matching.specs.Judging.{Begun}
 use Rattle.matching.specs.declared.Matched.{Matched}
-use Rattle.matching.specs.declared.Matched.TheVariants.{At, Missed}
 use Rattle.records.specs.Records.{Denotes}
-use Rattle.records.specs.declared.Change.{Change}
-use Rattle.records.specs.declared.Change.TheVariants as change
 use Rattle.assignment.specs.Assignment.{AllSays}
 use Rattle.programs.specs.Programs as programs
 use Rattle.programs.specs.Programs.{AsksBeside, judged_by}
@@ -50,12 +47,12 @@ begun-from dev places t lay d s h = record { device = d; decoded = h.device; cha
 pub few_tried : (dev : List ℕ) (places : Chain) (t : List ℕ) (lay : Layout) (d : Device) (s : State) → Denotes dev places t lay d s → (k : ℕ) → k ≤ places.len → k ≤ most_chain
 few_tried dev places t lay d s h k l = omega (arith, chain_few dev d h.device, h.chained.len)
 
-pub says_few : (dev : List ℕ) (places : Chain) (lay : Layout) (d : Device) (s : State) (t : List ℕ) (x : code.Stepped) (c : Checked refusal.Refusal (Stepped State)) (n : ℕ)
+pub says_few : (dev : List ℕ) (places : Chain) (lay : Layout) (d : Device) (s : State) (t : List ℕ) (x : Result code.Stepped Refusal) (c : Checked refusal.Refusal (Stepped State)) (n : ℕ)
     → n ≤ most_chain → Says dev places lay d s t x c n → Few x
-says_few dev places lay d s t (stepped.Missed k) c n l (e, h, q) = subst (λ (m : ℕ). m ≤ most_chain) (sym q) l
-says_few dev places lay d s t (stepped.Failed lay' k) c n l (s', e, h, q) = subst (λ (m : ℕ). m ≤ most_chain) (sym q) l
-says_few dev places lay d s t (stepped.Left lay' k) c n l (s', e, h, q) = subst (λ (m : ℕ). m ≤ most_chain) (sym q) l
-says_few dev places lay d s t (stepped.Refused f) c n l h = tt
+says_few dev places lay d s t (Ok (stepped.Missed k)) c n l (e, h, q) = subst (λ (m : ℕ). m ≤ most_chain) (sym q) l
+says_few dev places lay d s t (Ok (stepped.Failed lay' k)) c n l (s', e, h, q) = subst (λ (m : ℕ). m ≤ most_chain) (sym q) l
+says_few dev places lay d s t (Ok (stepped.Left lay' k)) c n l (s', e, h, q) = subst (λ (m : ℕ). m ≤ most_chain) (sym q) l
+says_few dev places lay d s t (Err f) c n l h = tt
 
 -- ---- a rule without PROGRAM and RESULT asks nothing
 
@@ -101,68 +98,68 @@ module _ (a : Sheet) (d : Device) (k : ℕ) (ps : Rule) where
   judged-then (ok (went s true)) = finished-by s
   judged-then (ok (went s false)) = refl
 
-  at_judged : (s : State) → step_at (some k) a d ps s ≡ (judged_by a d k ps s >>= λ y. assigning y)
+  at_judged : (s : State) → step_at (Some k) a d ps s ≡ (judged_by a d k ps s >>= λ y. assigning y)
   unfolding step_at
   at_judged s = judged-then (ask_all a d k ps s)
 
-  module _ (dev : List ℕ) (places : Chain) (t : List ℕ) (lay : Layout) (sheet : List ℕ) (e : decode sheet ≡ some a) (s : State) (h : Denotes dev places t lay d s) (t₁ : List ℕ) (x : Asked)
+  module _ (dev : List ℕ) (places : Chain) (t : List ℕ) (lay : Layout) (sheet : List ℕ) (e : decode sheet ≡ Some a) (s : State) (h : Denotes dev places t lay d s) (t₁ : List ℕ) (x : Result Asked Refusal)
       (c : AsksBeside (λ a d s. judged_by a d k ps s) sheet dev places t lay t₁ x) where
-    says : (y : Asked) → x ≡ y → programs.Says (length (chain d)) t₁ y (judged_by a d k ps s)
-    says y q = subst (λ (x : Asked). programs.Says (length (chain d)) t₁ x (judged_by a d k ps s)) q (c a e d s h)
+    says : (y : Result Asked Refusal) → x ≡ y → programs.Says (length (chain d)) t₁ y (judged_by a d k ps s)
+    says y q = subst (λ (x : Result Asked Refusal). programs.Says (length (chain d)) t₁ x (judged_by a d k ps s)) q (c a e d s h)
 
     -- the state that they left
-    pub asked-state : (lay₁ : Layout) → x ≡ asked.Held lay₁ → (s₁ : State) × Denotes dev places t₁ lay₁ d s₁
-    asked-state lay₁ q = let (s₁, f, z) = says (asked.Held lay₁) q in (s₁, record { device = h.device; chained = h.chained; held = z })
+    pub asked-state : (lay₁ : Layout) → x ≡ Ok (asked.Held lay₁) → (s₁ : State) × Denotes dev places t₁ lay₁ d s₁
+    asked-state lay₁ q = let (s₁, f, z) = says (Ok (asked.Held lay₁)) q in (s₁, record { device = h.device; chained = h.chained; held = z })
 
     -- all hold: the assignments from there
-    module _ (lay₁ : Layout) (q : x ≡ asked.Held lay₁) (t' : List ℕ) (y : Change)
+    module _ (lay₁ : Layout) (q : x ≡ Ok (asked.Held lay₁)) (t' : List ℕ) (y : Result Layout Refusal)
         (w : (s₁ : State) → Denotes dev places t₁ lay₁ d s₁ → AllSays (length (chain d)) t' y (assign_all d k ps (begun s₁))) where
-      assigned : (z : Change) → y ≡ z
-          → (s₁ : State) × (ended (assign_all d k ps (begun s₁)) ≡ step_at (some k) a d ps s) × AllSays (length (chain d)) t' z (assign_all d k ps (begun s₁))
+      assigned : (z : Result Layout Refusal) → y ≡ z
+          → (s₁ : State) × (ended (assign_all d k ps (begun s₁)) ≡ step_at (Some k) a d ps s) × AllSays (length (chain d)) t' z (assign_all d k ps (begun s₁))
       assigned z u =
-          let (s₁, f, v) = says (asked.Held lay₁) q in
-          let b : ended (assign_all d k ps (begun s₁)) ≡ step_at (some k) a d ps s = sym (at_judged s ∙ ap (λ c. c >>= λ y. assigning y) f) in
-          (s₁, b, subst (λ (y : Change). AllSays (length (chain d)) t' y (assign_all d k ps (begun s₁))) u (w s₁ (record { device = h.device; chained = h.chained; held = v })))
+          let (s₁, f, v) = says (Ok (asked.Held lay₁)) q in
+          let b : ended (assign_all d k ps (begun s₁)) ≡ step_at (Some k) a d ps s = sym (at_judged s ∙ ap (λ c. c >>= λ y. assigning y) f) in
+          (s₁, b, subst (λ (y : Result Layout Refusal). AllSays (length (chain d)) t' y (assign_all d k ps (begun s₁))) u (w s₁ (record { device = h.device; chained = h.chained; held = v })))
 
-      pub asked-left : (lay' : Layout) → y ≡ change.Left lay' → Says dev places lay d s t' (stepped.Left lay' k) (step_at (some k) a d ps s) k
+      pub asked-left : (lay' : Layout) → y ≡ Ok lay' → Says dev places lay d s t' (Ok (stepped.Left lay' k)) (step_at (Some k) a d ps s) k
       asked-left lay' u =
-          let (s₁, b, (v, f, z)) = assigned (change.Left lay') u in
+          let (s₁, b, (v, f, z)) = assigned (Ok lay') u in
           (v.state, sym b ∙ ap ended f, record { device = h.device; chained = h.chained; held = z }, refl)
 
-      pub assign-refused : (r : Refusal) → y ≡ change.Refused r → step_at (some k) a d ps s ≡ refused (refusal_of r)
+      pub assign-refused : (r : Refusal) → y ≡ Err r → step_at (Some k) a d ps s ≡ refused (refusal_of r)
       assign-refused r u =
-          let (s₁, b, g) = assigned (change.Refused r) u in
+          let (s₁, b, g) = assigned (Err r) u in
           let f : assign_all d k ps (begun s₁) ≡ refused (refusal_of r) = g in
           sym b ∙ ap ended f
 
     -- one does not hold, or is refused
-    pub asked_failed : (lay₁ : Layout) → x ≡ asked.Failed lay₁ → Says dev places lay d s t₁ (stepped.Failed lay₁ k) (step_at (some k) a d ps s) k
+    pub asked_failed : (lay₁ : Layout) → x ≡ Ok (asked.Failed lay₁) → Says dev places lay d s t₁ (Ok (stepped.Failed lay₁ k)) (step_at (Some k) a d ps s) k
     asked_failed lay₁ q =
-        let (s₁, f, z) = says (asked.Failed lay₁) q in
+        let (s₁, f, z) = says (Ok (asked.Failed lay₁)) q in
         (s₁, at_judged s ∙ ap (λ c. c >>= λ y. assigning y) f, record { device = h.device; chained = h.chained; held = z }, refl)
 
-    pub asked-refused : (y : Refusal) → x ≡ asked.Refused y → step_at (some k) a d ps s ≡ refused (refusal_of y)
+    pub asked-refused : (y : Refusal) → x ≡ Err y → step_at (Some k) a d ps s ≡ refused (refusal_of y)
     asked-refused y q =
-        let f : judged_by a d k ps s ≡ refused (refusal_of y) = says (asked.Refused y) q in
+        let f : judged_by a d k ps s ≡ refused (refusal_of y) = says (Err y) q in
         at_judged s ∙ ap (λ c. c >>= λ y. assigning y) f
 
 -- ---- by what was matched
 
-module _ (a : Sheet) (d : Device) (s : State) (ps : Rule) (m : Matched) (e : place_in (near_of m) ≡ matched d s ps) (w : tried_in (near_of m) ≡ tried d ps s)
+module _ (a : Sheet) (d : Device) (s : State) (ps : Rule) (m : Result Matched ℕ) (e : place_in (near_of m) ≡ matched d s ps) (w : tried_in (near_of m) ≡ tried d ps s)
     (dev : List ℕ) (places : Chain) (t : List ℕ) (lay : Layout) (h : Denotes dev places t lay d s) where
   step_by : (o : Option ℕ) → place_in (near_of m) ≡ o → step_at o a d ps s ≡ engine.step a d ps s
   unfolding engine.step
   step_by o q = ap (λ (o : Option ℕ). step_at o a d ps s) (sym q ∙ e)
 
-  pub step_missed : (k : ℕ) → m ≡ Missed k → Says dev places lay d s t (stepped.Missed k) (engine.step a d ps s) (tried d ps s)
+  pub step_missed : (k : ℕ) → m ≡ Err k → Says dev places lay d s t (Ok (stepped.Missed k)) (engine.step a d ps s) (tried d ps s)
   unfolding step_at
   step_missed k q = (sym (step_by _ (ap (λ m. place_in (near_of m)) q)), h, ap (λ m. tried_in (near_of m)) (sym q) ∙ w)
 
-  pub step_placed : (k : ℕ) (b : Bool) → m ≡ At k b → (t' : List ℕ) (y : code.Stepped) → Says dev places lay d s t' y (step_at (some k) a d ps s) k → Says dev places lay d s t' y (engine.step a d ps s) (tried d ps s)
-  step_placed k b q t' y z =
+  pub step_placed : (at : Matched) → m ≡ Ok at → (t' : List ℕ) (y : Result code.Stepped Refusal) → Says dev places lay d s t' y (step_at (Some at.place) a d ps s) at.place → Says dev places lay d s t' y (engine.step a d ps s) (tried d ps s)
+  step_placed at q t' y z =
       subst (λ n. Says dev places lay d s t' y (engine.step a d ps s) n) (ap (λ m. tried_in (near_of m)) (sym q) ∙ w)
-      (subst (λ c. Says dev places lay d s t' y c k) (step_by (some k) (ap (λ m. place_in (near_of m)) q)) z)
+      (subst (λ c. Says dev places lay d s t' y c at.place) (step_by (Some at.place) (ap (λ m. place_in (near_of m)) q)) z)
 
 -- the mark that came with the place
-pub asks_at : (ps : Rule) (m : Matched) → Asks ps m → (k : ℕ) (b : Bool) → m ≡ At k b → b ≡ asks_in ps
-asks_at ps m u k b q = subst (Asks ps) q u
+pub asks_at : (ps : Rule) (m : Result Matched ℕ) → Asks ps m → (at : Matched) → m ≡ Ok at → at.asks ≡ asks_in ps
+asks_at ps m u at q = subst (Asks ps) q u

@@ -13,20 +13,17 @@ ghost use Rattle.programs.specs.Programs.{AsksBeside, judged_by};
 ghost use Rattle.step.specs.Step.{StepsAt, Steps};
 
 use device_lookup::Chain;
-use matching::Matched;
 use outcome_target::Layout;
 use programs::Asked;
-use records::Change;
 use refusals::Refusal;
 
-// A key of a rule did not hold; its programs or RESULT keys did not, and the record is left in a layout; the rule left the record in a
-// layout; or it is refused. The number is that of the devices tried.
-#[derive(Drop)]
+// A key of a rule did not hold; its programs or RESULT keys did not, and the record is left in a layout; or the rule left the record in a
+// layout. The number is that of the devices tried.
+#[derive(Clone, Copy)]
 pub enum Stepped {
     Missed(usize),
     Failed(Layout, usize),
     Left(Layout, usize),
-    Refused(Refusal),
 }
 
 // The PROGRAM and RESULT keys of a rule whose other keys hold at a place, if it has any.
@@ -42,12 +39,12 @@ fn judge(
     layout: Layout,
     place: usize,
     asks: bool,
-) -> Asked
+) -> Result<Asked, Refusal>
     requires { RuleRows values.now rows.now from to × Ready dev.now chain t.old layout × (place ≤ chain.len) × (is_some (decode sheet.now) ≡ true) × (asks ≡ asks_in (pairs_from values.now rows.now from (to - from))) }
     ensures { AsksBeside (λ a d s. judged_by a d place (pairs_from values.now rows.now from (to - from)) s) sheet.now dev.now chain t.old layout t.new result }
 {
     if !asks {
-        return Asked::Held(layout);
+        return Ok(Asked::Held(layout));
     }
     programs::ask_rule(values, rows, from, to, t, layout, dev, chain, place, sheet)
 }
@@ -65,21 +62,19 @@ fn step_at(
     layout: Layout,
     place: usize,
     asks: bool,
-) -> Stepped
+) -> Result<Stepped, Refusal>
     requires { RuleRows values.now rows.now from to × Ready dev.now chain t.old layout × (place ≤ chain.len) × (is_some (decode sheet.now) ≡ true) × (asks ≡ asks_in (pairs_from values.now rows.now from (to - from))) }
     ensures { StepsAt values.now rows.now from to dev.now chain sheet.now t.old layout place t.new result }
 {
-    match judge(
+    let asked = judge(
         values, rows, from, to, dev, chain, sheet, t, layout, place, asks,
-    ) {
-        Asked::Held(left) => match assignment::assign_all(
-            values, rows, from, to, t, left, dev, chain, place,
-        ) {
-            Change::Left(left) => Stepped::Left(left, place),
-            Change::Refused(refusal) => Stepped::Refused(refusal),
-        },
-        Asked::Failed(left) => Stepped::Failed(left, place),
-        Asked::Refused(refusal) => Stepped::Refused(refusal),
+    )?;
+    match asked {
+        Asked::Held(held) => {
+            let left = assignment::assign_all(values, rows, from, to, t, held, dev, chain, place)?;
+            Ok(Stepped::Left(left, place))
+        }
+        Asked::Failed(left) => Ok(Stepped::Failed(left, place)),
     }
 }
 
@@ -95,14 +90,24 @@ pub fn step(
     sheet: &[u8],
     t: &mut [u8],
     layout: Layout,
-) -> Stepped
+) -> Result<Stepped, Refusal>
     requires { RuleRows values.now rows.now from to × Ready dev.now chain t.old layout × (is_some (decode sheet.now) ≡ true) }
     ensures { Steps values.now rows.now from to dev.now chain sheet.now t.old layout t.new result }
 {
     match matching::match_rule(values, rows, from, to, first, dev, chain, t, layout) {
-        Matched::At(place, asks) => step_at(
-            values, rows, from, to, dev, chain, sheet, t, layout, place, asks,
+        Ok(matched) => step_at(
+            values,
+            rows,
+            from,
+            to,
+            dev,
+            chain,
+            sheet,
+            t,
+            layout,
+            matched.place,
+            matched.asks,
         ),
-        Matched::Missed(tried) => Stepped::Missed(tried),
+        Err(tried) => Ok(Stepped::Missed(tried)),
     }
 }

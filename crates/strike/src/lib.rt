@@ -2,7 +2,7 @@
 
 #![tactic(auto)]
 
-ghost use Rattle.std.specs.Prelude.{List, ◌≡◌, ℕ, ◌*◌, ◌/◌, ◌≤◌, length, replicate};
+ghost use Rattle.std.specs.Prelude.{List, ◌≡◌, ℕ, ◌+◌, ◌*◌, ◌/◌, ◌≤◌, ◌<◌, length, replicate};
 ghost use Rattle.lists.specs.Checked.{refused as refused_by, line};
 ghost use Rattle.lists.specs.Sizes.{most_rules, most_text};
 ghost use Rattle.refusals.specs.Refusals.{refusal_of};
@@ -27,10 +27,8 @@ pub struct Struck {
 fn clear_numbers(list: &mut [u16])
     ensures { list.new ≡ replicate (length list.old) 0 }
 {
-    let mut i = 0;
-    while i < list.len() {
-        list[i] = 0;
-        i += 1;
+    for n in list.iter_mut() {
+        *n = 0;
     }
 }
 
@@ -58,13 +56,11 @@ fn give_left(target: &mut [u8], list: &mut [u16], left: Left) -> Struck
     requires { (text : List ℕ) × (length text ≤ most_text) × AllLeft text list.old target.old left }
     ensures { (text : List ℕ) (room places : ℕ) → length text ≤ most_text → most_text ≤ room → most_strikes * 2 ≤ places → length target.old ≡ room → length list.old ≡ places → AllLeft text list.old target.old left → struck_of result target.new list.new ≡ whole_strike reader text room places }
 {
-    let used = left.used;
-    let listed = left.listed;
-    splice::clear(&mut target[used..]);
-    clear_numbers(&mut list[listed..]);
+    splice::clear(&mut target[left.used..]);
+    clear_numbers(&mut list[left.listed..]);
     Struck {
-        given: answers::accepted(0, 0, used),
-        count: lines_in(listed),
+        given: answers::accepted(0, 0, left.used),
+        count: lines_in(left.listed),
     }
 }
 
@@ -88,68 +84,31 @@ fn strike_lent(
     give_left(target, list, left)
 }
 
-// The striker with room for the values and the rows that a caller lends.
-fn strike_in(
+// The striker with room for so many bytes of values and so many numbers of rows.
+fn strike_in<const VALUES: usize, const ROWS: usize>(
     text: &[u8],
-    values: &mut [u8],
-    rows: &mut [u16],
     target: &mut [u8],
     list: &mut [u16],
 ) -> Struck
-    requires { (length text.now ≤ most_text) × (most_text ≤ length target.old) × (most_strikes * 2 ≤ length list.old) × Lends (length text.now) values.old rows.old }
+    requires { (length text.now ≤ most_text) × (most_text ≤ length target.old) × (most_strikes * 2 ≤ length list.old) × (length text.now ≤ VALUES) × (VALUES < 65536) × (ROWS < 65536) × ((VALUES + 1) * 4 ≤ ROWS * 7) }
     ensures { struck_of result target.new list.new ≡ whole_strike reader text.now (length target.old) (length list.old) }
 {
+    let mut values = [0u8; VALUES];
+    let mut rows = [0u16; ROWS];
     let mut rules = [0u16; 2048];
     let mut labels = [0u16; 512];
-    strike_lent(text, values, rows, &mut rules, &mut labels, target, list)
+    strike_lent(
+        text,
+        &mut values,
+        &mut rows,
+        &mut rules,
+        &mut labels,
+        target,
+        list,
+    )
 }
 
 // Room by the size of the text, as the run has it.
-fn strike_least(text: &[u8], target: &mut [u8], list: &mut [u16]) -> Struck
-    requires { (length text.now ≤ 2048) × (most_text ≤ length target.old) × (most_strikes * 2 ≤ length list.old) }
-    ensures { struck_of result target.new list.new ≡ whole_strike reader text.now (length target.old) (length list.old) }
-{
-    let mut values = [0u8; 2048];
-    let mut rows = [0u16; 1172];
-    strike_in(text, &mut values, &mut rows, target, list)
-}
-
-fn strike_quarter(text: &[u8], target: &mut [u8], list: &mut [u16]) -> Struck
-    requires { (length text.now ≤ 8192) × (most_text ≤ length target.old) × (most_strikes * 2 ≤ length list.old) }
-    ensures { struck_of result target.new list.new ≡ whole_strike reader text.now (length target.old) (length list.old) }
-{
-    let mut values = [0u8; 8192];
-    let mut rows = [0u16; 4684];
-    strike_in(text, &mut values, &mut rows, target, list)
-}
-
-fn strike_half(text: &[u8], target: &mut [u8], list: &mut [u16]) -> Struck
-    requires { (length text.now ≤ 16384) × (most_text ≤ length target.old) × (most_strikes * 2 ≤ length list.old) }
-    ensures { struck_of result target.new list.new ≡ whole_strike reader text.now (length target.old) (length list.old) }
-{
-    let mut values = [0u8; 16384];
-    let mut rows = [0u16; 9364];
-    strike_in(text, &mut values, &mut rows, target, list)
-}
-
-fn strike_most(text: &[u8], target: &mut [u8], list: &mut [u16]) -> Struck
-    requires { (length text.now ≤ 24576) × (most_text ≤ length target.old) × (most_strikes * 2 ≤ length list.old) }
-    ensures { struck_of result target.new list.new ≡ whole_strike reader text.now (length target.old) (length list.old) }
-{
-    let mut values = [0u8; 24576];
-    let mut rows = [0u16; 14044];
-    strike_in(text, &mut values, &mut rows, target, list)
-}
-
-fn strike_any(text: &[u8], target: &mut [u8], list: &mut [u16]) -> Struck
-    requires { (length text.now ≤ 32768) × (most_text ≤ length target.old) × (most_strikes * 2 ≤ length list.old) }
-    ensures { struck_of result target.new list.new ≡ whole_strike reader text.now (length target.old) (length list.old) }
-{
-    let mut values = [0u8; 32768];
-    let mut rows = [0u16; 18728];
-    strike_in(text, &mut values, &mut rows, target, list)
-}
-
 pub fn strike(text: &[u8], target: &mut [u8], list: &mut [u16]) -> Struck
     ensures { struck_of result target.new list.new ≡ whole_strike reader text.now (length target.old) (length list.old) }
 {
@@ -163,16 +122,16 @@ pub fn strike(text: &[u8], target: &mut [u8], list: &mut [u16]) -> Struck
         return refuse(Refusal::TextLong, target, list);
     }
     if text.len() <= 2048 {
-        return strike_least(text, target, list);
+        return strike_in::<2048, 1172>(text, target, list);
     }
     if text.len() <= 8192 {
-        return strike_quarter(text, target, list);
+        return strike_in::<8192, 4684>(text, target, list);
     }
     if text.len() <= 16384 {
-        return strike_half(text, target, list);
+        return strike_in::<16384, 9364>(text, target, list);
     }
     if text.len() <= 24576 {
-        return strike_most(text, target, list);
+        return strike_in::<24576, 14044>(text, target, list);
     }
-    strike_any(text, target, list)
+    strike_in::<32768, 18728>(text, target, list)
 }

@@ -5,7 +5,7 @@ use mathlib.Core.Path.{◌≡◌, refl, ap, ◌∙◌, subst}
 use mathlib.Core.Logic.{◌⊎◌, inl, inr}
 use mathlib.Core.Bool.{true}
 use mathlib.Core.List.{List, [], ◌∷◌, ◌++◌, map, map-append}
-use mathlib.Core.Option.{Option, none, some}
+use Rattle.std.specs.Prelude.{Option, None, Some}
 use native.Mathlib.Nat.{le_of_suc-le-suc, not-suc-le-zero}
 use native.Mathlib.Omega.{arith}
 use lib.ListN.{length, replicate}
@@ -34,13 +34,13 @@ module _ (R : Reader) where
 
   answered_ground : (r : Rule) (later : Reads) (g : Option (List ℕ)) → goto r ≡ g
       → ((answered_by R g r (rules_in later) ≡ rule r) × Answered R r later) ⊎ ((answered_by R g r (rules_in later) ≡ fault label_missing) × Unanswered R r later)
-  answered_ground r later none e = inl (refl, inl e)
-  answered_ground r later (some g) e = at (goes_to R g (rules_in later)) refl
+  answered_ground r later None e = inl (refl, inl e)
+  answered_ground r later (Some g) e = at (goes_to R g (rules_in later)) refl
     where
       at : (o : Option ℕ) → goes_to R g (rules_in later) ≡ o
           → ((kept_by R (is_some o) r ≡ rule r) × Answered R r later) ⊎ ((kept_by R (is_some o) r ≡ fault label_missing) × Unanswered R r later)
-      at none f = inr (refl, (g, e, f))
-      at (some l) f = inl (refl, inr (g, l, e, f))
+      at None f = inr (refl, (g, e, f))
+      at (Some l) f = inl (refl, inr (g, l, e, f))
 
   pub grounds_all : (k : ℕ) (xs : Reads) → Grounds R k xs (unanswered R (past_most k xs))
   unfolding unanswered past_most
@@ -202,8 +202,8 @@ module _ (R : Reader) where
   past_none (suc k) (line n (rule r) ∷ xs) h = ap (λ (ys : Reads). line n (rule r) ∷ ys) (past_none k xs (le_of_suc-le-suc h))
 
   aimed_kept : (r : Rule) (g : Option (List ℕ)) (ps : List (Placed Rule)) → Aimed (reading_of R) g ps → answered_by R g r ps ≡ rule r
-  aimed_kept r none ps a = refl
-  aimed_kept r (some g) ps (l, e) = rw e
+  aimed_kept r None ps a = refl
+  aimed_kept r (Some g) ps (l, e) = rw e
 
   pub answered-all : (xs : Reads) → Settled (reading_of R) (rules_in xs) → unanswered R xs ≡ xs
   unfolding unanswered rules_in

@@ -4,7 +4,7 @@ use Prim.Native.Nat.{ℕ, zero, suc}
 use mathlib.Core.Path.{◌≡◌, refl, ap}
 use mathlib.Core.Bool.{Bool, true, false}
 use mathlib.Core.List.{List, [], ◌∷◌}
-use mathlib.Core.Option.{Option, none, some}
+use Rattle.std.specs.Prelude.{Option, None, Some}
 use lib.ListN.{take}
 use Rattle.lists.specs.Lists.{pick, is_some}
 use Rattle.lists.specs.Checked.{Placed, line}
@@ -30,8 +30,8 @@ module _ (R : Reader) where
 
   -- a rule has no jump, or one that a later rule answers
   abbrev pub is_kept : Option (List ℕ) → List (Placed Rule) → Bool
-  is_kept none later = true
-  is_kept (some g) later = is_some (goes_to R g later)
+  is_kept None later = true
+  is_kept (Some g) later = is_some (goes_to R g later)
 
   unfoldable pub kept_rules : List (Placed Rule) → List (Placed Rule)
   kept_rules [] = []
@@ -51,5 +51,5 @@ module _ (R : Reader) where
       one false = refl
 
       at : (g : Option (List ℕ)) → rules_in (line n (answered_by R g r (rules_in (unanswered R xs))) ∷ unanswered R xs) ≡ pick (is_kept g (rules_in (unanswered R xs))) (line n r ∷ rules_in (unanswered R xs)) (rules_in (unanswered R xs))
-      at none = refl
-      at (some g) = one (is_some (goes_to R g (rules_in (unanswered R xs))))
+      at None = refl
+      at (Some g) = one (is_some (goes_to R g (rules_in (unanswered R xs))))

@@ -1,7 +1,7 @@
 -- Document 02, Item 12: the text that is left once the lines with faults are struck, and the strikes.
 -- Assumes nothing.
 use Rattle.std.specs.Prelude.{ℕ, zero, suc, ◌-◌, ◌*◌, Bool, true, false, ◌&&◌, List, [], ◌∷◌, ◌++◌, leb, length, replicate}
-use Rattle.std.proofs.Math.Option.{Option, none, some}
+use Rattle.std.specs.Prelude.{Option, None, Some}
 use Rattle.lists.specs.Lists.{is_some}
 use Rattle.lists.specs.Checked.{Checked, refused, ok, ◌>>◌, require, Placed, line}
 use Rattle.lists.specs.Refusal.{Refusal, number, target_short, text_long, rule_extra, label_missing}
@@ -62,8 +62,8 @@ module _ (R : Reader) where
 
   -- a rule with a GOTO is kept if one of the later rules that are kept has its label
   abbrev pub answered_by : Option (List ℕ) → Rule → List (Placed Rule) → LineRead Rule
-  answered_by none r later = rule r
-  answered_by (some g) r later = kept_by (is_some (goes_to R g later)) r
+  answered_by None r later = rule r
+  answered_by (Some g) r later = kept_by (is_some (goes_to R g later)) r
 
   -- 19: the lines behind a rule are judged before it
   unfoldable pub unanswered : List (Placed (LineRead Rule)) → List (Placed (LineRead Rule))

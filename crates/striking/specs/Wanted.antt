@@ -1,7 +1,7 @@
 -- Document 02, Item 12: what is wanted of the striker.
 -- Assumes nothing.
 use Rattle.std.specs.Prelude.{ℕ, zero, suc, ◌≤◌, ◌≡◌, ◌⊎◌, List, [], ◌∷◌, ◌++◌, length, replicate}
-use Rattle.std.proofs.Math.Option.{none, some}
+use Rattle.std.specs.Prelude.{None, Some}
 use Rattle.lists.specs.Checked.{ok, Placed, line}
 use Rattle.lists.specs.Refusal.{rule_extra, label_missing}
 use Rattle.lists.specs.Sizes.{most_text, most_rules}
@@ -18,11 +18,11 @@ module _ (R : Reader) where
 
   -- a rule has a GOTO, and none of the later rules that are kept has its label
   abbrev pub Unanswered : Rule → List (Placed (LineRead Rule)) → Type 0
-  Unanswered r later = (g : List ℕ) × (goto r ≡ some g) × (goes_to R g (rules_in later) ≡ none)
+  Unanswered r later = (g : List ℕ) × (goto r ≡ Some g) × (goes_to R g (rules_in later) ≡ None)
 
   -- a rule has none, or one that such a rule answers
   abbrev pub Answered : Rule → List (Placed (LineRead Rule)) → Type 0
-  Answered r later = (goto r ≡ none) ⊎ ((g : List ℕ) × (l : ℕ) × (goto r ≡ some g) × (goes_to R g (rules_in later) ≡ some l))
+  Answered r later = (goto r ≡ None) ⊎ ((g : List ℕ) × (l : ℕ) × (goto r ≡ Some g) × (goes_to R g (rules_in later) ≡ Some l))
 
   -- with k rules still allowed: a line as it is read, as it is judged in the end, and how the lines behind it are judged
   abbrev pub Ground : ℕ → LineRead Rule → LineRead Rule → List (Placed (LineRead Rule)) → Type 0

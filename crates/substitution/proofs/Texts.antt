@@ -4,7 +4,7 @@ use Prim.Native.Nat.{ℕ, ◌+◌, ◌-◌, ◌≤◌, ◌<◌}
 use mathlib.Core.Path.{◌≡◌, refl, sym, ap, ap₂, ◌∙◌, subst}
 use mathlib.Core.Bool.{Bool, true, false, not, ◌&&◌}
 use mathlib.Core.List.{List, [], ◌∷◌, ◌++◌}
-use mathlib.Core.Option.{Option, none, some}
+use Rattle.std.specs.Prelude.{Option, None, Some}
 use native.Mathlib.Omega.{arith}
 use borrow.Author.Tests.{not-true, le-leb, lt-leb}
 use lib.Dec.{eqb, leb}
@@ -29,18 +29,16 @@ use Rattle.splice.specs.Moves.{stored}
 use Rattle.splice.proofs.Laws.{length-stored}
 use Rattle.engine.specs.Substitute.{Source, inserted, piece_text, text_of, pieces_of, substituted, within, filled}
 use Rattle.insertion.specs.Append.{Placed, Appended}
-use Rattle.insertion.specs.declared.Put.{Put}
-use Rattle.insertion.specs.declared.Put.TheVariants as put
 use Rattle.insertion.proofs.Laws.{appended_both, appended_full}
-use Rattle.substitution.specs.Turns.{is_plain, turn_of, Onward, GoesOn, Turned, Text}
+use Rattle.substitution.specs.Turns.{is_plain, Turned, Text}
 
 -- ---- pieces
 
 module _ (spaceless : Bool) (s : Source) where
   before_text : (p : Piece) (o : Option (List Piece)) → is_some o ≡ true → text_of spaceless s (pieces_of (before p o)) ≡ piece_text spaceless s p ++ text_of spaceless s (pieces_of o)
   unfolding text_of
-  before_text p none h = let z : ◌≡◌ {A = ℕ} 0 1 = cc in absurd (omega arith)
-  before_text p (some ps) h = refl
+  before_text p None h = let z : ◌≡◌ {A = ℕ} 0 1 = cc in absurd (omega arith)
+  before_text p (Some ps) h = refl
 
   -- a piece, and the rest
   next-text : (bs rest : List ℕ) (p : Piece) → pieces bs ≡ before p (pieces rest) → well_formed bs ≡ true
@@ -92,20 +90,18 @@ piece-fault t i r h = let e : is_some (pieces (drop i t)) ≡ false = ap is_some
 
 -- ---- a turn
 
-module _ (spaceless : Bool) (s : Source) (t : List ℕ) (i : ℕ) (l : List ℕ) (used : ℕ) where
-  -- x was put, and stands before the text from n on
-  pub turn-text : (x : List ℕ) (n : ℕ) → substituted spaceless s (drop i t) ≡ x ++ substituted spaceless s (drop n t) → (p : Put) (l' : List ℕ) → Appended x l used p l' → Turned spaceless s t i l used (turn_of p n) l'
-  turn-text x n e (put.Done k) l' q = λ r m z. rw e (appended_both x (substituted spaceless s (drop n t)) l used k l' q r m z)
-  turn-text x n e put.Full l' q = rw e (appended_full x (substituted spaceless s (drop n t)) l used 0 l' q)
+-- x was put, and stands before the text from n on
+module _ (spaceless : Bool) (s : Source) (t : List ℕ) (i : ℕ) (l : List ℕ) (used : ℕ) (x : List ℕ) (n : ℕ) (e : substituted spaceless s (drop i t) ≡ x ++ substituted spaceless s (drop n t)) where
+  pub turn_text : (k : ℕ) (l' : List ℕ) → Appended x l used (Some k) l' → Turned spaceless s t i l used (Some (Some (record { next = n; used = k }))) l'
+  turn_text k l' q = λ r m z. rw e (appended_both x (substituted spaceless s (drop n t)) l used k l' q r m z)
 
-pub turn_on : (t : List ℕ) (i n : ℕ) (x l : List ℕ) (used : ℕ) (p : Put) (l' : List ℕ) → i < n → n ≤ length t → well_formed (drop n t) ≡ true → Appended x l used p l' → GoesOn t i (length l) (turn_of p n)
-turn_on t i n x l used (put.Done k) l' f h w q = record { forward = f; inside = h; sound = w; room = q.room }
-turn_on t i n x l used put.Full l' f h w q = tt
+  pub turn_full : (l' : List ℕ) → Appended x l used None l' → Turned spaceless s t i l used None l'
+  turn_full l' q = rw e (appended_full x (substituted spaceless s (drop n t)) l used 0 l' q)
 
 -- ---- the whole
 
 module _ (spaceless : Bool) (s : Source) (t l : List ℕ) (f : length l ≡ most_substituted) where
-  pub filled-text : (k : ℕ) (l' : List ℕ) → Appended (substituted spaceless s t) l 0 (put.Done k) l' → Text (filled spaceless s t) l k l'
+  pub filled-text : (k : ℕ) (l' : List ℕ) → Appended (substituted spaceless s t) l 0 (Some k) l' → Text (filled spaceless s t) l k l'
   unfolding filled
   filled-text k l' p =
       let x : List ℕ = substituted spaceless s t in
@@ -118,6 +114,6 @@ module _ (spaceless : Bool) (s : Source) (t l : List ℕ) (f : length l ≡ most
         behind = ap (drop k) p.bytes ∙ drop_at x (drop (0 + length x) l) k e ∙ ap (λ (i : ℕ). drop i l) (let g : 0 + length x ≡ k = omega arith in g);
       }
 
-  pub filled_full : (l' : List ℕ) → Appended (substituted spaceless s t) l 0 put.Full l' → filled spaceless s t ≡ refused substitution_long
+  pub filled_full : (l' : List ℕ) → Appended (substituted spaceless s t) l 0 None l' → filled spaceless s t ≡ refused substitution_long
   unfolding filled
   filled_full l' p = rw (lt-leb (length (substituted spaceless s t)) most_substituted (omega (arith, f)), within)

@@ -17,27 +17,19 @@ ghost use Rattle.device_lookup.specs.Lookup.{Standing, OfMember};
 ghost use Rattle.engine.specs.Substitute.{of_matched, attr_at, first_of, piece_text, filled};
 ghost use Rattle.insertion.specs.Append.{asked, Appended};
 ghost use Rattle.substitution.specs.Places.{MatchedStands, OfMatched, Sourced, OfSource, places_in};
-ghost use Rattle.substitution.specs.Turns.{is_plain, turn_of, GoesOn, Turned, Filled};
+ghost use Rattle.substitution.specs.Turns.{is_plain, GoesOn, Turned, Filled};
 
 use bits::BitCursor;
-use device_lookup::{Chain, Value};
-use insertion::Put;
-use pieces::{Piece, PieceRead};
+use device_lookup::Chain;
+use pieces::Piece;
 use rows::Kind;
 
-// Where the matched device begins in the device record, if there is one.
-#[derive(Clone, Copy)]
-pub enum Matched {
-    At(usize),
-    Nothing,
-}
-
-// Where inserted text comes from: the places of the event device and of the matched one in the device record, the place of the properties in
-// the outcome record and how many there are.
+// Where inserted text comes from: the places where the event device and the matched one, if there is one, begin in the device record, the
+// place of the properties in the outcome record and how many there are.
 #[derive(Clone, Copy)]
 pub struct Places {
     pub event: usize,
-    pub matched: Matched,
+    pub matched: Option<usize>,
     pub properties: usize,
     pub count: usize,
 }
@@ -47,28 +39,22 @@ pub fn places_of(chain: Chain, place: usize, properties: usize, count: usize) ->
     ensures { result ≡ places_in chain place properties count }
 {
     let at = chain.at;
-    let event = at[0];
-    if place == 0 {
-        Places {
-            event,
-            matched: Matched::Nothing,
-            properties,
-            count,
-        }
-    } else {
-        Places {
-            event,
-            matched: Matched::At(at[place - 1]),
-            properties,
-            count,
-        }
+    Places {
+        event: at[0],
+        matched: if place == 0 {
+            None
+        } else {
+            Some(at[place - 1])
+        },
+        properties,
+        count,
     }
 }
 
 // ---- what is inserted
 
 // The digits at the end of a device's name.
-fn put_number(dev: &[u8], at: usize, spaceless: bool, out: &mut [u8], used: usize) -> Put
+fn put_number(dev: &[u8], at: usize, spaceless: bool, out: &mut [u8], used: usize) -> Option<usize>
     requires { Standing dev.now at × (used ≤ length out.old) }
     ensures { OfMember dev.now at (λ m. Appended (asked spaceless (end_digits (name_of m))) out.old used result out.new) }
 {
@@ -78,34 +64,41 @@ fn put_number(dev: &[u8], at: usize, spaceless: bool, out: &mut [u8], used: usiz
 }
 
 // The name of the matched device.
-fn put_id(dev: &[u8], matched: Matched, spaceless: bool, out: &mut [u8], used: usize) -> Put
+fn put_id(
+    dev: &[u8],
+    matched: Option<usize>,
+    spaceless: bool,
+    out: &mut [u8],
+    used: usize,
+) -> Option<usize>
     requires { MatchedStands dev.now matched × (used ≤ length out.old) }
     ensures { OfMatched dev.now matched (λ o. Appended (asked spaceless (of_matched o name_of)) out.old used result out.new) }
 {
     match matched {
-        Matched::At(at) => insertion::put_text(out, used, device_view::name_at(dev, at), spaceless),
-        Matched::Nothing => Put::Done(used),
+        Some(at) => insertion::put_text(out, used, device_view::name_at(dev, at), spaceless),
+        None => Some(used),
     }
 }
 
 // The driver of the matched device.
-fn put_driver(dev: &[u8], matched: Matched, spaceless: bool, out: &mut [u8], used: usize) -> Put
+fn put_driver(
+    dev: &[u8],
+    matched: Option<usize>,
+    spaceless: bool,
+    out: &mut [u8],
+    used: usize,
+) -> Option<usize>
     requires { MatchedStands dev.now matched × (used ≤ length out.old) }
     ensures { OfMatched dev.now matched (λ o. Appended (asked spaceless (of_matched o (λ m. m.driver))) out.old used result out.new) }
 {
     match matched {
-        Matched::At(at) => insertion::put_text(
-            out,
-            used,
-            device_view::driver_at(dev, at),
-            spaceless,
-        ),
-        Matched::Nothing => Put::Done(used),
+        Some(at) => insertion::put_text(out, used, device_view::driver_at(dev, at), spaceless),
+        None => Some(used),
     }
 }
 
 // A value without the whitespace at its end.
-fn put_trimmed(value: &[u8], spaceless: bool, out: &mut [u8], used: usize) -> Put
+fn put_trimmed(value: &[u8], spaceless: bool, out: &mut [u8], used: usize) -> Option<usize>
     requires { used ≤ length out.old }
     ensures { Appended (asked spaceless (trim value.now)) out.old used result out.new }
 {
@@ -116,23 +109,23 @@ fn put_trimmed(value: &[u8], spaceless: bool, out: &mut [u8], used: usize) -> Pu
 // An attribute of the matched device.
 fn put_parent_attribute(
     dev: &[u8],
-    matched: Matched,
+    matched: Option<usize>,
     key: &[u8],
     spaceless: bool,
     out: &mut [u8],
     used: usize,
-) -> Put
+) -> Option<usize>
     requires { MatchedStands dev.now matched × (used ≤ length out.old) }
     ensures { OfMatched dev.now matched (λ o. Appended (asked spaceless (trim (or_empty (attr_at key.now o)))) out.old used result out.new) }
 {
     match matched {
-        Matched::At(at) => put_trimmed(
+        Some(at) => put_trimmed(
             device_view::attribute_at(dev, at, key),
             spaceless,
             out,
             used,
         ),
-        Matched::Nothing => Put::Done(used),
+        None => Some(used),
     }
 }
 
@@ -140,23 +133,35 @@ fn put_parent_attribute(
 fn put_attribute(
     dev: &[u8],
     event: usize,
-    matched: Matched,
+    matched: Option<usize>,
     key: &[u8],
     spaceless: bool,
     out: &mut [u8],
     used: usize,
-) -> Put
+) -> Option<usize>
     requires { Standing dev.now event × MatchedStands dev.now matched × (used ≤ length out.old) }
     ensures { OfMember dev.now event (λ m. OfMatched dev.now matched (λ o. Appended (asked spaceless (trim (or_empty (first_of (attr_of key.now m) (attr_at key.now o))))) out.old used result out.new)) }
 {
     match device_view::find_attribute_at(dev, event, key) {
-        Value::At(start, len) => put_trimmed(&dev[start..start + len], spaceless, out, used),
-        Value::Missing => put_parent_attribute(dev, matched, key, spaceless, out, used),
+        Some(found) => put_trimmed(
+            &dev[found.start..found.start + found.len],
+            spaceless,
+            out,
+            used,
+        ),
+        None => put_parent_attribute(dev, matched, key, spaceless, out, used),
     }
 }
 
 // A number of the device record's header in decimal.
-fn put_decimal(dev: &[u8], at: usize, n: usize, spaceless: bool, out: &mut [u8], used: usize) -> Put
+fn put_decimal(
+    dev: &[u8],
+    at: usize,
+    n: usize,
+    spaceless: bool,
+    out: &mut [u8],
+    used: usize,
+) -> Option<usize>
     requires { (n ≤ 20) × (at + n ≤ 56) × (7 ≤ length dev.now) × (used ≤ length out.old) }
     ensures { Appended (asked spaceless (decimal_text (number_at dev.now at n))) out.old used result out.new }
 {
@@ -176,7 +181,7 @@ fn put_property(
     spaceless: bool,
     out: &mut [u8],
     used: usize,
-) -> Put
+) -> Option<usize>
     requires { (at ≤ length rec.now) × Row Kind.Property n (drop at rec.now) × (used ≤ length out.old) }
     ensures { Appended (asked spaceless (part_of (find_in Kind.Property key.now at n (drop at rec.now)) rec.now)) out.old used result out.new }
 {
@@ -193,7 +198,7 @@ fn put_piece(
     spaceless: bool,
     out: &mut [u8],
     used: usize,
-) -> Put
+) -> Option<usize>
     requires { PieceWithin p template.now × Sourced dev.now rec.now from × (used ≤ length out.old) }
     ensures { OfSource dev.now rec.now from (λ s. Appended (piece_text spaceless s (meaning p template.now)) out.old used result out.new) }
 {
@@ -247,13 +252,11 @@ fn put_piece(
 fn is_plain(b: u8) -> bool
     ensures { result ≡ is_plain b }
 {
-    if b == b'$' {
-        return false;
-    }
-    b != b'%'
+    b != b'$' && b != b'%'
 }
 
 // The end of the run of bytes that stand for themselves.
+// By hand, since a run from past the template's end ends where it begins, so a range over the template would need that case beside it.
 fn plain_end(template: &[u8], at: usize) -> usize
     ensures { RunEnd is_plain template.now at result }
 {
@@ -267,24 +270,14 @@ fn plain_end(template: &[u8], at: usize) -> usize
     i
 }
 
-// What was put at a place: the place behind it in the template and where the text ends now; or the template's end; or no room.
-#[derive(Drop)]
-pub enum Turn {
-    Next(usize, usize),
-    End,
-    Full,
+// The place in the template behind what was put, and where the text ends now.
+#[derive(Clone, Copy)]
+pub struct Turn {
+    pub next: usize,
+    pub used: usize,
 }
 
-fn turned(put: Put, next: usize) -> Turn
-    ensures { result ≡ turn_of put next }
-{
-    match put {
-        Put::Done(used) => Turn::Next(next, used),
-        Put::Full => Turn::Full,
-    }
-}
-
-// What stands at a place of a template: a run of bytes that stand for themselves, or one piece.
+// What stands at a place of a template: a run of bytes that stand for themselves, or one piece; or nothing, at its end. Or there is no room.
 fn put_at(
     template: &[u8],
     i: usize,
@@ -294,25 +287,27 @@ fn put_at(
     spaceless: bool,
     out: &mut [u8],
     used: usize,
-) -> Turn
+) -> Option<Option<Turn>>
     requires { (i ≤ length template.now) × (well_formed (drop i template.now) ≡ true) × Sourced dev.now rec.now from × (used ≤ length out.old) }
     ensures { GoesOn template.now i (length out.old) result × OfSource dev.now rec.now from (λ s. Turned spaceless s template.now i out.old used result out.new) }
 {
     let end = plain_end(template, i);
     if i < end {
-        return turned(
-            insertion::put_text(out, used, &template[i..end], false),
-            end,
-        );
+        let used = insertion::put_text(out, used, &template[i..end], false)?;
+        return Some(Some(Turn { next: end, used }));
     }
-    match pieces::piece_at(template, i) {
-        PieceRead::Read(p, next) => turned(
-            put_piece(template, p, dev, rec, from, spaceless, out, used),
-            next,
-        ),
-        PieceRead::End => Turn::End,
-        PieceRead::Fault => Turn::Full,
-    }
+    let found = match pieces::piece_at(template, i) {
+        Ok(found) => found,
+        Err(_) => return None,
+    };
+    let Some(read) = found else {
+        return Some(None);
+    };
+    let put = put_piece(template, read.piece, dev, rec, from, spaceless, out, used)?;
+    Some(Some(Turn {
+        next: read.next,
+        used: put,
+    }))
 }
 
 // A template's text at the front of a buffer of 512 bytes; full is refusal 30.
@@ -323,24 +318,15 @@ pub fn substitute(
     from: Places,
     spaceless: bool,
     out: &mut [u8],
-) -> Put
+) -> Option<usize>
     requires { (well_formed template.now ≡ true) × Sourced dev.now rec.now from × (length out.old ≡ most_substituted) }
     ensures { OfSource dev.now rec.now from (λ s. Filled (filled spaceless s template.now) out.old result out.new) }
 {
     let mut i: usize = 0;
     let mut used: usize = 0;
-    loop {
-        match put_at(template, i, dev, rec, from, spaceless, out, used) {
-            Turn::Next(next, k) => {
-                i = next;
-                used = k;
-            }
-            Turn::End => {
-                return Put::Done(used);
-            }
-            Turn::Full => {
-                return Put::Full;
-            }
-        }
+    while let Some(turn) = put_at(template, i, dev, rec, from, spaceless, out, used)? {
+        i = turn.next;
+        used = turn.used;
     }
+    Some(used)
 }

@@ -1,14 +1,20 @@
 -- The rules of a table one by one, and their rows.
 -- Assumes nothing.
-use Prim.Native.Nat.{ℕ, zero, suc, ◌+◌, ◌-◌, ◌≤◌, ◌<◌}
-use mathlib.Core.Path.{◌≡◌, ap, ◌∙◌}
+use Prim.Native.Nat.{ℕ, zero, suc, ◌+◌, ◌-◌, ◌*◌, ◌≤◌, ◌<◌}
+use mathlib.Core.Path.{◌≡◌, refl, ap, ◌∙◌}
+use mathlib.Core.Bool.{true, false}
 use mathlib.Core.List.{List, [], ◌∷◌, ◌++◌}
 use native.Mathlib.Numerals.{add-one}
 use native.Mathlib.Omega.{arith}
 use Rattle.lists.specs.Checked.{Placed}
 use Rattle.lists.proofs.Moves.{ap_at}
 use Rattle.rules.specs.Pair.{Rule}
-use Rattle.table.specs.Table.{rule_at, rules_from, Rows, Segment}
+use Rattle.std.specs.Prelude.{Option, None, Some}
+use Rattle.std.specs.Prelude as std
+use borrow.Author.Tests.{ne_eqb}
+use lib.ListN.{length, get_or}
+use Rattle.table.specs.Table.{pair_at, rule_at, rules_from, Rows, Segment}
+use Rattle.table.specs.Rules.{value_in, mark_of}
 
 module _ (v r t : List ℕ) where
   pub rules-step : (i n : ℕ) → i < n → rules_from v r t i (n - i) ≡ rule_at v r t i ∷ rules_from v r t (i + 1) (n - (i + 1))
@@ -39,3 +45,22 @@ segment v r m used n w h = record {
       let x = w.within i (omega arith) in
       record { argument = x.argument; value = x.value; within = omega (arith, x.within, w.filled); plain = x.plain };
 }
+
+-- where the value of a row lies
+pub row-places : (v r : List ℕ) (m used : ℕ) → Rows v r m used → (row : ℕ) → row < m
+    → (row * 4 + 4 ≤ length r) × (get_or r (row * 4 + 2) 0 ≤ get_or r (row * 4 + 3) 0) × (get_or r (row * 4 + 3) 0 ≤ length v)
+row-places v r m used w row h = let b = w.within row h in (omega (arith, w.room), b.value, omega (arith, b.within, w.filled))
+
+pub value-row : (v r : List ℕ) (row : ℕ) → value_in v r (row + 1) ≡ Some (pair_at v r row).value
+value-row v r row =
+    let d : row + 1 ≡ 0 → ⊥ = λ e. omega arith in
+    rw (ne_eqb (row + 1) 0 d) (ap_at (λ i. Some (pair_at v r i).value) (row + 1 - 1) row (omega arith))
+
+-- none is noted as 0, and a row as another number
+pub none-mark : (o : Option ℕ) → std.is_some o ≡ false → mark_of o ≡ 0
+none-mark None e = refl
+none-mark (Some k) e = let z : ◌≡◌ {A = ℕ} 0 1 = cc in absurd (omega arith)
+
+pub some-mark : (o : Option ℕ) → std.is_some o ≡ true → 0 < mark_of o
+some-mark None e = let z : ◌≡◌ {A = ℕ} 0 1 = cc in absurd (omega arith)
+some-mark (Some k) e = omega arith

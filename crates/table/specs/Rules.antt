@@ -1,14 +1,19 @@
 -- The rules of a table that was read, with the rows of their labels and jumps.
 -- Assumes nothing.
 use Rattle.std.specs.Prelude.{ℕ, ◌+◌, ◌-◌, ◌*◌, ◌≤◌, ◌<◌, ◌≡◌, List, eqb, get_or}
-use Rattle.std.proofs.Math.Option.{Option, none, some}
+use Rattle.std.specs.Prelude.{Option, None, Some}
 use Rattle.lists.specs.Lists.{pick}
 use Rattle.rules.specs.Pair.{Rule, label_of, goto_of}
 use Rattle.table.specs.Table.{pair_at, pairs_from, Rows}
 
 -- the value of the row before this number; 0 is no row
 abbrev pub value_in : List ℕ → List ℕ → ℕ → Option (List ℕ)
-value_in v r m = pick (eqb m 0) none (some (pair_at v r (m - 1)).value)
+value_in v r m = pick (eqb m 0) None (Some (pair_at v r (m - 1)).value)
+
+-- as a table notes a row: one more than it, or 0 for none
+abbrev pub mark_of : Option ℕ → ℕ
+mark_of None = 0
+mark_of (Some k) = k + 1
 
 -- the pairs of the i-th rule
 abbrev pub pairs_of : List ℕ → List ℕ → List ℕ → ℕ → Rule

@@ -9,15 +9,16 @@ ghost use Rattle.glob.specs.Plain.{PlainIf};
 ghost use Rattle.pairs.specs.Answers.{unescaped, pair_of};
 ghost use Rattle.pairs.specs.Bounds.{ValueAt, PairIn};
 ghost use Rattle.splice.specs.Moves.{stored};
-ghost use Rattle.table.specs.Table.{Got};
+ghost use Rattle.table.specs.Table.{pair_at, Got};
 ghost use Rattle.table.specs.Puts.{Four, Added, PairPut};
+ghost use Rattle.table.specs.Rules.{mark_of};
 
 use keys::{Key, Operator};
 use pairs::Pair;
 
 // A pair of the table: the places of its argument, from start to middle, and of its value, from middle to end. A match value that is marked as
 // plain is.
-#[derive(Drop)]
+#[derive(Clone, Copy)]
 pub struct Entry {
     pub key: Key,
     pub operator: Operator,
@@ -36,10 +37,26 @@ pub fn short(n: usize) -> u16
     n as u16
 }
 
-pub fn long(n: u16) -> usize
-    ensures { (result ≡ n) × (result < 65536) }
+// A row or a rule as a table notes it: one more than its place, or 0 for none.
+pub fn mark(place: Option<usize>) -> u16
+    requires { mark_of place < 65536 }
+    ensures { result ≡ mark_of place }
 {
-    n as usize
+    match place {
+        Some(k) => short(k + 1),
+        None => 0,
+    }
+}
+
+// The row or the rule that is noted at a place.
+pub fn place_at(l: &[u16], at: usize) -> Option<usize>
+    requires { at < length l.now }
+    ensures { (mark_of result ≡ get_or l.now at 0) × (mark_of result < 65536) }
+{
+    match number_at(l, at) {
+        0 => None,
+        n => Some(n - 1),
+    }
 }
 
 // The number at a place.
@@ -47,7 +64,7 @@ pub fn number_at(l: &[u16], at: usize) -> usize
     requires { at < length l.now }
     ensures { (result ≡ get_or l.now at 0) × (result < 65536) }
 {
-    long(l[at])
+    usize::from(l[at])
 }
 
 pub fn put_four(l: &mut [u16], at: usize, a: usize, b: usize, c: usize, d: usize)
@@ -85,94 +102,66 @@ pub fn pair_at(rows: &[u16], i: usize) -> Entry
     }
 }
 
+// The value of the pair of a row.
+pub fn value_of<'a>(values: &'a [u8], rows: &[u16], i: usize) -> &'a [u8]
+    requires { (i * 4 + 4 ≤ length rows.now) × (get_or rows.now (i * 4 + 2) 0 ≤ get_or rows.now (i * 4 + 3) 0) × (get_or rows.now (i * 4 + 3) 0 ≤ length values.now) }
+    ensures { result.now ≡ (pair_at values.now rows.now i).value }
+{
+    let middle = number_at(rows, i * 4 + 2);
+    let end = number_at(rows, i * 4 + 3);
+    &values[middle..end]
+}
+
 // ---- bytes
 
-// A group that is copied by way of an array of its own is moved at once.
-
-// Puts the 8 bytes of a line from a place on.
-fn eight_bytes(values: &mut [u8], at: usize, line: &[u8], from: usize)
-    requires { (from + 8 ≤ length line.now) × (at + 8 ≤ length values.old) }
-    ensures { values.new ≡ stored values.old at (part line.now from (from + 8)) }
+// Puts the N bytes of a line from a place on: by way of an array of their own they are moved at once.
+fn put_group<const N: usize>(values: &mut [u8], at: usize, line: &[u8], from: usize)
+    requires { (from + N ≤ length line.now) × (at + N ≤ length values.old) }
+    ensures { values.new ≡ stored values.old at (part line.now from (from + N)) }
 {
-    let mut group = [0u8; 8];
-    splice::store(&mut group, 0, &line[from..from + 8]);
+    let mut group = [0u8; N];
+    splice::store(&mut group, 0, &line[from..from + N]);
     splice::store(values, at, &group);
 }
 
-// Puts the 4 bytes of a line from a place on.
-fn four_bytes(values: &mut [u8], at: usize, line: &[u8], from: usize)
-    requires { (from + 4 ≤ length line.now) × (at + 4 ≤ length values.old) }
-    ensures { values.new ≡ stored values.old at (part line.now from (from + 4)) }
-{
-    let mut group = [0u8; 4];
-    splice::store(&mut group, 0, &line[from..from + 4]);
-    splice::store(values, at, &group);
-}
-
-// Puts the 2 bytes of a line from a place on.
-fn two_bytes(values: &mut [u8], at: usize, line: &[u8], from: usize)
-    requires { (from + 2 ≤ length line.now) × (at + 2 ≤ length values.old) }
-    ensures { values.new ≡ stored values.old at (part line.now from (from + 2)) }
-{
-    let mut group = [0u8; 2];
-    splice::store(&mut group, 0, &line[from..from + 2]);
-    splice::store(values, at, &group);
-}
-
-// Puts the byte of a line at a place.
-fn one_byte(values: &mut [u8], at: usize, line: &[u8], from: usize)
-    requires { (from + 1 ≤ length line.now) × (at + 1 ≤ length values.old) }
-    ensures { values.new ≡ stored values.old at (part line.now from (from + 1)) }
-{
-    let mut group = [0u8; 1];
-    splice::store(&mut group, 0, &line[from..from + 1]);
-    splice::store(values, at, &group);
-}
-
-// Puts less than 4 bytes.
-fn put_short(values: &mut [u8], at: usize, line: &[u8], start: usize, end: usize)
-    requires { (start ≤ end) × (end ≤ length line.now) × (at + (end - start) ≤ length values.old) × (end - start < 4) }
+// Puts N to 2 N bytes of a line: their first N and their last N, which may overlap.
+fn put_ends<const N: usize>(values: &mut [u8], at: usize, line: &[u8], start: usize, end: usize)
+    requires { (start ≤ end) × (end ≤ length line.now) × (at + (end - start) ≤ length values.old) × (N ≤ end - start) × (end - start ≤ N + N) }
     ensures { Added (part line.now start end) at values.old values.new }
 {
-    let len = end - start;
-    if len == 0 {
-        return;
-    }
-    if len == 1 {
-        one_byte(values, at, line, start);
-        return;
-    }
-    two_bytes(values, at, line, start);
-    two_bytes(values, at + (len - 2), line, start + (len - 2));
+    let last = end - start - N;
+    put_group::<N>(values, at, line, start);
+    put_group::<N>(values, at + last, line, start + last);
 }
 
-// Puts the bytes of a line from start to end, in groups of which the last may overlap the one before.
+// Puts more than 8 bytes of a line, in groups of which the last may overlap the one before.
+fn put_groups(values: &mut [u8], at: usize, line: &[u8], start: usize, end: usize)
+    requires { (start ≤ end) × (end ≤ length line.now) × (at + (end - start) ≤ length values.old) × (8 < end - start) }
+    ensures { Added (part line.now start end) at values.old values.new }
+{
+    let last = end - start - 8;
+    let mut i: usize = 0;
+    // By hand, since the place moves on by a group.
+    while i < last {
+        put_group::<8>(values, at + i, line, start + i);
+        i += 8;
+    }
+    put_group::<8>(values, at + last, line, start + last);
+}
+
+// Puts the bytes of a line from start to end.
 fn put_bytes(values: &mut [u8], at: usize, line: &[u8], start: usize, end: usize)
     requires { (start ≤ end) × (end ≤ length line.now) × (at + (end - start) ≤ length values.old) }
     ensures { Added (part line.now start end) at values.old values.new }
 {
-    let len = end - start;
-    if len < 4 {
-        put_short(values, at, line, start, end);
-        return;
+    match end - start {
+        0 => {}
+        1 => put_ends::<1>(values, at, line, start, end),
+        2..=3 => put_ends::<2>(values, at, line, start, end),
+        4..=7 => put_ends::<4>(values, at, line, start, end),
+        8..=16 => put_ends::<8>(values, at, line, start, end),
+        _ => put_groups(values, at, line, start, end),
     }
-    if len < 8 {
-        four_bytes(values, at, line, start);
-        four_bytes(values, at + (len - 4), line, start + (len - 4));
-        return;
-    }
-    if len <= 16 {
-        eight_bytes(values, at, line, start);
-        eight_bytes(values, at + (len - 8), line, start + (len - 8));
-        return;
-    }
-    let last = len - 8;
-    let mut i: usize = 0;
-    while i < last {
-        eight_bytes(values, at + i, line, start + i);
-        i += 8;
-    }
-    eight_bytes(values, at + last, line, start + last);
 }
 
 // Puts a value as written, of which len bytes are left after unescaping.
@@ -208,23 +197,13 @@ pub fn put_pair(
     requires { PairIn line.now pair × (used + (pair.arg_end - pair.arg_start) + pair.len ≤ length values.old) × (length values.old < 65536) × (n * 4 + 4 ≤ length rows.old) × PlainIf plain (pair_of line.now pair).value }
     ensures { PairPut (pair_of line.now pair) n used result values.old rows.old values.new rows.new }
 {
-    let key = pair.key;
-    let operator = pair.operator;
-    let arg_start = pair.arg_start;
-    let arg_end = pair.arg_end;
-    let middle = used + (arg_end - arg_start);
+    let kind = kinds::kind_of(pair.key, pair.operator, plain);
+    let middle = used + (pair.arg_end - pair.arg_start);
     let end = middle + pair.len;
-    put_bytes(values, used, line, arg_start, arg_end);
+    put_bytes(values, used, line, pair.arg_start, pair.arg_end);
     put_value(
         values, middle, line, pair.coded, pair.start, pair.end, pair.len,
     );
-    put_four(
-        rows,
-        n * 4,
-        kinds::kind_of(key, operator, plain),
-        used,
-        middle,
-        end,
-    );
+    put_four(rows, n * 4, kind, used, middle, end);
     end
 }

@@ -5,7 +5,7 @@ use Prim.Native.String.{String}
 use mathlib.Core.Path.{◌≡◌, refl}
 use mathlib.Core.Bool.{Bool, true, false, not}
 use mathlib.Core.List.{List, [], ◌∷◌, ◌++◌}
-use mathlib.Core.Option.{Option, none, some}
+use Rattle.std.specs.Prelude.{Option, None, Some}
 use lib.ListN.{replicate}
 use Rattle.lists.specs.Lists.{cat}
 use Rattle.lists.specs.Bytes.{same_bytes, starts}
@@ -33,8 +33,8 @@ word dollar = bytes "<dollar>"
 word percent = bytes "<percent>"
 
 abbrev reads_as : Option (List Piece) → List ℕ → Bool
-reads_as none t = false
-reads_as (some ps) t = same_bytes (cat word ps) t
+reads_as None t = false
+reads_as (Some ps) t = same_bytes (cat word ps) t
 
 pub data Case : Type 0 where
   -- a name and its number

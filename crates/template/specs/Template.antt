@@ -1,7 +1,7 @@
 -- Document 01, Patterns and templates: the pieces of a template, and what is well formed.
 -- Assumes nothing.
 use Rattle.std.specs.Prelude.{ℕ, ◌+◌, Bool, true, false, List, [], ◌∷◌, eqb, length, drop}
-use Rattle.std.proofs.Math.Option.{Option, none, some}
+use Rattle.std.specs.Prelude.{Option, None, Some}
 use Rattle.lists.specs.Lists.{pick, is_some}
 use Rattle.lists.specs.Bytes.{starts}
 use Rattle.lists.specs.Runs.{Part}
@@ -65,30 +65,30 @@ letters =
 
 -- the first name of a table that begins a text, whatever follows it there
 unfoldable pub name_in : List Named → List ℕ → Option Named
-name_in [] bs = none
-name_in (n ∷ ns) bs = pick (starts n.name bs) (some n) (name_in ns bs)
+name_in [] bs = None
+name_in (n ∷ ns) bs = pick (starts n.name bs) (Some n) (name_in ns bs)
 
 -- ---- a text in braces
 
 abbrev pub inside : Option (Part (List ℕ)) → Option (List ℕ)
-inside none = none
-inside (some p) = some p.value
+inside None = None
+inside (Some p) = Some p.value
 
 abbrev pub text_by : Bool → List ℕ → Option (List ℕ)
 text_by true bs = inside (in_braces bs)
-text_by false bs = none
+text_by false bs = None
 
 -- 1 to 64 bytes between the brace that begins a list and the next closing one
 abbrev pub text_in : List ℕ → Option (List ℕ)
-text_in [] = none
+text_in [] = None
 text_in (b ∷ bs) = text_by (eqb b 123) bs
 
 -- ---- the pieces
 
 -- a text and its braces, behind n bytes
 abbrev pub with_text : (List ℕ → Piece) → ℕ → Option (List ℕ) → Option (Item Piece)
-with_text f n none = none
-with_text f n (some text) = some (record { value = f text; more = n + length text + 2 })
+with_text f n None = None
+with_text f n (Some text) = Some (record { value = f text; more = n + length text + 2 })
 
 abbrev pub starts_brace : List ℕ → Bool
 starts_brace [] = false
@@ -96,13 +96,13 @@ starts_brace (b ∷ bs) = eqb b 123
 
 -- a form behind n bytes of its name
 abbrev pub formed : Form → ℕ → List ℕ → Option (Item Piece)
-formed (plain p) n rest = some (record { value = p; more = n })
-formed (whole p) n rest = pick (starts_brace rest) none (some (record { value = p; more = n }))
+formed (plain p) n rest = Some (record { value = p; more = n })
+formed (whole p) n rest = pick (starts_brace rest) None (Some (record { value = p; more = n }))
 formed (braced f) n rest = with_text f n (text_in rest)
 
 abbrev pub named_piece : Option Named → List ℕ → Option (Item Piece)
-named_piece none bs = none
-named_piece (some n) bs = formed n.form (length n.name) (drop (length n.name) bs)
+named_piece None bs = None
+named_piece (Some n) bs = formed n.form (length n.name) (drop (length n.name) bs)
 
 pub data Sign : Type 0 where
   dollar_sign percent_sign no_sign : Sign
@@ -113,7 +113,7 @@ sign_of b = pick (eqb b 36) dollar_sign (pick (eqb b 37) percent_sign no_sign)
 abbrev pub piece_by : Sign → ℕ → List ℕ → Option (Item Piece)
 piece_by dollar_sign b bs = named_piece (name_in names bs) bs
 piece_by percent_sign b bs = named_piece (name_in letters bs) bs
-piece_by no_sign b bs = some (record { value = written b; more = 0 })
+piece_by no_sign b bs = Some (record { value = written b; more = 0 })
 
 abbrev pub piece_at : ℕ → List ℕ → Option (Item Piece)
 piece_at b bs = piece_by (sign_of b) b bs

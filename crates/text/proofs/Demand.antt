@@ -3,7 +3,7 @@
 use Prim.Native.Nat.{ℕ, suc, ◌+◌, ◌≤◌}
 use mathlib.Core.Path.{◌≡◌, sym, ap, subst}
 use mathlib.Core.List.{List}
-use mathlib.Core.Option.{some}
+use Rattle.std.specs.Prelude.{Some}
 use lib.ListN.{length}
 use Rattle.lists.specs.Lists.{All}
 use Rattle.lists.specs.Bytes.{Bytes}
@@ -24,7 +24,7 @@ module _ (E : Engine) (L : Laws E) where
   -- the pieces of a text that no jump crosses run as the text does
   pieces-run : (t : List ℕ) (rs : List (Placed E.reader.Rule)) → read_text E.reader t ≡ ok rs
       → (js : List Job) → Cuttable (texts js) → join (texts js) ≡ t → NoCrossing (cuts 0 (texts js)) (jumps E rs)
-      → (dev out : List ℕ) {d : E.Device} {s : E.State} → Bytes out → E.device dev ≡ some d → E.decode d out ≡ some s
+      → (dev out : List ℕ) {d : E.Device} {s : E.State} → Bytes out → E.device dev ≡ Some d → E.decode d out ≡ Some s
       → All (λ (j : Job). fullest_outcome ≤ j.room) js → (room : ℕ) → fullest_outcome ≤ room
       → given (run E t dev out room) ≡ run_all E dev 0 0 0 out js
   pieces-run t rs e js j q k dev out by is at full room r =

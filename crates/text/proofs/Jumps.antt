@@ -4,7 +4,8 @@ use Prim.Native.Nat.{ℕ, ◌+◌, ◌≤◌, ◌<◌}
 use mathlib.Core.Path.{◌≡◌, refl, sym, ◌∙◌, ap, subst}
 use mathlib.Core.Bool.{Bool, true, false}
 use mathlib.Core.List.{List, [], ◌∷◌, ◌++◌}
-use mathlib.Core.Option.{Option, none, some, none-ne-some, some-injective}
+use Rattle.std.specs.Prelude.{Option, None, Some}
+use Rattle.std.proofs.lemmas.Option.{none-some, same_Some}
 use native.Mathlib.Nat.{zero-add, add_assoc}
 use native.Mathlib.Omega.{arith}
 use Rattle.lists.specs.Lists.{pick, All}
@@ -15,25 +16,25 @@ use Rattle.text.specs.Joined.{Jump, Crosses, NoCrossing, jumps, jumps_of, jump_f
 use Rattle.text.proofs.Settle.{Aimed, Settled, goes_to-left}
 use Rattle.lists.proofs.Lists.{All-map}
 
-pick_at : (P : ℕ → Type 0) (b : Bool) (n l : ℕ) (o : Option ℕ) → P n → (o ≡ some l → P l) → pick b (some n) o ≡ some l → P l
-pick_at P true n l o h f e = subst P (some-injective n l e) h
+pick_at : (P : ℕ → Type 0) (b : Bool) (n l : ℕ) (o : Option ℕ) → P n → (o ≡ Some l → P l) → pick b (Some n) o ≡ Some l → P l
+pick_at P true n l o h f e = subst P (same_Some n l e) h
 pick_at P false n l o h f e = f e
 
-pick-none : (b : Bool) (n : ℕ) (o p q : Option ℕ) → (o ≡ none → p ≡ q) → pick b (some n) o ≡ none → pick b (some n) p ≡ q
-pick-none true n o p q f e = absurd (none-ne-some n (sym e))
+pick-none : (b : Bool) (n : ℕ) (o p q : Option ℕ) → (o ≡ None → p ≡ q) → pick b (Some n) o ≡ None → pick b (Some n) p ≡ q
+pick-none true n o p q f e = absurd (none-some n (sym e))
 pick-none false n o p q f e = f e
 
 module _ (E : Engine) where
   open E.reader use {Rule, label, goto}
 
   -- a jump goes to the line of one of the rules
-  pub goes_to-line : (P : ℕ → Type 0) (g : List ℕ) (ps : List (Placed Rule)) (l : ℕ) → All (λ (p : Placed Rule). P (line_of p)) ps → goes_to E.reader g ps ≡ some l → P l
+  pub goes_to-line : (P : ℕ → Type 0) (g : List ℕ) (ps : List (Placed Rule)) (l : ℕ) → All (λ (p : Placed Rule). P (line_of p)) ps → goes_to E.reader g ps ≡ Some l → P l
   unfolding goes_to
-  goes_to-line P g [] l h e = absurd (none-ne-some l e)
+  goes_to-line P g [] l h e = absurd (none-some l e)
   goes_to-line P g (line n r ∷ ps) l (h, hs) e = pick_at P (has_label g (label r)) n l (goes_to E.reader g ps) h (goes_to-line P g ps l hs) e
 
   -- a jump that finds nothing before the seam goes past it
-  pub goes_to-right : (g : List ℕ) (xs ys : List (Placed Rule)) → goes_to E.reader g xs ≡ none → goes_to E.reader g (xs ++ ys) ≡ goes_to E.reader g ys
+  pub goes_to-right : (g : List ℕ) (xs ys : List (Placed Rule)) → goes_to E.reader g xs ≡ None → goes_to E.reader g (xs ++ ys) ≡ goes_to E.reader g ys
   unfolding goes_to
   goes_to-right g [] ys e = refl
   goes_to-right g (line n r ∷ xs) ys e =
@@ -45,12 +46,12 @@ module _ (E : Engine) where
   jumps_into (line n r ∷ xs) ys = jumps_of E n (goto r) (xs ++ ys) (jumps_into xs ys)
 
   jump_from-append : (n : ℕ) (o : Option ℕ) (a b : List Jump) → jump_from E n o (a ++ b) ≡ jump_from E n o a ++ b
-  jump_from-append n none a b = refl
-  jump_from-append n (some l) a b = refl
+  jump_from-append n None a b = refl
+  jump_from-append n (Some l) a b = refl
 
   jumps_of-append : (n : ℕ) (g : Option (List ℕ)) (ps : List (Placed Rule)) (a b : List Jump) → jumps_of E n g ps (a ++ b) ≡ jumps_of E n g ps a ++ b
-  jumps_of-append n none ps a b = refl
-  jumps_of-append n (some g) ps a b = jump_from-append n (goes_to E.reader g ps) a b
+  jumps_of-append n None ps a b = refl
+  jumps_of-append n (Some g) ps a b = jump_from-append n (goes_to E.reader g ps) a b
 
   pub jumps-append : (xs ys : List (Placed Rule)) → jumps E (xs ++ ys) ≡ jumps_into xs ys ++ jumps E ys
   unfolding jumps jumps_into
@@ -60,12 +61,12 @@ module _ (E : Engine) where
       ∙ jumps_of-append n (goto r) (xs ++ ys) (jumps_into xs ys) (jumps E ys)
 
   jump_from-all : (P : Jump → Type 0) (n : ℕ) (o : Option ℕ) (js : List Jump) → ((l : ℕ) → P (record { from = n; to = l })) → All P js → All P (jump_from E n o js)
-  jump_from-all P n none js f h = h
-  jump_from-all P n (some l) js f h = (f l, h)
+  jump_from-all P n None js f h = h
+  jump_from-all P n (Some l) js f h = (f l, h)
 
   jumps_of-all : (P : Jump → Type 0) (n : ℕ) (g : Option (List ℕ)) (ps : List (Placed Rule)) (js : List Jump) → ((l : ℕ) → P (record { from = n; to = l })) → All P js → All P (jumps_of E n g ps js)
-  jumps_of-all P n none ps js f h = h
-  jumps_of-all P n (some g) ps js f h = jump_from-all P n (goes_to E.reader g ps) js f h
+  jumps_of-all P n None ps js f h = h
+  jumps_of-all P n (Some g) ps js f h = jump_from-all P n (goes_to E.reader g ps) js f h
 
   pub jumps-above : (c : ℕ) (ps : List (Placed Rule)) → All (λ (p : Placed Rule). c < line_of p) ps → All (λ (j : Jump). c < j.from) (jumps E ps)
   unfolding jumps
@@ -75,16 +76,16 @@ module _ (E : Engine) where
   module _ (c : ℕ) (ys : List (Placed Rule)) where
     module _ (above : All (λ (p : Placed Rule). c < line_of p) ys) (cs : List ℕ) where
       -- no jump crosses the cut: each finds its label before it
-      aimed_found : (n : ℕ) (g : List ℕ) (xs : List (Placed Rule)) (js : List Jump) (l : ℕ) (o : Option ℕ) → n ≤ c → goes_to E.reader g xs ≡ o → goes_to E.reader g (xs ++ ys) ≡ some l
-          → NoCrossing (c ∷ cs) (record { from = n; to = l } ∷ js) → Aimed E (some g) xs
-      aimed_found n g xs js l (some m) h e f k = (m, e)
-      aimed_found n g xs js l none h e f k =
+      aimed_found : (n : ℕ) (g : List ℕ) (xs : List (Placed Rule)) (js : List Jump) (l : ℕ) (o : Option ℕ) → n ≤ c → goes_to E.reader g xs ≡ o → goes_to E.reader g (xs ++ ys) ≡ Some l
+          → NoCrossing (c ∷ cs) (record { from = n; to = l } ∷ js) → Aimed E (Some g) xs
+      aimed_found n g xs js l (Some m) h e f k = (m, e)
+      aimed_found n g xs js l None h e f k =
           absurd (k.0.0 (h, goes_to-line (λ (z : ℕ). c < z) g ys l above (sym (goes_to-right g xs ys e) ∙ f)))
 
       aimed_here : (n : ℕ) (g : Option (List ℕ)) (xs : List (Placed Rule)) (js : List Jump) → n ≤ c → Aimed E g (xs ++ ys)
           → NoCrossing (c ∷ cs) (jumps_of E n g (xs ++ ys) js) → Aimed E g xs × NoCrossing (c ∷ cs) js
-      aimed_here n none xs js h a k = (tt, k)
-      aimed_here n (some g) xs js h (l, e) k =
+      aimed_here n None xs js h a k = (tt, k)
+      aimed_here n (Some g) xs js h (l, e) k =
           let k' = rw e at k in (aimed_found n g xs js l (goes_to E.reader g xs) h refl e k', k'.1)
 
       pub settled_before : (xs : List (Placed Rule)) → All (λ (p : Placed Rule). line_of p ≤ c) xs → Settled E (xs ++ ys) → NoCrossing (c ∷ cs) (jumps_into xs ys) → Settled E xs
@@ -100,8 +101,8 @@ module _ (E : Engine) where
 
       uncrossed_here : (n : ℕ) (g : Option (List ℕ)) (xs : List (Placed Rule)) (js : List Jump) → All (λ (p : Placed Rule). line_of p ≤ c) xs → Aimed E g xs
           → NoCrossing cs js → NoCrossing cs (jumps_of E n g (xs ++ ys) js)
-      uncrossed_here n none xs js h a k = k
-      uncrossed_here n (some g) xs js h (l, e) k =
+      uncrossed_here n None xs js h a k = k
+      uncrossed_here n (Some g) xs js h (l, e) k =
           rw (goes_to-left E g xs ys l e) (uncrossed n l (goes_to-line (λ (z : ℕ). z ≤ c) g xs l h e), k)
 
       pub none_crosses : (xs : List (Placed Rule)) → All (λ (p : Placed Rule). line_of p ≤ c) xs → Settled E xs → NoCrossing cs (jumps_into xs ys)

@@ -4,7 +4,7 @@ use Prim.Native.Nat.{ℕ, ◌+◌}
 use mathlib.Core.Path.{◌≡◌, refl, sym, ◌∙◌, ap}
 use mathlib.Core.Bool.{Bool, true, false}
 use mathlib.Core.List.{List, [], ◌∷◌, ◌++◌}
-use mathlib.Core.Option.{Option}
+use Rattle.std.specs.Prelude.{Option}
 use native.Mathlib.Nat.{zero-add, add_assoc}
 use Rattle.lists.specs.Checked.{Checked, refused, ok, ◌>>=◌, Placed, line, moved}
 use Rattle.lists.specs.Refusal.{Refusal}

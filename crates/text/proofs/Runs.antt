@@ -3,7 +3,7 @@
 use Prim.Native.Nat.{ℕ, suc, ◌+◌, ◌-◌, ◌≤◌}
 use mathlib.Core.Path.{◌≡◌, refl, sym, ◌∙◌, ap}
 use mathlib.Core.List.{List, [], ◌∷◌, ◌++◌, append-nil}
-use mathlib.Core.Option.{some}
+use Rattle.std.specs.Prelude.{Some}
 use lib.ListN.{length, replicate}
 use lib.Seq.{take-append_seam}
 use Rattle.lists.specs.Bytes.{Bytes}
@@ -70,12 +70,12 @@ module _ (E : Engine) where
   given-answer room (ok h) = rw (take-append_seam (encode h.state) (replicate (room - length (encode h.state)) 0))
 
   -- of an accepted text, device and record, and with full room, a run gives what running its rules gives
-  run_accepted : (t dev out : List ℕ) (room : ℕ) {d : Device} {s : State} → Parts E t → device dev ≡ some d → decode d out ≡ some s → fullest_outcome ≤ room
+  run_accepted : (t dev out : List ℕ) (room : ℕ) {d : Device} {s : State} → Parts E t → device dev ≡ Some d → decode d out ≡ Some s → fullest_outcome ≤ room
       → run_checked E t dev out room ≡ run_from E d next s (rules_of E.reader t)
   unfolding run_checked
   run_accepted t dev out room {d} {s} h e f r = rw (le-leb fullest_outcome room r, read_ok E t h, e, f)
 
-  module _ (L : Laws E) (dev : List ℕ) (d : Device) (is : device dev ≡ some d) where
+  module _ (L : Laws E) (dev : List ℕ) (d : Device) (is : device dev ≡ Some d) where
     text-sound : (t : List ℕ) (s : State) → Parts E t → L.Good d s → Holds (Sound E L d) (run_from E d next s (rules_of E.reader t))
     unfolding rules_of
     text-sound t s h g = run_sound E L d (rules_of E.reader t) next s tt h.settled (lines_read E (lines t)) g
@@ -101,13 +101,13 @@ module _ (E : Engine) where
       unfolding run_all answer
       runs-ok h e = rw (e, take-append_seam (encode h.state) (replicate (j.room - length (encode h.state)) 0))
 
-    run_is : (t out : List ℕ) (room : ℕ) (s : State) → Parts E t → decode d out ≡ some s → fullest_outcome ≤ room → (c : Ran State)
+    run_is : (t out : List ℕ) (room : ℕ) (s : State) → Parts E t → decode d out ≡ Some s → fullest_outcome ≤ room → (c : Ran State)
         → run_from E d next s (rules_of E.reader t) ≡ c → run E t dev out room ≡ answer E room c
     unfolding run
     run_is t out room s h f r c q = ap (answer E room) (run_accepted t dev out room h is f r ∙ q)
 
     pub runs : (j : Job) (js : List Job) → Cuttable (texts (j ∷ js)) → All (Parts E) (texts (j ∷ js)) → All (λ (k : Job). fullest_outcome ≤ k.room) (j ∷ js)
-        → (v w n : ℕ) (out : List ℕ) (s : State) → decode d out ≡ some s → L.Good d s
+        → (v w n : ℕ) (out : List ℕ) (s : State) → decode d out ≡ Some s → L.Good d s
         → run_all E dev v w n out (j ∷ js) ≡ summary (more v w (lower n (run_from E d next s (rules_of E.reader (join (texts (j ∷ js)))))))
     unfolding join run_all
     runs j [] e (h, _) (r, _) v w n out s f good =
@@ -123,7 +123,7 @@ module _ (E : Engine) where
         rest = join (texts (i ∷ js))
 
         go : (c : Ran State) → run_from E d next s (rules_of E.reader j.text) ≡ c → Holds (Sound E L d) c
-            → ((v w n : ℕ) (out : List ℕ) (s : State) → decode d out ≡ some s → L.Good d s → run_all E dev v w n out (i ∷ js) ≡ summary (more v w (lower n (run_from E d next s (rules_of E.reader rest)))))
+            → ((v w n : ℕ) (out : List ℕ) (s : State) → decode d out ≡ Some s → L.Good d s → run_all E dev v w n out (i ∷ js) ≡ summary (more v w (lower n (run_from E d next s (rules_of E.reader rest)))))
             → run_all E dev v w n out (j ∷ i ∷ js) ≡ summary (more v w (lower n (run_from E d next s (rules_of E.reader (j.text ++ rest)))))
         go (refused (line k g)) q t ih =
             rw (run_join j.text rest s e (refused (line k g)) q t) (runs-refused v w n out j (i ∷ js) g k (run_is j.text out j.room s h f r (refused (line k g)) q))
@@ -135,7 +135,7 @@ module _ (E : Engine) where
   -- Running the join of accepted texts once gives what the runs of the texts give, one after another.
   pub joined-run : (L : Laws E) (js : List Job) → Joinable (texts js) → All (Accepted E) (texts js)
       → length (join (texts js)) ≤ most_text → rule_count (reads E.reader (join (texts js))) ≤ most_rules
-      → (dev out : List ℕ) {d : Device} {s : State} → Bytes out → device dev ≡ some d → decode d out ≡ some s
+      → (dev out : List ℕ) {d : Device} {s : State} → Bytes out → device dev ≡ Some d → decode d out ≡ Some s
       → All (λ (j : Job). fullest_outcome ≤ j.room) js → (room : ℕ) → fullest_outcome ≤ room
       → given (run E (join (texts js)) dev out room) ≡ run_all E dev 0 0 0 out js
   joined-run L [] e h short few dev out by is f rs room r = absurd e

@@ -5,7 +5,8 @@ use Prim.Native.Nat.{ℕ, suc, ◌-◌, ◌*◌, ◌≤◌, zero-le, suc-le-suc}
 use mathlib.Core.Path.{◌≡◌, refl, sym, ◌∙◌, subst}
 use mathlib.Core.Bool.{Bool, true, false}
 use mathlib.Core.List.{List, [], ◌∷◌}
-use mathlib.Core.Option.{Option, none, some, none-ne-some}
+use Rattle.std.specs.Prelude.{Option, None, Some}
+use Rattle.std.proofs.lemmas.Option.{none-some}
 use native.Mathlib.Omega.{arith}
 use lib.Dec.{T, leb, leb→le}
 use lib.ListN.{length, replicate, length-append, length-replicate}
@@ -83,17 +84,17 @@ module _ (E : Engine) where
   from_label g (line n r ∷ ps) = pick (has_label g (label r)) (line n r ∷ ps) (from_label g ps)
 
   land : (b : Bool) (d : Device) (g : List ℕ) (n : ℕ) (r : Rule) (ps : List (Placed Rule)) (s : State) (l : ℕ)
-      → (goes_to E.reader g ps ≡ some l → run_from E d (seek g) s ps ≡ run_from E d next s (from_label g ps)) → pick b (some n) (goes_to E.reader g ps) ≡ some l
+      → (goes_to E.reader g ps ≡ Some l → run_from E d (seek g) s ps ≡ run_from E d next s (from_label g ps)) → pick b (Some n) (goes_to E.reader g ps) ≡ Some l
       → visit E b d n r (seek g) s (λ m' s'. run_from E d m' s' ps) ≡ run_from E d next s (pick b (line n r ∷ ps) (from_label g ps))
   unfolding run_from
   land true d g n r ps s l f e = refl
   land false d g n r ps s l f e = f e
 
   -- seeking a label is going on from the next rule with it
-  pub seek_lands : (d : Device) (g : List ℕ) (ps : List (Placed Rule)) (s : State) (l : ℕ) → goes_to E.reader g ps ≡ some l
+  pub seek_lands : (d : Device) (g : List ℕ) (ps : List (Placed Rule)) (s : State) (l : ℕ) → goes_to E.reader g ps ≡ Some l
       → run_from E d (seek g) s ps ≡ run_from E d next s (from_label g ps)
   unfolding run_from goes_to from_label
-  seek_lands d g [] s l e = absurd (none-ne-some l e)
+  seek_lands d g [] s l e = absurd (none-some l e)
   seek_lands d g (line n r ∷ ps) s l e = land (has_label g (label r)) d g n r ps s l (seek_lands d g ps s l) e
 
   answer-length : (room : ℕ) (c : Ran State) → Holds (λ (h : Halt State). length (encode h.state) ≤ room) c → length (answer E room c).bytes ≡ room
@@ -114,8 +115,8 @@ module _ (E : Engine) where
         let Q : Halt State → Type 0 = λ h. length (encode h.state) ≤ room in
         holds-seq (λ (_ : Unit {0}). leb fullest_outcome room ≡ true) Q (require (leb fullest_outcome room) (line 0 target_short)) _ (holds-require (leb fullest_outcome room) (line 0 target_short))
         (λ _ full. holds-bind (Read E t) Q (read_text E.reader t) _ (read_holds t (read_text E.reader t) refl)
-        (λ rs r. holds-bind (λ (d : Device). device dev ≡ some d) Q (found (device dev) (line 0 device_bad)) _ (holds-found (device dev) (line 0 device_bad))
-        (λ d is. holds-bind (λ (s : State). decode d out ≡ some s) Q (found (decode d out) (line 0 outcome_bad)) _ (holds-found (decode d out) (line 0 outcome_bad))
+        (λ rs r. holds-bind (λ (d : Device). device dev ≡ Some d) Q (found (device dev) (line 0 device_bad)) _ (holds-found (device dev) (line 0 device_bad))
+        (λ d is. holds-bind (λ (s : State). decode d out ≡ Some s) Q (found (decode d out) (line 0 outcome_bad)) _ (holds-found (decode d out) (line 0 outcome_bad))
         (λ s at. holds-map (Sound E L d) Q (run_from E d next s rs)
         (rw r.same (run_sound E L d (rules_of E.reader t) next s tt r.parts.settled (lines_read E (lines t)) (L.starts by is at)))
         (λ h k. omega (arith, L.fits k.good, leb→le fullest_outcome room (subst T (sym full) tt)))))))

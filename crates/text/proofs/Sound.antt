@@ -4,7 +4,8 @@ use Prim.Native.Nat.{ℕ}
 use mathlib.Core.Path.{◌≡◌, refl}
 use mathlib.Core.Bool.{Bool, true, false, true≢false}
 use mathlib.Core.List.{List, [], ◌∷◌, map}
-use mathlib.Core.Option.{Option, none, some, none-ne-some}
+use Rattle.std.specs.Prelude.{Option, None, Some}
+use Rattle.std.proofs.lemmas.Option.{none-some}
 use Rattle.lists.specs.Lists.{All}
 use Rattle.lists.specs.Checked.{Checked, refused, ok, Holds, Placed, line, in_place}
 use Rattle.lists.specs.Refusal.{Refusal}
@@ -18,8 +19,8 @@ use Rattle.text.proofs.Settle.{Aimed, Settled}
 
 -- the label that is sought
 abbrev pub sought : Mode → Option (List ℕ)
-sought next = none
-sought (seek g) = some g
+sought next = None
+sought (seek g) = Some g
 
 module _ (E : Engine) where
   open E.reader use {Rule, label, goto}
@@ -48,8 +49,8 @@ module _ (E : Engine) where
 
   aimed_after : (held : Bool) (g : Option (List ℕ)) (ps : List (Placed Rule)) → Aimed E g ps → Aimed E (sought (after held g)) ps
   aimed_after false g ps a = tt
-  aimed_after true none ps a = tt
-  aimed_after true (some g) ps a = a
+  aimed_after true None ps a = tt
+  aimed_after true (Some g) ps a = a
 
   module _ (L : Laws E) (d : Device) where
     pub record Sound (h : Halt State) : Type 0 where
@@ -77,6 +78,6 @@ module _ (E : Engine) where
     pub run_sound : (ps : List (Placed Rule)) (m : Mode) (s : State) → Aimed E (sought m) ps → Settled E ps → All FromLine ps → L.Good d s → Holds Sound (run_from E d m s ps)
     unfolding run_from goes_to
     run_sound [] next s a st fl g = record { ended = refl; good = g }
-    run_sound [] (seek l) s a st fl g = absurd (none-ne-some a.0 a.1)
+    run_sound [] (seek l) s a st fl g = absurd (none-some a.0 a.1)
     run_sound (line n r ∷ ps) m s a (aim, st) (f, fl) g =
         visit-sound n r ps f aim (λ m' s'. run_from E d m' s' ps) (λ m' s' a' g'. run_sound ps m' s' a' st fl g') m s a g (begins m (label r)) refl

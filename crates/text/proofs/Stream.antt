@@ -4,7 +4,7 @@ use Prim.Native.Nat.{ℕ, ◌+◌}
 use mathlib.Core.Path.{◌≡◌, refl}
 use mathlib.Core.Bool.{Bool, true, false}
 use mathlib.Core.List.{List, ◌∷◌}
-use mathlib.Core.Option.{Option}
+use Rattle.std.specs.Prelude.{Option}
 use Rattle.lists.specs.Checked.{Checked, refused, ok, ◌>>=◌, Placed, line}
 use Rattle.lists.specs.Refusal.{Refusal}
 use Rattle.text.specs.Engine.{Engine, LineRead, skip, fault, rule, Stepped, went}

@@ -4,7 +4,7 @@ use Prim.Native.Nat.{ℕ, ◌+◌, ◌≤◌}
 use mathlib.Core.Path.{◌≡◌, refl, sym, ◌∙◌, ap, subst}
 use mathlib.Core.Bool.{Bool, true, false}
 use mathlib.Core.List.{List, [], ◌∷◌, ◌++◌, map, map-append, append-nil}
-use mathlib.Core.Option.{none}
+use Rattle.std.specs.Prelude.{None}
 use native.Mathlib.Nat.{add-zero}
 use native.Mathlib.Omega.{arith}
 use lib.Dec.{T, leb, leb→le}
@@ -42,8 +42,8 @@ reading_of R =
       reader = R;
       Device = Unit {0};
       State = Unit {0};
-      device = λ bs. none;
-      decode = λ d bs. none;
+      device = λ bs. None;
+      decode = λ d bs. None;
       encode = λ s. [];
       step = λ d r s. ok (went s true);
       tried = λ d r s. 0;

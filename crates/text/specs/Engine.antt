@@ -1,7 +1,7 @@
 -- What a line reads to, what a rule does to the state, and the packed records: parameters of the text level.
 -- Assumes nothing.
 use Rattle.std.specs.Prelude.{ℕ, Bool, List}
-use Rattle.std.proofs.Math.Option.{Option}
+use Rattle.std.specs.Prelude.{Option}
 use Rattle.lists.specs.Checked.{Checked}
 use Rattle.lists.specs.Refusal.{Refusal}
 

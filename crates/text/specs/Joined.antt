@@ -1,7 +1,7 @@
 -- Document 01, Joined texts: joins, cuts, jumps that cross a cut, and runs one after another.
 -- Assumes nothing.
 use Rattle.std.specs.Prelude.{ℕ, zero, suc, ◌+◌, ◌-◌, ◌≤◌, ◌<◌, ◌≡◌, ◌⊎◌, Bool, true, false, List, [], ◌∷◌, ◌++◌, map, eqb, length, take}
-use Rattle.std.proofs.Math.Option.{Option, none, some}
+use Rattle.std.specs.Prelude.{Option, None, Some}
 use Rattle.lists.specs.Lists.{All}
 use Rattle.lists.specs.Checked.{ok, Placed, line}
 use Rattle.text.specs.Lines.{newlines, blank, stage_of, is_slash}
@@ -86,12 +86,12 @@ module _ (E : Engine) where
   Accepted t = (rs : List (Placed Rule)) × (read_text E.reader t ≡ ok rs)
 
   abbrev pub jump_from : ℕ → Option ℕ → List Jump → List Jump
-  jump_from n none js = js
-  jump_from n (some l) js = record { from = n; to = l } ∷ js
+  jump_from n None js = js
+  jump_from n (Some l) js = record { from = n; to = l } ∷ js
 
   abbrev pub jumps_of : ℕ → Option (List ℕ) → List (Placed Rule) → List Jump → List Jump
-  jumps_of n none ps js = js
-  jumps_of n (some g) ps js = jump_from n (goes_to E.reader g ps) js
+  jumps_of n None ps js = js
+  jumps_of n (Some g) ps js = jump_from n (goes_to E.reader g ps) js
 
   -- the jumps of a text's rules, taken or not
   unfoldable pub jumps : List (Placed Rule) → List Jump

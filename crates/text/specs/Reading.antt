@@ -1,7 +1,7 @@
 -- Document 01, Numbers given back: reading a text, refused by 2, then by 10 to 18 (and 20 of document 02, Item 10) line by line, then by 19.
 -- Assumes nothing.
 use Rattle.std.specs.Prelude.{ℕ, zero, suc, Bool, true, false, List, [], ◌∷◌, map, leb, length}
-use Rattle.std.proofs.Math.Option.{Option, none, some}
+use Rattle.std.specs.Prelude.{Option, None, Some}
 use Rattle.lists.specs.Lists.{pick}
 use Rattle.lists.specs.Bytes.{same_bytes}
 use Rattle.lists.specs.Checked.{Checked, refused, ok, ◌>>=◌, ◌>>◌, require, found, Placed, line, in_place}
@@ -27,21 +27,21 @@ rule_count (line n (rule r) ∷ ls) = suc (rule_count ls)
 
 -- a rule's label is this one
 abbrev pub has_label : List ℕ → Option (List ℕ) → Bool
-has_label g none = false
-has_label g (some l) = same_bytes g l
+has_label g None = false
+has_label g (Some l) = same_bytes g l
 
 module _ (R : Reader) where
   open R use {Rule, read_line, label, goto}
 
   -- document 01, Running: the line of the next rule with that label, of the rules behind the GOTO
   unfoldable pub goes_to : List ℕ → List (Placed Rule) → Option ℕ
-  goes_to g [] = none
-  goes_to g (line n r ∷ ps) = pick (has_label g (label r)) (some n) (goes_to g ps)
+  goes_to g [] = None
+  goes_to g (line n r ∷ ps) = pick (has_label g (label r)) (Some n) (goes_to g ps)
 
   -- a GOTO on line n must find its label on a later rule
   abbrev pub resolved : ℕ → Option (List ℕ) → List (Placed Rule) → Checked (Placed Refusal) ℕ
-  resolved n none ps = ok n
-  resolved n (some g) ps = found (goes_to g ps) (line n label_missing)
+  resolved n None ps = ok n
+  resolved n (Some g) ps = found (goes_to g ps) (line n label_missing)
 
   -- 19 at the first GOTO without a later LABEL
   unfoldable pub settle : List (Placed Rule) → Checked (Placed Refusal) ℕ

@@ -1,7 +1,7 @@
 -- The rules of a text's lines, and running them line by line, as code does that keeps no list of rules.
 -- Assumes nothing.
 use Rattle.std.specs.Prelude.{ℕ, ◌+◌, Bool, true, false, List, [], ◌∷◌}
-use Rattle.std.proofs.Math.Option.{Option}
+use Rattle.std.specs.Prelude.{Option}
 use Rattle.lists.specs.Checked.{Checked, refused, ok, Placed, line}
 use Rattle.lists.specs.Refusal.{Refusal}
 use Rattle.text.specs.Engine.{Reader, Engine, LineRead, skip, fault, rule, Stepped, went}

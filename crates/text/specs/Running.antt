@@ -1,7 +1,7 @@
 -- Document 01, Running: the rules of an accepted text in order, with jumps, and the visited count; document 02, Item 9: the devices tried.
 -- Assumes nothing.
 use Rattle.std.specs.Prelude.{ℕ, ◌+◌, Bool, true, false, List, [], ◌∷◌}
-use Rattle.std.proofs.Math.Option.{Option, none, some}
+use Rattle.std.specs.Prelude.{Option, None, Some}
 use Rattle.lists.specs.Checked.{Checked, refused, ok, Placed, line}
 use Rattle.lists.specs.Refusal.{Refusal}
 use Rattle.text.specs.Engine.{Engine, Stepped, went}
@@ -20,8 +20,8 @@ begins (seek g) l = has_label g l
 -- how the run goes on behind a rule with this GOTO, whose match keys held or not
 abbrev pub after : Bool → Option (List ℕ) → Mode
 after false g = next
-after true none = next
-after true (some g) = seek g
+after true None = next
+after true (Some g) = seek g
 
 -- where a run ends
 pub record Halt (State : Type 0) : Type 0 where

@@ -44,10 +44,8 @@ fn put_number(text: &mut [u8], n: usize, turn: u32) -> usize
     let d = pieces::decimal(turn);
     let digits = d.digits;
     let mut m = n;
-    let mut i = d.start;
-    while i < 10 {
+    for i in d.start..10 {
         m = put(text, m, digits[i]);
-        i += 1;
     }
     m
 }
@@ -87,12 +85,10 @@ fn put_part(text: &mut [u8], n: usize, part: &[u8], turn: u32) -> usize
 // The number that five digits or fewer give.
 fn number_of(digits: &[u8]) -> u32 {
     let mut n: u32 = 0;
-    let mut i: usize = 0;
-    while i < digits.len() {
+    for b in digits {
         if n < 10000 {
-            n = n * 10 + (digits[i] % 16) as u32;
+            n = n * 10 + u32::from(*b % 16);
         }
-        i += 1;
     }
     n
 }
@@ -107,10 +103,8 @@ fn put_parts(text: &mut [u8], n: usize, part: &[u8]) -> usize
     }
     let times = number_of(&part[0..end]);
     let mut m = n;
-    let mut turn: u32 = 0;
-    while turn < times {
+    for turn in 0..times {
         m = put_part(text, m, &part[end + 1..], turn);
-        turn += 1;
     }
     m
 }

@@ -2,7 +2,7 @@
 
 #![tactic(auto)]
 
-ghost use Rattle.std.specs.Prelude.{List, ◌≡◌, ℕ, ◌+◌, ◌*◌, ◌≤◌, length};
+ghost use Rattle.std.specs.Prelude.{List, ◌≡◌, ℕ, ◌+◌, ◌*◌, ◌≤◌, ◌<◌, length};
 ghost use Rattle.lists.specs.Checked.{ok};
 ghost use Rattle.lists.specs.Sizes.{most_rules, most_text};
 ghost use Rattle.text.specs.Reading.{read_text};
@@ -14,9 +14,7 @@ ghost use Rattle.table.specs.Table.{rules_from};
 ghost use Rattle.rule_writing.specs.Tables.{RulesIn};
 
 use answers::Given;
-use reader::TextRead;
 use refusals::Refusal;
-use rule_writing::Written;
 
 // The rules of a table written back: what the writer gives for the text that the table holds.
 fn write_table(values: &[u8], rows: &[u16], rules: &[u16], count: usize, target: &mut [u8]) -> Given
@@ -24,11 +22,11 @@ fn write_table(values: &[u8], rows: &[u16], rules: &[u16], count: usize, target:
     ensures { (text : List ℕ) → read_text reader text ≡ ok (rules_from values.now rows.now rules.now 0 count) → answered result target.new ≡ write_answer text (length target.old) }
 {
     match rule_writing::put_rules(target, values, rows, rules, count) {
-        Written::Text(used) => {
+        Some(used) => {
             splice::clear(&mut target[used..]);
             answers::accepted(0, 0, used)
         }
-        Written::Long => {
+        None => {
             splice::clear(target);
             answers::refused(Refusal::TextLong, 0)
         }
@@ -49,26 +47,28 @@ fn write_lent(
     ensures { answered result target.new ≡ write_answer text.now (length target.old) }
 {
     match reader::read_text(text, values, rows, rules, labels, jumps) {
-        TextRead::Accepted(counts) => write_table(values, rows, rules, counts.rules, target),
-        TextRead::Refused(refusal, line) => {
+        Ok(counts) => write_table(values, rows, rules, counts.rules, target),
+        Err(fault) => {
             splice::clear(target);
-            answers::refused(refusal, line)
+            answers::refused(fault.refusal, fault.line)
         }
     }
 }
 
-// The writer with room for the values and the rows that a caller lends.
-fn write_in(text: &[u8], values: &mut [u8], rows: &mut [u16], target: &mut [u8]) -> Given
-    requires { (most_text ≤ length target.old) × (length text.now ≤ most_text → Lends (length text.now) values.old rows.old) }
+// The writer with room for so many bytes of values and so many numbers of rows.
+fn write_in<const VALUES: usize, const ROWS: usize>(text: &[u8], target: &mut [u8]) -> Given
+    requires { (most_text ≤ length target.old) × (length text.now ≤ most_text → length text.now ≤ VALUES) × (VALUES < 65536) × (ROWS < 65536) × ((VALUES + 1) * 4 ≤ ROWS * 7) }
     ensures { answered result target.new ≡ write_answer text.now (length target.old) }
 {
+    let mut values = [0u8; VALUES];
+    let mut rows = [0u16; ROWS];
     let mut rules = [0u16; 2048];
     let mut labels = [0u16; 512];
     let mut jumps = [0u16; 512];
     write_lent(
         text,
-        values,
-        rows,
+        &mut values,
+        &mut rows,
         &mut rules,
         &mut labels,
         &mut jumps,
@@ -77,51 +77,6 @@ fn write_in(text: &[u8], values: &mut [u8], rows: &mut [u16], target: &mut [u8])
 }
 
 // Room by the size of the text, as the run has it.
-fn write_least(text: &[u8], target: &mut [u8]) -> Given
-    requires { (most_text ≤ length target.old) × (length text.now ≤ 2048) }
-    ensures { answered result target.new ≡ write_answer text.now (length target.old) }
-{
-    let mut values = [0u8; 2048];
-    let mut rows = [0u16; 1172];
-    write_in(text, &mut values, &mut rows, target)
-}
-
-fn write_quarter(text: &[u8], target: &mut [u8]) -> Given
-    requires { (most_text ≤ length target.old) × (length text.now ≤ 8192) }
-    ensures { answered result target.new ≡ write_answer text.now (length target.old) }
-{
-    let mut values = [0u8; 8192];
-    let mut rows = [0u16; 4684];
-    write_in(text, &mut values, &mut rows, target)
-}
-
-fn write_half(text: &[u8], target: &mut [u8]) -> Given
-    requires { (most_text ≤ length target.old) × (length text.now ≤ 16384) }
-    ensures { answered result target.new ≡ write_answer text.now (length target.old) }
-{
-    let mut values = [0u8; 16384];
-    let mut rows = [0u16; 9364];
-    write_in(text, &mut values, &mut rows, target)
-}
-
-fn write_most(text: &[u8], target: &mut [u8]) -> Given
-    requires { (most_text ≤ length target.old) × (length text.now ≤ 24576) }
-    ensures { answered result target.new ≡ write_answer text.now (length target.old) }
-{
-    let mut values = [0u8; 24576];
-    let mut rows = [0u16; 14044];
-    write_in(text, &mut values, &mut rows, target)
-}
-
-fn write_any(text: &[u8], target: &mut [u8]) -> Given
-    requires { most_text ≤ length target.old }
-    ensures { answered result target.new ≡ write_answer text.now (length target.old) }
-{
-    let mut values = [0u8; 32768];
-    let mut rows = [0u16; 18728];
-    write_in(text, &mut values, &mut rows, target)
-}
-
 pub fn write(text: &[u8], target: &mut [u8]) -> Given
     ensures { answered result target.new ≡ write_answer text.now (length target.old) }
 {
@@ -130,16 +85,16 @@ pub fn write(text: &[u8], target: &mut [u8]) -> Given
         return answers::refused(Refusal::TargetShort, 0);
     }
     if text.len() <= 2048 {
-        return write_least(text, target);
+        return write_in::<2048, 1172>(text, target);
     }
     if text.len() <= 8192 {
-        return write_quarter(text, target);
+        return write_in::<8192, 4684>(text, target);
     }
     if text.len() <= 16384 {
-        return write_half(text, target);
+        return write_in::<16384, 9364>(text, target);
     }
     if text.len() <= 24576 {
-        return write_most(text, target);
+        return write_in::<24576, 14044>(text, target);
     }
-    write_any(text, target)
+    write_in::<32768, 18728>(text, target)
 }

@@ -5,7 +5,7 @@ use mathlib.Core.Path.{◌≡◌, refl, sym, ap, ◌∙◌}
 use mathlib.Core.Logic.{◌⊎◌, inl, inr}
 use mathlib.Core.Bool.{Bool, true, false, not}
 use mathlib.Core.List.{List, [], ◌∷◌, ◌++◌, append_assoc}
-use mathlib.Core.Option.{Option, none, some}
+use Rattle.std.specs.Prelude.{Option, None, Some}
 use native.Mathlib.Omega.{arith}
 use lib.Dec.{eqb, leb}
 use lib.ListN.{length, get_or, drop, length-append, length-drop}
@@ -27,7 +27,7 @@ use Rattle.lists.proofs.Runs.{span-whole, span-stop}
 use Rattle.rules.specs.Key.{Key, Op, equal, unequal, assign, add, remove, final, Takes, takes_none, takes_one, takes_type, Row, rows, row_in, row_of, allows}
 use Rattle.rules.specs.Pair.{Pair}
 use Rattle.rules.specs.Reading.{unblank, read_key, absent, is_type, present, argument_by, read_argument, if_equals, op_of, read_op, read_value, sound, read_pair}
-use Rattle.rules.proofs.Sound.{SoundPair, Some, pick_some, found_some, require-then, PairOk, pair_ok}
+use Rattle.rules.proofs.Sound.{SoundPair, InSome, pick_some, found_some, require-then, PairOk, pair_ok}
 use Rattle.writing.specs.Writing.{name_in, name_of, argument_text, op_text, plain_byte, code_byte, value_text, needs_code, pair_text}
 use Rattle.writing.proofs.Values.{fair, Fair, Fits, value_again, value_fits}
 
@@ -74,13 +74,13 @@ unblank-none b bs h = ap (λ (p : Part (List ℕ)). p.rest) (span-stop is_blank 
 -- a row is found by its name, and its name by its key
 pub record Named (r : Row) : Type 0 where
   pub by_key : name_of r.key ≡ r.name
-  pub by_name : row_of r.name ≡ some r
+  pub by_name : row_of r.name ≡ Some r
   pub upper : all is_upper r.name ≡ true
   pub clean : all fair r.name ≡ true
   pub some_byte : leb 1 (length r.name) ≡ true
 
 -- by what is computed of a row
-named : {r : Row} → ◌≡◌ {A = List ℕ × Option Row × Bool × Bool × Bool} (name_of r.key, row_of r.name, all is_upper r.name, all fair r.name, leb 1 (length r.name)) (r.name, some r, true, true, true)
+named : {r : Row} → ◌≡◌ {A = List ℕ × Option Row × Bool × Bool × Bool} (name_of r.key, row_of r.name, all is_upper r.name, all fair r.name, leb 1 (length r.name)) (r.name, Some r, true, true, true)
     → Named r
 named e = record { by_key = ap (λ x. x.0) e; by_name = ap (λ x. x.1) e; upper = ap (λ x. x.2) e; clean = ap (λ x. x.3) e; some_byte = ap (λ x. x.4) e }
 
@@ -100,12 +100,12 @@ pub record Found (n : List ℕ) (r : Row) : Type 0 where
   pub named : Named r
   pub name-is : r.name ≡ n
 
-row-found : (rs : List Row) → All Named rs → (n : List ℕ) → Some (Found n) (row_in rs n)
+row-found : (rs : List Row) → All Named rs → (n : List ℕ) → InSome (Found n) (row_in rs n)
 unfolding row_in
 row-found [] h n = tt
 row-found (r ∷ rs) (h, hs) n = at (same_bytes r.name n) refl (row-found rs hs n)
   where
-    at : (t : Bool) → same_bytes r.name n ≡ t → Some (Found n) (row_in rs n) → Some (Found n) (pick t (some r) (row_in rs n))
+    at : (t : Bool) → same_bytes r.name n ≡ t → InSome (Found n) (row_in rs n) → InSome (Found n) (pick t (Some r) (row_in rs n))
     at true e k = record { named = h; name-is = same-eq r.name n e }
     at false e k = k
 
@@ -119,7 +119,7 @@ Argument takes_none a = a ≡ []
 Argument takes_one a = Braced a
 Argument takes_type a = (a ≡ []) ⊎ (Braced a × (is_type a ≡ true))
 
-braces_again : (a : List ℕ) → Braced a → (c : ℕ) (rest : List ℕ) → in_braces ((a ++ (125 ∷ [])) ++ (c ∷ rest)) ≡ some (record { value = a; rest = c ∷ rest })
+braces_again : (a : List ℕ) → Braced a → (c : ℕ) (rest : List ℕ) → in_braces ((a ++ (125 ∷ [])) ++ (c ∷ rest)) ≡ Some (record { value = a; rest = c ∷ rest })
 unfolding in_braces
 braces_again a (h, k) c rest = rw (append_assoc a (125 ∷ []) (c ∷ rest), span_to is_in_braces a 125 (c ∷ rest) k refl, h)
 
@@ -143,15 +143,15 @@ text-size : (a : List ℕ) → length (argument_text a) ≤ length a + 2
 text-size [] = omega arith
 text-size (b ∷ a) = omega (arith, length-append (b ∷ a) (125 ∷ []))
 
-braces_fits : (bs : List ℕ) → Fair bs → Some (BracedFits (length bs)) (in_braces bs)
+braces_fits : (bs : List ℕ) → Fair bs → InSome (BracedFits (length bs)) (in_braces bs)
 unfolding in_braces
 braces_fits bs h = at (span is_in_braces bs).rest refl
   where
-    at : (rest : List ℕ) → (span is_in_braces bs).rest ≡ rest → Some (BracedFits (length bs)) (close_brace (span is_in_braces bs).value rest)
+    at : (rest : List ℕ) → (span is_in_braces bs).rest ≡ rest → InSome (BracedFits (length bs)) (close_brace (span is_in_braces bs).value rest)
     at [] e = tt
     at (b ∷ rest) e = on (between 1 most_key (length (span is_in_braces bs).value)) refl
       where
-        on : (t : Bool) → between 1 most_key (length (span is_in_braces bs).value) ≡ t → Some (BracedFits (length bs)) (pick t (some (record { value = (span is_in_braces bs).value; rest = rest })) none)
+        on : (t : Bool) → between 1 most_key (length (span is_in_braces bs).value) ≡ t → InSome (BracedFits (length bs)) (pick t (Some (record { value = (span is_in_braces bs).value; rest = rest })) None)
         on true q =
             let (f, g) = span-fair is_in_braces bs h in (
               (q, span_passes is_in_braces bs),
@@ -223,30 +223,30 @@ module _ (bs : List ℕ) (h : Fair bs) where
   two_fits : (o : Op) → length (op_text o) ≤ 2 → get_or bs 1 0 ≡ 61 → OpFits (length bs) (record { value = o; rest = drop 2 bs })
   two_fits o l e = (omega (arith, length-drop 2 bs, byte_in bs 1 61 e (omega arith)), drop-fair 2 bs h)
 
-  if_fits : (o : Op) → length (op_text o) ≤ 2 → Some (OpFits (length bs)) (if_equals (get_or bs 1 0) o (drop 2 bs))
+  if_fits : (o : Op) → length (op_text o) ≤ 2 → InSome (OpFits (length bs)) (if_equals (get_or bs 1 0) o (drop 2 bs))
   if_fits o l = at (eqb (get_or bs 1 0) 61) refl
     where
-      at : (t : Bool) → eqb (get_or bs 1 0) 61 ≡ t → Some (OpFits (length bs)) (pick t (some (record { value = o; rest = drop 2 bs })) none)
+      at : (t : Bool) → eqb (get_or bs 1 0) 61 ≡ t → InSome (OpFits (length bs)) (pick t (Some (record { value = o; rest = drop 2 bs })) None)
       at true e = two_fits o l (eqb-true (get_or bs 1 0) 61 e)
       at false e = tt
 
-  op_of-fits : Some (OpFits (length bs)) (op_of (get_or bs 0 0) (get_or bs 1 0) (drop 1 bs) (drop 2 bs))
+  op_of-fits : InSome (OpFits (length bs)) (op_of (get_or bs 0 0) (get_or bs 1 0) (drop 1 bs) (drop 2 bs))
   unfolding op_text bytes
   op_of-fits = at (eqb (get_or bs 0 0) 61) (eqb (get_or bs 1 0) 61) refl refl
     where
       at : (t u : Bool) → eqb (get_or bs 0 0) 61 ≡ t → eqb (get_or bs 1 0) 61 ≡ u
-          → Some (OpFits (length bs)) (pick t (pick u (some (record { value = equal; rest = drop 2 bs })) (some (record { value = assign; rest = drop 1 bs })))
+          → InSome (OpFits (length bs)) (pick t (pick u (Some (record { value = equal; rest = drop 2 bs })) (Some (record { value = assign; rest = drop 1 bs })))
           (pick (eqb (get_or bs 0 0) 33) (if_equals (get_or bs 1 0) unequal (drop 2 bs))
           (pick (eqb (get_or bs 0 0) 43) (if_equals (get_or bs 1 0) add (drop 2 bs))
           (pick (eqb (get_or bs 0 0) 45) (if_equals (get_or bs 1 0) remove (drop 2 bs))
-          (pick (eqb (get_or bs 0 0) 58) (if_equals (get_or bs 1 0) final (drop 2 bs)) none)))))
+          (pick (eqb (get_or bs 0 0) 58) (if_equals (get_or bs 1 0) final (drop 2 bs)) None)))))
       at true true e f = two_fits equal (omega arith) (eqb-true (get_or bs 1 0) 61 f)
       at true false e f = one-fits assign refl (eqb-true (get_or bs 0 0) 61 e)
       at false u e f =
           pick_some (OpFits (length bs)) (eqb (get_or bs 0 0) 33) (if_equals (get_or bs 1 0) unequal (drop 2 bs)) _ (if_fits unequal (omega arith))
           (pick_some (OpFits (length bs)) (eqb (get_or bs 0 0) 43) (if_equals (get_or bs 1 0) add (drop 2 bs)) _ (if_fits add (omega arith))
           (pick_some (OpFits (length bs)) (eqb (get_or bs 0 0) 45) (if_equals (get_or bs 1 0) remove (drop 2 bs)) _ (if_fits remove (omega arith))
-          (pick_some (OpFits (length bs)) (eqb (get_or bs 0 0) 58) (if_equals (get_or bs 1 0) final (drop 2 bs)) none (if_fits final (omega arith)) tt)))
+          (pick_some (OpFits (length bs)) (eqb (get_or bs 0 0) 58) (if_equals (get_or bs 1 0) final (drop 2 bs)) None (if_fits final (omega arith)) tt)))
 
 op_fits : (allowed : List Op) (bs : List ℕ) → Fair bs → Holds (λ (o : Part Op). OpFits (length bs) o × (allows allowed o.value ≡ true)) (read_op allowed bs)
 unfolding read_op

@@ -4,7 +4,8 @@ use Prim.Native.Nat.{ℕ, suc, ◌+◌, ◌≤◌}
 use mathlib.Core.Path.{◌≡◌, refl, sym, ap, ◌∙◌, subst}
 use mathlib.Core.Bool.{Bool, true, false}
 use mathlib.Core.List.{List, [], ◌∷◌, ◌++◌, map, append_assoc}
-use mathlib.Core.Option.{Option, none, some, none-ne-some}
+use Rattle.std.specs.Prelude.{Option, None, Some}
+use Rattle.std.proofs.lemmas.Option.{none-some}
 use native.Mathlib.Omega.{arith}
 use lib.Dec.{leb}
 use lib.ListN.{length, length-append}
@@ -90,23 +91,23 @@ read_same n (p ∷ rs) ((k, a), h) =
 
 -- ---- jumps do not depend on the numbers of lines
 
-goes_same : (g : List ℕ) (ps qs : List (Placed Rule)) → map rule_of ps ≡ map rule_of qs → (l : ℕ) → goes_to reader g ps ≡ some l → (m : ℕ) × (goes_to reader g qs ≡ some m)
+goes_same : (g : List ℕ) (ps qs : List (Placed Rule)) → map rule_of ps ≡ map rule_of qs → (l : ℕ) → goes_to reader g ps ≡ Some l → (m : ℕ) × (goes_to reader g qs ≡ Some m)
 unfolding goes_to
-goes_same g [] qs e l h = absurd (none-ne-some l h)
+goes_same g [] qs e l h = absurd (none-some l h)
 goes_same g (line n r ∷ ps) [] e l h = absurd (omega (arith, ap length e))
 goes_same g (line n r ∷ ps) (line m s ∷ qs) e l h =
     let q : r ≡ s = cc in
     let es : map rule_of ps ≡ map rule_of qs = cc in
     at (has_label g (label_of s)) (rw q at h) (λ k. goes_same g ps qs es l k)
   where
-    at : (t : Bool) → pick t (some n) (goes_to reader g ps) ≡ some l → (goes_to reader g ps ≡ some l → (k : ℕ) × (goes_to reader g qs ≡ some k))
-        → (k : ℕ) × (pick t (some m) (goes_to reader g qs) ≡ some k)
+    at : (t : Bool) → pick t (Some n) (goes_to reader g ps) ≡ Some l → (goes_to reader g ps ≡ Some l → (k : ℕ) × (goes_to reader g qs ≡ Some k))
+        → (k : ℕ) × (pick t (Some m) (goes_to reader g qs) ≡ Some k)
     at true k f = (m, refl)
     at false k f = f k
 
 aimed_same : (g : Option (List ℕ)) (ps qs : List (Placed Rule)) → map rule_of ps ≡ map rule_of qs → Aimed (reading_of reader) g ps → Aimed (reading_of reader) g qs
-aimed_same none ps qs e a = tt
-aimed_same (some g) ps qs e (l, h) = goes_same g ps qs e l h
+aimed_same None ps qs e a = tt
+aimed_same (Some g) ps qs e (l, h) = goes_same g ps qs e l h
 
 pub settled_same : (ps qs : List (Placed Rule)) → map rule_of ps ≡ map rule_of qs → Settled (reading_of reader) ps → Settled (reading_of reader) qs
 settled_same [] [] e s = tt

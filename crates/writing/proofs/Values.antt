@@ -4,7 +4,8 @@ use Prim.Native.Nat.{ℕ, zero, suc, ◌+◌, ◌≤◌}
 use mathlib.Core.Path.{◌≡◌, refl, sym, ap, ◌∙◌, subst}
 use mathlib.Core.Bool.{Bool, true, false, not, ◌&&◌, ◌||◌}
 use mathlib.Core.List.{List, [], ◌∷◌, ◌++◌, append_assoc}
-use mathlib.Core.Option.{Option, none, some, none-ne-some, some-injective}
+use Rattle.std.specs.Prelude.{Option, None, Some}
+use Rattle.std.proofs.lemmas.Option.{none-some, same_Some}
 use native.Mathlib.Omega.{arith}
 use lib.Dec.{eqb, leb}
 use lib.ListN.{length, get_or, drop, length-append}
@@ -21,7 +22,7 @@ use Rattle.lists.proofs.Lists.{all_split}
 use Rattle.lists.proofs.Tests.{and_both, both_and, neither}
 use Rattle.rules.specs.Coded.{escapes, escape_in, hex_digit, hex_byte, taking, escaped, coded_byte, put, coded_then, coded_step, coded}
 use Rattle.rules.specs.Reading.{quoted_step, quoted, starts_mark, unescape_step, unescape, read_plain, read_coded, starts_coded, value_by, read_value}
-use Rattle.rules.proofs.Sound.{Some, pick_some, found_some, require-then}
+use Rattle.rules.proofs.Sound.{InSome, pick_some, found_some, require-then}
 use Rattle.rules.proofs.Escapes.{escape_step, escape, escape-back}
 use Rattle.writing.specs.Writing.{ends_in_slash, needs_code, plain_byte, code_byte, value_as, value_text}
 
@@ -48,7 +49,7 @@ plain-escape (b ∷ v) = at (eqb b 34) (plain-escape v)
 
 -- it is closed by the mark behind it
 plain_closed : (e : Bool) (v rest : List ℕ) → (v ≡ [] → e ≡ false) → ends_in_slash v ≡ false
-    → quoted e (plain v ++ (34 ∷ rest)) ≡ some (record { value = plain v; rest = rest })
+    → quoted e (plain v ++ (34 ∷ rest)) ≡ Some (record { value = plain v; rest = rest })
 unfolding quoted ends_in_slash
 plain_closed e [] rest f h = rw (f refl)
 plain_closed e (b ∷ v) rest f h = at (eqb b 34) refl (λ x k. plain_closed x v rest k (tail v h))
@@ -61,8 +62,8 @@ plain_closed e (b ∷ v) rest f h = at (eqb b 34) refl (λ x k. plain_closed x v
     last [] k q = k
     last (c ∷ w) k q = absurd (omega (arith, ap length q))
 
-    at : (t : Bool) → eqb b 34 ≡ t → ((x : Bool) → (v ≡ [] → x ≡ false) → quoted x (plain v ++ (34 ∷ rest)) ≡ some (record { value = plain v; rest = rest }))
-        → quoted e ((pick t (92 ∷ b ∷ []) (b ∷ []) ++ plain v) ++ (34 ∷ rest)) ≡ some (record { value = pick t (92 ∷ b ∷ []) (b ∷ []) ++ plain v; rest = rest })
+    at : (t : Bool) → eqb b 34 ≡ t → ((x : Bool) → (v ≡ [] → x ≡ false) → quoted x (plain v ++ (34 ∷ rest)) ≡ Some (record { value = plain v; rest = rest }))
+        → quoted e ((pick t (92 ∷ b ∷ []) (b ∷ []) ++ plain v) ++ (34 ∷ rest)) ≡ Some (record { value = pick t (92 ∷ b ∷ []) (b ∷ []) ++ plain v; rest = rest })
     at true q ih = let m : b ≡ 34 = eqb-true b 34 q in rw (m, ih false (λ _. refl))
     at false q ih = rw (q, ih (eqb b 92) (λ k. last v h k))
 
@@ -92,13 +93,13 @@ plain_back (b ∷ v) = at (eqb b 34) refl (plain_back v)
 abbrev code : List ℕ → List ℕ
 code v = cat code_byte v
 
-code-back : (v rest : List ℕ) → coded 0 (code v ++ (34 ∷ rest)) ≡ some (record { value = v; rest = rest })
+code-back : (v rest : List ℕ) → coded 0 (code v ++ (34 ∷ rest)) ≡ Some (record { value = v; rest = rest })
 unfolding coded escapes escape_in
 code-back [] rest = refl
 code-back (b ∷ v) rest = at (eqb b 10) (eqb b 92) (eqb b 34) refl refl refl (code-back v rest)
   where
-    at : (n s m : Bool) → eqb b 10 ≡ n → eqb b 92 ≡ s → eqb b 34 ≡ m → coded 0 (code v ++ (34 ∷ rest)) ≡ some (record { value = v; rest = rest })
-        → coded 0 ((pick n (92 ∷ 110 ∷ []) (pick (s || m) (92 ∷ b ∷ []) (b ∷ [])) ++ code v) ++ (34 ∷ rest)) ≡ some (record { value = b ∷ v; rest = rest })
+    at : (n s m : Bool) → eqb b 10 ≡ n → eqb b 92 ≡ s → eqb b 34 ≡ m → coded 0 (code v ++ (34 ∷ rest)) ≡ Some (record { value = v; rest = rest })
+        → coded 0 ((pick n (92 ∷ 110 ∷ []) (pick (s || m) (92 ∷ b ∷ []) (b ∷ [])) ++ code v) ++ (34 ∷ rest)) ≡ Some (record { value = b ∷ v; rest = rest })
     at true s m p q r h = let e : b ≡ 10 = eqb-true b 10 p in rw (h, e)
     at false true m p q r h = let e : b ≡ 92 = eqb-true b 92 q in rw (e, h)
     at false false true p q r h = let e : b ≡ 34 = eqb-true b 34 r in rw (e, h)
@@ -128,19 +129,19 @@ Fits n v = (length (value_text v.value) + length v.rest ≤ n) × Fair v.rest
 
 -- ---- of a plain value
 
-quoted-parts : (e : Bool) (bs : List ℕ) (p : Part (List ℕ)) → quoted e bs ≡ some p → p.value ++ (34 ∷ p.rest) ≡ bs
+quoted-parts : (e : Bool) (bs : List ℕ) (p : Part (List ℕ)) → quoted e bs ≡ Some p → p.value ++ (34 ∷ p.rest) ≡ bs
 unfolding quoted
-quoted-parts e [] p h = absurd (none-ne-some p h)
+quoted-parts e [] p h = absurd (none-some p h)
 quoted-parts e (b ∷ bs) p h = at (eqb b 34 && not e) refl (quoted (eqb b 92) bs) h (λ q k. quoted-parts (eqb b 92) bs q k)
   where
-    at : (t : Bool) → (eqb b 34 && not e) ≡ t → (o : Option (Part (List ℕ))) → quoted_step t b bs o ≡ some p
-        → ((q : Part (List ℕ)) → o ≡ some q → q.value ++ (34 ∷ q.rest) ≡ bs) → p.value ++ (34 ∷ p.rest) ≡ b ∷ bs
+    at : (t : Bool) → (eqb b 34 && not e) ≡ t → (o : Option (Part (List ℕ))) → quoted_step t b bs o ≡ Some p
+        → ((q : Part (List ℕ)) → o ≡ Some q → q.value ++ (34 ∷ q.rest) ≡ bs) → p.value ++ (34 ∷ p.rest) ≡ b ∷ bs
     at true m o k ih =
-        let r = some-injective _ p k in
+        let r = same_Some _ p k in
         let g : b ≡ 34 = eqb-true b 34 (and_both (eqb b 34) (not e) m).0 in
         rw (← r) (ap (λ (c : ℕ). c ∷ bs) (sym g))
-    at false m none k ih = absurd (none-ne-some p k)
-    at false m (some q) k ih = let r = some-injective _ p k in rw (← r) (ap (λ (l : List ℕ). b ∷ l) (ih q refl))
+    at false m None k ih = absurd (none-some p k)
+    at false m (Some q) k ih = let r = same_Some _ p k in rw (← r) (ap (λ (l : List ℕ). b ∷ l) (ih q refl))
 
 unescape-fair : (w : List ℕ) → Fair w → Fair (unescape w)
 unfolding unescape
@@ -181,9 +182,9 @@ cons-ends b (c ∷ w) f h = at (unescape (c ∷ w)) refl h
     at [] e k = absurd (unescape-some c w e)
     at (x ∷ l) e k = k
 
-quoted-ends : (e : Bool) (bs : List ℕ) (p : Part (List ℕ)) → quoted e bs ≡ some p → (p.value ≡ [] → e ≡ false) × (ends_in_slash (unescape p.value) ≡ false)
+quoted-ends : (e : Bool) (bs : List ℕ) (p : Part (List ℕ)) → quoted e bs ≡ Some p → (p.value ≡ [] → e ≡ false) × (ends_in_slash (unescape p.value) ≡ false)
 unfolding quoted unescape
-quoted-ends e [] p h = absurd (none-ne-some p h)
+quoted-ends e [] p h = absurd (none-some p h)
 quoted-ends e (b ∷ bs) p h = at (eqb b 34 && not e) refl (quoted (eqb b 92) bs) h (λ q k. quoted-ends (eqb b 92) bs q k)
   where
     step : (t : Bool) (w : List ℕ) → (w ≡ [] → eqb b 92 ≡ false) → ends_in_slash (unescape w) ≡ false → ends_in_slash (unescape_step t b (unescape w)) ≡ false
@@ -193,20 +194,20 @@ quoted-ends e (b ∷ bs) p h = at (eqb b 34 && not e) refl (quoted (eqb b 92) bs
     none-ends : ends_in_slash [] ≡ false
     none-ends = unfold ends_in_slash in refl
 
-    at : (t : Bool) → (eqb b 34 && not e) ≡ t → (o : Option (Part (List ℕ))) → quoted_step t b bs o ≡ some p
-        → ((q : Part (List ℕ)) → o ≡ some q → (q.value ≡ [] → eqb b 92 ≡ false) × (ends_in_slash (unescape q.value) ≡ false))
+    at : (t : Bool) → (eqb b 34 && not e) ≡ t → (o : Option (Part (List ℕ))) → quoted_step t b bs o ≡ Some p
+        → ((q : Part (List ℕ)) → o ≡ Some q → (q.value ≡ [] → eqb b 92 ≡ false) × (ends_in_slash (unescape q.value) ≡ false))
         → (p.value ≡ [] → e ≡ false) × (ends_in_slash (unescape p.value) ≡ false)
     at true m o k ih =
-        let r = some-injective _ p k in
+        let r = same_Some _ p k in
         ((λ _. not-true e (and_both (eqb b 34) (not e) m).1), rw (← r) none-ends)
-    at false m none k ih = absurd (none-ne-some p k)
-    at false m (some q) k ih =
-        let r = some-injective _ p k in
+    at false m None k ih = absurd (none-some p k)
+    at false m (Some q) k ih =
+        let r = same_Some _ p k in
         let (f, g) = ih q refl in
         ((λ z. absurd (omega (arith, ap length (ap (λ (x : Part (List ℕ)). x.value) r ∙ z)))), rw (← r) (step (eqb b 92 && starts_mark q.value) q.value f g))
 
 -- a plain value is written as it was, its marks included
-pub plain-same : (bs : List ℕ) (p : Part (List ℕ)) → quoted false bs ≡ some p → Fair bs → value_text (unescape p.value) ≡ 34 ∷ (p.value ++ (34 ∷ []))
+pub plain-same : (bs : List ℕ) (p : Part (List ℕ)) → quoted false bs ≡ Some p → Fair bs → value_text (unescape p.value) ≡ 34 ∷ (p.value ++ (34 ∷ []))
 unfolding value_text needs_code
 plain-same bs p e h =
     let q = quoted-parts false bs p e in
@@ -214,7 +215,7 @@ plain-same bs p e h =
     let v = unescape p.value in
     rw (fair-holds v (unescape-fair p.value f), (quoted-ends false bs p e).1, plain-escape v, escape-back false bs p e)
 
-plain_fits : (bs : List ℕ) (p : Part (List ℕ)) → quoted false bs ≡ some p → Fair bs → Fits (suc (length bs)) (record { value = unescape p.value; rest = p.rest })
+plain_fits : (bs : List ℕ) (p : Part (List ℕ)) → quoted false bs ≡ Some p → Fair bs → Fits (suc (length bs)) (record { value = unescape p.value; rest = p.rest })
 plain_fits bs p e h =
     let q = quoted-parts false bs p e in
     let g = (all_split fair p.value (34 ∷ p.rest) (rw q h)).1 in (
@@ -239,14 +240,14 @@ code-raw b n s m = rw (n, s, m)
 abbrev Small : Item ℕ → Type 0
 Small i = length (code_byte i.value) ≤ suc i.more
 
-taking_small : (n : ℕ) (o : Option ℕ) → 1 ≤ n → Some Small (taking n o)
-taking_small n none h = tt
-taking_small n (some b) h = omega (arith, code_short b)
+taking_small : (n : ℕ) (o : Option ℕ) → 1 ≤ n → InSome Small (taking n o)
+taking_small n None h = tt
+taking_small n (Some b) h = omega (arith, code_short b)
 
-byte_small : (b : ℕ) (bs : List ℕ) → eqb b 10 ≡ false → eqb b 34 ≡ false → Some Small (coded_byte b bs)
+byte_small : (b : ℕ) (bs : List ℕ) → eqb b 10 ≡ false → eqb b 34 ≡ false → InSome Small (coded_byte b bs)
 byte_small b bs n m = at (eqb b 92) refl
   where
-    at : (t : Bool) → eqb b 92 ≡ t → Some Small (pick t (escaped bs) (some (record { value = b; more = 0 })))
+    at : (t : Bool) → eqb b 92 ≡ t → InSome Small (pick t (escaped bs) (Some (record { value = b; more = 0 })))
     at true s =
         pick_some Small (eqb (get_or bs 0 0) 120) (taking 3 (hex_byte (hex_digit (get_or bs 1 0)) (hex_digit (get_or bs 2 0)))) (taking 1 (escape_in escapes (get_or bs 0 0)))
         (taking_small 3 (hex_byte (hex_digit (get_or bs 1 0)) (hex_digit (get_or bs 2 0))) (omega arith))
@@ -256,28 +257,28 @@ byte_small b bs n m = at (eqb b 92) refl
 abbrev CodeFits : ℕ → ℕ → Part (List ℕ) → Type 0
 CodeFits k n p = (length (code p.value) + length p.rest + suc k ≤ n) × Fair p.rest
 
-coded-fits : (k : ℕ) (bs : List ℕ) → Fair bs → Some (CodeFits k (length bs)) (coded k bs)
+coded-fits : (k : ℕ) (bs : List ℕ) → Fair bs → InSome (CodeFits k (length bs)) (coded k bs)
 unfolding coded
 coded-fits k [] h = tt
 coded-fits (suc k) (b ∷ bs) h = longer (coded k bs) (coded-fits k bs (and_both (fair b) (all fair bs) h).1)
   where
-    longer : (o : Option (Part (List ℕ))) → Some (CodeFits k (length bs)) o → Some (CodeFits (suc k) (suc (length bs))) o
-    longer none g = tt
-    longer (some p) (g, f) = (omega arith, f)
+    longer : (o : Option (Part (List ℕ))) → InSome (CodeFits k (length bs)) o → InSome (CodeFits (suc k) (suc (length bs))) o
+    longer None g = tt
+    longer (Some p) (g, f) = (omega arith, f)
 coded-fits zero (b ∷ bs) h =
     let (p, q) = and_both (fair b) (all fair bs) h in
     at (eqb b 34) refl (not-true (eqb b 10) (and_both (not (eqb b 0)) (not (eqb b 10)) p).1) q (λ m. coded-fits m bs q)
   where
-    putting : (i : Item ℕ) (o : Option (Part (List ℕ))) → Small i → Some (CodeFits i.more (length bs)) o → Some (CodeFits 0 (suc (length bs))) (put i.value o)
-    putting i none s g = tt
-    putting i (some r) s (g, f) = (omega (arith, length-append (code_byte i.value) (code r.value)), f)
+    putting : (i : Item ℕ) (o : Option (Part (List ℕ))) → Small i → InSome (CodeFits i.more (length bs)) o → InSome (CodeFits 0 (suc (length bs))) (put i.value o)
+    putting i None s g = tt
+    putting i (Some r) s (g, f) = (omega (arith, length-append (code_byte i.value) (code r.value)), f)
 
-    on : (o : Option (Item ℕ)) → Some Small o → ((m : ℕ) → Some (CodeFits m (length bs)) (coded m bs)) → Some (CodeFits 0 (suc (length bs))) (coded_then o (λ more. coded more bs))
-    on none s ih = tt
-    on (some i) s ih = putting i (coded i.more bs) s (ih i.more)
+    on : (o : Option (Item ℕ)) → InSome Small o → ((m : ℕ) → InSome (CodeFits m (length bs)) (coded m bs)) → InSome (CodeFits 0 (suc (length bs))) (coded_then o (λ more. coded more bs))
+    on None s ih = tt
+    on (Some i) s ih = putting i (coded i.more bs) s (ih i.more)
 
-    at : (t : Bool) → eqb b 34 ≡ t → eqb b 10 ≡ false → Fair bs → ((m : ℕ) → Some (CodeFits m (length bs)) (coded m bs))
-        → Some (CodeFits 0 (suc (length bs))) (coded_step t b bs (λ more. coded more bs))
+    at : (t : Bool) → eqb b 34 ≡ t → eqb b 10 ≡ false → Fair bs → ((m : ℕ) → InSome (CodeFits m (length bs)) (coded m bs))
+        → InSome (CodeFits 0 (suc (length bs))) (coded_step t b bs (λ more. coded more bs))
     at true e n q ih = (omega arith, q)
     at false e n q ih = on (coded_byte b bs) (byte_small b bs n e) ih
 
@@ -330,13 +331,13 @@ value_fits bs h = at (starts_coded bs) refl
     plain_here [] q f = tt
     plain_here (b ∷ cs) q f =
         require-then (Fits (length bs)) (starts_mark (b ∷ cs)) value_bad _
-        (λ _. holds-bind (λ (w : Part (List ℕ)). quoted false cs ≡ some w) (Fits (length bs)) (found (quoted false cs) value_bad) _ (here (quoted false cs))
+        (λ _. holds-bind (λ (w : Part (List ℕ)). quoted false cs ≡ Some w) (Fits (length bs)) (found (quoted false cs) value_bad) _ (here (quoted false cs))
         (λ w k. require-then (Fits (length bs)) (leb (length (unescape w.value)) most_value) value_bad _
         (λ _. subst (λ (n : ℕ). Fits n (record { value = unescape w.value; rest = w.rest })) (ap length q) (plain_fits cs w k (and_both (fair b) (all fair cs) f).1))))
       where
-        here : (o : Option (Part (List ℕ))) → Holds (λ (w : Part (List ℕ)). o ≡ some w) (found {R = Refusal} o value_bad)
-        here none = tt
-        here (some w) = refl
+        here : (o : Option (Part (List ℕ))) → Holds (λ (w : Part (List ℕ)). o ≡ Some w) (found {R = Refusal} o value_bad)
+        here None = tt
+        here (Some w) = refl
 
     at : (t : Bool) → starts_coded bs ≡ t → Holds (Fits (length bs)) (value_by t bs)
     at true e = coded-here bs refl e h

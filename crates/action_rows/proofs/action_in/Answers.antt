@@ -13,21 +13,12 @@ overflow_mul-i c = omega (arith, c.loop-i-test.true, c.requires.1)
 pub number_at-requires : goal.number_at-requires
 number_at-requires c = omega (arith, c.loop-i-test.true, c.requires.2)
 
-pub overflow_add-result : goal.overflow_add-result
-overflow_add-result c = omega (arith, c.loop-i-test.true, c.requires.1)
-
 pub returns-then-number_at-lt16 : goal.returns-then-number_at-lt16
 returns-then-number_at-lt16 c =
     let x = c.args in
     let loop = c.loop-i in
     let number_at = c.number_at in
     (sym (loop.invariant.1 ∙ action_here x.rows.now loop.i x.to c.loop-i-test.true (omega (arith, number_at.ensures.0, c.if-number_at-lt16.true))), omega (arith, c.loop-i-test.true))
-
-pub overflow_add-i : goal.overflow_add-i
-overflow_add-i c = omega (arith, c.loop-i-test.true, c.requires.1)
-
-pub loop-i-smaller : goal.loop-i-smaller
-loop-i-smaller c = omega (arith, c.loop-i-test.true)
 
 pub loop-i-preserved : goal.loop-i-preserved
 loop-i-preserved c =

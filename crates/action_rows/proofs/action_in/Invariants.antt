@@ -6,6 +6,3 @@ use Rattle.action_rows.proofs.action_in.Given as goal
 
 abbrev pub invariant-loop-i : goal.invariant-loop-i
 invariant-loop-i l = (l.i ≤ l.to) × (action_in l.rows l.from (l.to - l.from) ≡ action_in l.rows l.i (l.to - l.i))
-
-abbrev pub decreases-loop-i : goal.decreases-loop-i
-decreases-loop-i l = l.to - l.i

@@ -39,8 +39,8 @@ action_in-action-requires c =
       omega (arith, to.ensures.0, put.to loop.i, within.1),
     )
 
-pub short-requires : goal.short-requires
-short-requires c = omega (arith, c.action_in-action.ensures.1, c.number_at-to.ensures.1)
+pub mark-requires : goal.mark-requires
+mark-requires c = omega (arith, c.action_in-action.ensures.1, c.number_at-to.ensures.1)
 
 pub overflow_mul-rules : goal.overflow_mul-rules
 overflow_mul-rules c = omega (arith, c.loop-i-test.true, c.requires.0)
@@ -54,12 +54,6 @@ offset_bounds-rules-i c = omega (arith, c.loop-i-test.true, c.requires.0)
 pub bounds-rules-i : goal.bounds-rules-i
 bounds-rules-i c = omega (arith, c.loop-i-test.true, c.requires.1, c.loop-i.invariant.1.size)
 
-pub overflow_add-i-in-loop-i-2 : goal.overflow_add-i-in-loop-i-2
-overflow_add-i-in-loop-i-2 c = omega (arith, c.loop-i-test.true, c.requires.0)
-
-pub loop-i-smaller : goal.loop-i-smaller
-loop-i-smaller c = omega (arith, c.loop-i-test.true)
-
 pub loop-i-preserved : goal.loop-i-preserved
 loop-i-preserved c =
     let entry = c in
@@ -68,7 +62,7 @@ loop-i-preserved c =
     let put = loop.invariant.1 in
     let from = c.number_at-from.ensures.0 ∙ put.from loop.i in
     let to = c.number_at-to.ensures.0 ∙ put.to loop.i in
-    let action = c.short.ensures ∙ c.action_in-action.ensures.0 ∙ ap₂ (λ (a b : ℕ). action_in x.rows.now a (b - a)) from to in (
+    let action = c.mark.ensures ∙ c.action_in-action.ensures.0 ∙ ap₂ (λ (a b : ℕ). action_in x.rows.now a (b - a)) from to in (
       omega (arith, c.loop-i-test.true),
       noted-next x.rows.now x.rules.now loop.rules loop.i put (omega (arith, c.loop-i-test.true, entry.requires.1)) _ action,
     )

@@ -6,6 +6,3 @@ use Rattle.action_rows.proofs.put_actions.Given as goal
 
 abbrev pub invariant-loop-i : goal.invariant-loop-i
 invariant-loop-i l = (l.i ≤ l.count) × ActionsPut l.rows l.initial.rules l.rules l.i
-
-abbrev pub decreases-loop-i : goal.decreases-loop-i
-decreases-loop-i l = l.count - l.i

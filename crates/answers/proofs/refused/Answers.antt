@@ -3,4 +3,4 @@ use lib.ListN.{replicate}
 use Rattle.answers.proofs.refused.Goals as goal
 
 pub returns : goal.returns
-returns c = λ room. λ i. record { number = c.number.ensures i; line = c.narrow.ensures i; visited = 0; tried = 0; used = 0; bytes = replicate room 0 }
+returns c = λ room. λ i. record { number = c.number.ensures i; line = c.args.line; visited = 0; tried = 0; used = 0; bytes = replicate room 0 }

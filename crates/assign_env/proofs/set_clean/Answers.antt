@@ -1,4 +1,5 @@
 -- `assign_env::set_clean` meets its contract.
+use mathlib.Core.Logic.{inl, inr}
 use Rattle.assign_env.proofs.Env.{prop_ok, front-size, copy, copy-size, copy_room, copy-ok}
 use Rattle.assign_env.proofs.set_clean.Goals as goal
 
@@ -39,12 +40,6 @@ set_property-requires-in-Unset c =
     let entry = c.args in
     (pre.0, prop_ok entry.key.now entry.value.now pre.1 pre.3 pre.2)
 
-pub set_property-requires-in-AsIs : goal.set_property-requires-in-AsIs
-set_property-requires-in-AsIs c =
-    let pre = c.requires in
-    let entry = c.args in
-    (pre.0, prop_ok entry.key.now entry.value.now pre.1 pre.3 pre.2)
-
 pub returns-in-Replaced : goal.returns-in-Replaced
 returns-in-Replaced c =
     let entry = c.args in
@@ -56,11 +51,4 @@ returns-in-Replaced c =
     set-property.ensures
 
 pub returns-in-Unset : goal.returns-in-Unset
-returns-in-Unset c =
-    let enum-told2 = c.in-Unset in
-    rw enum-told2.is c.set_property-in-Unset.ensures
-
-pub returns-in-AsIs : goal.returns-in-AsIs
-returns-in-AsIs c =
-    let enum-told3 = c.in-AsIs in
-    rw enum-told3.is c.set_property-in-AsIs.ensures
+returns-in-Unset c = elim c.in-Unset.is [ inl e ↦ rw e c.set_property-in-Unset.ensures | inr e ↦ rw e c.set_property-in-Unset.ensures ]

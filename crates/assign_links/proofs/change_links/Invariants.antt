@@ -5,8 +5,8 @@ use lib.ListN.{length}
 use Prim.Native.Nat.{◌-◌}
 use Rattle.assign_links.proofs.change_links.Given as goal
 
-abbrev pub invariant-loop-start : goal.invariant-loop-start
-invariant-loop-start l = Going (operator_of l.operator) l.text l.initial.t l.initial.left l.t l.left l.at
+abbrev pub invariant-loop-name : goal.invariant-loop-name
+invariant-loop-name l = Going (operator_of l.operator) l.text l.initial.t l.initial.left l.t l.left l.at
 
-abbrev pub decreases-loop-start : goal.decreases-loop-start
-decreases-loop-start l = length l.text - l.at
+abbrev pub decreases-loop-name : goal.decreases-loop-name
+decreases-loop-name l = length l.text - l.at

@@ -1,45 +1,26 @@
 -- `assign_owner::set_group` meets its contract.
-use Rattle.assign_owner.proofs.Owners.{owner_short, owner-faulty, owner-sound, owner-done}
+use native.Mathlib.Omega.{arith}
+use Rattle.std.proofs.lemmas.Result.{err_from_is_err_and}
+use Rattle.assign_owner.proofs.Owners.{owner_bad, owner-done}
 use Rattle.outcome_fields.specs.declared.Closable.TheVariants as closable
 use Rattle.outcome.specs.Change.{with_group}
 use Rattle.keys.specs.Table.{operator_of}
-use native.Mathlib.Omega.{arith}
 use Rattle.assign_owner.proofs.set_group.Goals as goal
 
-pub returns-then-x-lt1 : goal.returns-then-x-lt1
-returns-then-x-lt1 c =
-    let entry = c.args in
-    owner_short with_group (operator_of entry.operator) closable.Group entry.x.now entry.t.now entry.layout c.if-x-lt1.true
-
-pub returns-then-not-ok_owner : goal.returns-then-not-ok_owner
-returns-then-not-ok_owner c =
-    let entry = c.args in
-    owner-faulty with_group (operator_of entry.operator) closable.Group entry.x.now entry.t.now entry.layout
-    c.ok_owner.result c.ok_owner.ensures c.if-not-ok_owner.true-raw
+pub returns-in_err-judge_owner : goal.returns-in_err-judge_owner
+returns-in_err-judge_owner c =
+    let a = c.args in
+    let p = err_from_is_err_and c.from_residual.result c.from_residual.ensures.1 in
+    rw (p.1, p.2, c.in_err-judge_owner.ensures.1) (owner_bad with_group (operator_of a.operator) closable.Group a.x.now a.t.now a.layout c.in_err-judge_owner.ensures.0)
 
 pub set_group-left-requires : goal.set_group-left-requires
-set_group-left-requires c =
-    let pre = c.requires in
-    let entry = c.args in
-    let ok-owner = c.ok_owner in (
-      pre,
-      owner-sound with_group (operator_of entry.operator) closable.Group entry.x.now entry.t.now entry.layout
-          ok-owner.result ok-owner.ensures c.if-not-ok_owner.false-raw,
-    )
+set_group-left-requires c = (c.requires, c.in_ok-judge_owner.ensures.1)
 
 pub finish-requires : goal.finish-requires
-finish-requires c =
-    let pre = c.requires in
-    let set-group = c.set_group-left in
-    let (n, s, h) = pre in omega (arith, (set-group.ensures n s h).room)
+finish-requires c = let (n, s, h) = c.requires in omega (arith, (c.set_group-left.ensures n s h).room)
 
 pub returns : goal.returns
 returns c =
-    let entry = c.args in
-    let if1 = c.if-x-lt1 in
-    let ok-owner = c.ok_owner in
-    let if2 = c.if-not-ok_owner in
-    let set-group = c.set_group-left in
-    let finish = c.finish in
-    owner-done with_group (operator_of entry.operator) closable.Group entry.x.now entry.t.now entry.layout ok-owner.result
-    ok-owner.ensures (omega (arith, if1.false)) if2.false-raw _ set-group.result set-group.ensures _ finish.ensures
+    let a = c.args in
+    owner-done with_group (operator_of a.operator) closable.Group a.x.now a.t.now a.layout c.in_ok-judge_owner.ensures.0
+    _ c.set_group-left.result c.set_group-left.ensures _ c.finish.ensures

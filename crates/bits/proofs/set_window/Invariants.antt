@@ -6,7 +6,4 @@ use Rattle.bits.proofs.Windows.{written}
 use Rattle.bits.proofs.set_window.Given as goal
 
 abbrev pub invariant-loop-i : goal.invariant-loop-i
-invariant-loop-i l = (l.i ≤ l.count) × (length l.s ≡ length l.initial.s) × (l.s ≡ written l.initial.s l.first l.count l.w l.i) × (l.rest ≡ l.w / 2 ^ (8 * (l.count - l.i)))
-
-abbrev pub decreases-loop-i : goal.decreases-loop-i
-decreases-loop-i l = l.i
+invariant-loop-i l = (l.s ≡ written l.initial.s l.first l.count l.w l.i) × (l.rest ≡ l.w / 2 ^ (8 * (l.count - l.i)))

@@ -5,7 +5,4 @@ use Rattle.bits.specs.Bits.{number_at}
 use Rattle.bits.proofs.window.Given as goal
 
 abbrev pub invariant-loop-i : goal.invariant-loop-i
-invariant-loop-i l = (l.i ≤ l.count) × (l.w ≡ number_at l.s (8 * l.first) (8 * l.i))
-
-abbrev pub decreases-loop-i : goal.decreases-loop-i
-decreases-loop-i l = l.count - l.i
+invariant-loop-i l = l.w ≡ number_at l.s (8 * l.first) (8 * l.i)

@@ -1,4 +1,4 @@
-use Prim.Native.Nat.{◌+◌, ◌-◌}
+use Prim.Native.Nat.{◌+◌}
 use lib.IntN.{ℤ}
 use lib.ListN.{length, length-set}
 use mathlib.Core.Path.{◌≡◌, refl, ap, ◌∙◌}
@@ -6,10 +6,12 @@ use borrow.Author.Rules.{rules}
 use mir.Facts.{to_z-of_z}
 use mir.Syntax.{w32}
 use native.Mathlib.Omega.{arith}
-use Rattle.claims.proofs.Turns.{next_stands, seen_first, seen-made, seen_missed, seen_all}
+use Rattle.std.specs.Option.{is_some}
+use Rattle.claims.proofs.Turns.{next_stands, seen_as, seen_first, seen-made, seen_missed, seen_all}
 use Rattle.claims.specs.Claims.{as_claimant}
 use Rattle.contest.specs.Contest as contest
 use Rattle.contest.specs.Contest.{higher as higher_claimant}
+use Rattle.claims.proofs.claimants.Goals.{in-Some, in_default}
 use Rattle.claims.proofs.claimants.Goals as goal
 
 pub byte-requires : goal.byte-requires
@@ -37,8 +39,8 @@ claim_at-claim-requires c =
     let pre = c.requires in
     next_stands entry.set.now loop.q loop.i loop.invariant.0.standing (omega (arith, loop-test.true, pre.0))
 
-pub byte-requires-then-claim : goal.byte-requires-then-claim
-byte-requires-then-claim c =
+pub byte-requires-in-Some : goal.byte-requires-in-Some
+byte-requires-in-Some c =
     let pre = c.requires in
     let loop-test = c.loop-i-test in
     omega (arith, pre.1, loop-test.true)
@@ -53,38 +55,30 @@ bounds-list-count c =
     let sized : length loop.list ≡ length entry.list.now = loop.invariant.1 ∙ length-set entry.list.now 0 byte.result in
     omega (arith, loop.invariant.0.few, sized, loop-test.true, pre.1, pre.2)
 
-pub loop-i-preserved-then-claim : goal.loop-i-preserved-then-claim
-loop-i-preserved-then-claim c =
-    let loop = c.loop-i in
-    let entry = c.args in
-    let byte = c.byte in
-    let claim-at = c.claim_at-claim in
-    let loop-test = c.loop-i-test in
-    let pre = c.requires in
-    let byte2 = c.byte-then-claim in
-    let higher = c.higher-top in
-    let if1 = c.if-claim in
-    let sized : length loop.list ≡ length entry.list.now = loop.invariant.1 ∙ length-set entry.list.now 0 byte.result in
-    let priority = to_z-of_z {w = w32} {z = claim-at.result.priority} (search rules) in (
-      seen-made entry.set.now entry.name.now (as_claimant entry.first) entry.n loop.list (as_claimant loop.top) loop.q loop.i loop.count
-          loop.invariant.0 (omega (arith, loop-test.true, pre.0)) (omega (arith, loop-test.true)) claim-at.result claim-at.ensures _
-          byte2.result (as_claimant higher.result) if1.true
-          (omega (arith, loop.invariant.0.few, sized, loop-test.true, pre.1, pre.2)) byte2.ensures refl
-          (higher.ensures ∙ ap (λ (z : ℤ). higher_claimant (as_claimant loop.top) (record { position = loop.i + 1; priority = z })) priority),
-      length-set loop.list loop.count byte2.result ∙ loop.invariant.1,
-    )
-
 pub loop-i-preserved : goal.loop-i-preserved
 loop-i-preserved c =
-    let entry = c.args in
+    let a = c.args in
     let loop = c.loop-i in
-    let loop-test = c.loop-i-test in
-    let pre = c.requires in
-    let claim-at = c.claim_at-claim in
-    let if1 = c.if-claim in
-    let missed = seen_missed entry.set.now entry.name.now (as_claimant entry.first) entry.n loop.list (as_claimant loop.top) loop.q loop.i loop.count
-    loop.invariant.0 (omega (arith, loop-test.true, pre.0)) (omega (arith, loop-test.true)) claim-at.result claim-at.ensures if1.false in
-    (missed, loop.invariant.1)
+    let claim = c.claim_at-claim in
+    let sized : length loop.list ≡ length a.list.now = loop.invariant.1 ∙ length-set a.list.now 0 c.byte.result in
+    elim c.match-claim.branch [
+      | in-Some w ↦
+          let priority = to_z-of_z {w = w32} {z = w.in-Some.priority} (search rules) in (
+            seen_as refl refl w.count-is
+                (seen-made a.set.now a.name.now (as_claimant a.first) a.n loop.list (as_claimant loop.top) loop.q loop.i loop.count
+                loop.invariant.0 (omega (arith, c.loop-i-test.true, c.requires.0)) (omega (arith, c.loop-i-test.true)) claim.result claim.ensures _
+                w.byte-in-Some.result (as_claimant c.match-claim.top) w.in-Some.priority w.in-Some.is
+                (omega (arith, loop.invariant.0.few, sized, c.loop-i-test.true, c.requires.1, c.requires.2)) w.byte-in-Some.ensures w.list-is
+                (ap as_claimant w.top-is ∙ w.higher-top.ensures ∙ ap (λ (z : ℤ). higher_claimant (as_claimant loop.top) (record { position = loop.i + 1; priority = z })) priority)),
+            ap length w.list-is ∙ length-set loop.list loop.count w.byte-in-Some.result ∙ loop.invariant.1,
+          )
+      | in_default w ↦ (
+        seen_as w.list-is (ap as_claimant w.top-is) w.count-is
+            (seen_missed a.set.now a.name.now (as_claimant a.first) a.n loop.list (as_claimant loop.top) loop.q loop.i loop.count
+            loop.invariant.0 (omega (arith, c.loop-i-test.true, c.requires.0)) (omega (arith, c.loop-i-test.true)) claim.result claim.ensures (ap is_some w.in_default.is)),
+        ap length w.list-is ∙ loop.invariant.1,
+      )
+    ]
 
 pub shape_of-list : goal.shape_of-list
 shape_of-list c =

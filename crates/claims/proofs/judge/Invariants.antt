@@ -1,10 +1,6 @@
 -- `claims::judge` meets its contract.
-use Prim.Native.Nat.{◌-◌}
 use Rattle.claims.proofs.Judging.{Left}
 use Rattle.claims.proofs.judge.Given as goal
 
 abbrev pub invariant-loop-i : goal.invariant-loop-i
-invariant-loop-i l = Left l.set l.p l.i l.count
-
-abbrev pub decreases-loop-i : goal.decreases-loop-i
-decreases-loop-i l = l.count - l.i
+invariant-loop-i l = Left l.set l.p l.i l.i-end

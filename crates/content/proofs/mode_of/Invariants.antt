@@ -6,8 +6,5 @@ use Rattle.content.specs.Mode.{mode_of}
 use Rattle.content.proofs.Modes.{mode_from}
 use Rattle.content.proofs.mode_of.Given as goal
 
-abbrev pub invariant-loop-i : goal.invariant-loop-i
-invariant-loop-i l = (l.i ≤ length l.x) × (length l.x ≤ 4) × (l.mode < 8 ^ l.i) × (mode_of l.x ≡ mode_from l.mode (drop l.i l.x))
-
-abbrev pub decreases-loop-i : goal.decreases-loop-i
-decreases-loop-i l = length l.x - l.i
+abbrev pub invariant-loop-b : goal.invariant-loop-b
+invariant-loop-b l = (length l.x ≤ 4) × (l.mode < 8 ^ l.b-index) × (mode_of l.x ≡ mode_from l.mode (drop l.b-index l.x))

@@ -3,8 +3,8 @@ use borrow.Author.Tests.{le-leb, lt-leb}
 use lib.ListN.{length}
 use Rattle.content.proofs.ok_output.Goals as goal
 
-pub returns-then-x-gt512 : goal.returns-then-x-gt512
-returns-then-x-gt512 c = rw (lt-leb (length c.args.x.now) 512 c.if-x-gt512.true)
+pub returns-then-x-le512 : goal.returns-then-x-le512
+returns-then-x-le512 c = rw (le-leb (length c.args.x.now) 512 c.if-x-le512.true) c.clean.ensures
 
-pub returns : goal.returns
-returns c = rw (le-leb (length c.args.x.now) 512 c.if-x-gt512.false) c.clean.ensures
+pub returns-else-x-le512 : goal.returns-else-x-le512
+returns-else-x-le512 c = rw (lt-leb (length c.args.x.now) 512 c.if-x-le512.false)

@@ -1,20 +1,19 @@
 -- `content::ok_part` meets its contract.
 use mathlib.Core.Path.{sym}
-use Rattle.content.proofs.Names.{part-empty, part-long, part_other, part_dot, part_two}
 use native.Mathlib.Omega.{arith}
+use Rattle.content.proofs.Names.{part-empty, part-long, part_other, part_second, part_dot, part_dots}
 use Rattle.content.proofs.ok_part.Goals as goal
-
-pub returns-then-n-eq0 : goal.returns-then-n-eq0
-returns-then-n-eq0 c = sym (part-empty c.args.x.now c.if-n-eq0.true)
-
-pub returns-then-n-gt2 : goal.returns-then-n-gt2
-returns-then-n-gt2 c = sym (part-long c.args.x.now c.if-n-gt2.true)
-
-pub returns-then-x-ne46 : goal.returns-then-x-ne46
-returns-then-x-ne46 c = sym (part_other c.args.x.now (omega arith) c.if-x-ne46.true)
-
-pub returns-then-n-eq1 : goal.returns-then-n-eq1
-returns-then-n-eq1 c = sym (part_dot c.args.x.now c.if-n-eq1.true c.if-x-ne46.false)
+use Rattle.content.proofs.ok_part.Goals.{in_default, in_default-2, in_default-3, in_default-4, in-empty, in-empty-2, in-empty-3}
 
 pub returns : goal.returns
-returns c = part_two c.args.x.now (omega arith) c.if-x-ne46.false
+returns c =
+    let x = c.args.x.now in
+    elim c.if-matches.branch [
+      | in_default w ↦ rw w.matches-is (sym (part_other x (omega arith) (λ e. omega arith)))
+      | in_default-2 w ↦ rw w.matches-is (sym (part_second x (omega arith) (λ e. omega arith)))
+      | in_default-3 w ↦ rw w.matches-is (sym (part_other x (omega arith) (λ e. omega arith)))
+      | in_default-4 w ↦ rw w.matches-is (sym (part-long x (omega arith)))
+      | in-empty w ↦ rw w.matches-is (sym (part-empty x (omega arith)))
+      | in-empty-2 w ↦ rw w.matches-is (sym (part_dot x (omega arith) (omega arith)))
+      | in-empty-3 w ↦ rw w.matches-is (sym (part_dots x (omega arith) (omega arith) (omega arith)))
+    ]

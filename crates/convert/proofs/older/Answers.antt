@@ -36,28 +36,28 @@ chain_of-chain-requires c = is-some (D.decode c.args.device.now) (sym c.check.en
 pub age-requires : goal.age-requires
 age-requires c =
     let n = c.chain_of-chain.result.len in
-    let found = sound-state (decode n c.args.outcome.now) c.in-Sound.field-0 (sym c.in-Sound.is ∙ c.check-2.ensures) in
+    let found = sound-state (decode n c.args.outcome.now) c.in-Some.field-0 (sym c.in-Some.is ∙ c.check-2.ensures) in
     (c.if-target-lt-OLD_FULLEST.false, c.clear.ensures ∙ ap (λ (k : ℕ). replicate k 0) (sym c.clear.auto.t), (n, found.0, found.1))
 
-pub returns-in-Sound : goal.returns-in-Sound
-returns-in-Sound c =
+pub returns : goal.returns
+returns c =
     let a = c.args in
     let m = length a.target.now in
     let e : length c.clear.new.t ≡ m = c.clear.auto.t in
     let h : fullest_old ≤ m = omega (arith, c.if-target-lt-OLD_FULLEST.false) in
     let d = is-some (D.decode a.device.now) (sym c.check.ensures ∙ not-false _ c.if-not-check.false-raw) in
     let r = c.chain_of-chain.result in
-    let found = sound-state (decode r.len a.outcome.now) c.in-Sound.field-0 (sym c.in-Sound.is ∙ c.check-2.ensures) in
+    let found = sound-state (decode r.len a.outcome.now) c.in-Some.field-0 (sym c.in-Some.is ∙ c.check-2.ensures) in
     c.age.ensures r.len found.0 found.1
     ∙ ap (λ (i : ℕ). given i (old_record found.0)) e
     ∙ sym (older-made a.device.now a.outcome.now m h d.0 d.1 r (c.chain_of-chain.ensures d.0 d.1) found.0 found.1)
 
-pub returns-in-Faulty : goal.returns-in-Faulty
-returns-in-Faulty c =
+pub returns-in_default : goal.returns-in_default
+returns-in_default c =
     let a = c.args in
     let m = length a.target.now in
     let e : length c.clear.new.t ≡ m = c.clear.auto.t in
     let h : fullest_old ≤ m = omega (arith, c.if-target-lt-OLD_FULLEST.false) in
     let d = is-some (D.decode a.device.now) (sym c.check.ensures ∙ not-false _ c.if-not-check.false-raw) in
-    ap (answered c.refused-in-Faulty.result) c.clear.ensures ∙ c.refused-in-Faulty.ensures m
-    ∙ sym (older_outcome a.device.now a.outcome.now m h d.0 d.1 c.chain_of-chain.result (c.chain_of-chain.ensures d.0 d.1) (sym c.in-Faulty.is ∙ c.check-2.ensures))
+    ap (answered c.refused-in_default.result) c.clear.ensures ∙ c.refused-in_default.ensures m
+    ∙ sym (older_outcome a.device.now a.outcome.now m h d.0 d.1 c.chain_of-chain.result (c.chain_of-chain.ensures d.0 d.1) (sym c.in_default.is ∙ c.check-2.ensures))

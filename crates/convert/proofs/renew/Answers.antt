@@ -29,8 +29,8 @@ accepted-requires c =
     let like = old_like_lem c.args.old.now (sym c.is_old.ensures ∙ not-false _ c.if-not-is_old.false-raw) in
     (omega arith, omega arith, omega (arith, like.short))
 
-pub returns-in-Sound : goal.returns-in-Sound
-returns-in-Sound c =
+pub returns : goal.returns
+returns c =
     let a = c.args in
     let m = length a.t.now in
     let t = c.write_newer.new.t in
@@ -39,18 +39,18 @@ returns-in-Sound c =
     let bytes : Bytes t = λ i. search rules in
     ap (answered c.accepted.result) read.bytes
     ∙ c.accepted.ensures m (renewed a.old.now) read.size
-    ∙ sound_new a.chain a.old.now m t read bytes c.in-Sound.field-0 (sym c.in-Sound.is ∙ c.check.ensures)
+    ∙ sound_new a.chain a.old.now m t read bytes c.in-Some.field-0 (sym c.in-Some.is ∙ c.check.ensures)
 
-pub shape_of-t-in-Faulty : goal.shape_of-t-in-Faulty
-shape_of-t-in-Faulty c = c.clear.auto.t ∙ c.write_newer.auto.t
+pub shape_of-t-in_default : goal.shape_of-t-in_default
+shape_of-t-in_default c = c.clear.auto.t ∙ c.write_newer.auto.t
 
-pub returns-in-Faulty : goal.returns-in-Faulty
-returns-in-Faulty c =
+pub returns-in_default : goal.returns-in_default
+returns-in_default c =
     let a = c.args in
     let m = length a.t.now in
     let t = c.write_newer.new.t in
     let like = old_like_lem a.old.now (sym c.is_old.ensures ∙ not-false _ c.if-not-is_old.false-raw) in
     let read = renewed-held a.chain a.old.now m t like c.write_newer.ensures in
-    ap (answered c.refused-in-Faulty.result) (c.clear.ensures ∙ ap (λ (n : ℕ). replicate n 0) c.write_newer.auto.t)
-    ∙ c.refused-in-Faulty.ensures m
-    ∙ no_record m (decode_old a.chain a.old.now) (faulty_new a.chain a.old.now m t read (sym c.in-Faulty.is ∙ c.check.ensures))
+    ap (answered c.refused-in_default.result) (c.clear.ensures ∙ ap (λ (n : ℕ). replicate n 0) c.write_newer.auto.t)
+    ∙ c.refused-in_default.ensures m
+    ∙ no_record m (decode_old a.chain a.old.now) (faulty_new a.chain a.old.now m t read (sym c.in_default.is ∙ c.check.ensures))

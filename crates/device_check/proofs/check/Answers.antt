@@ -27,33 +27,33 @@ returns-in_default c =
 
 pub check_member-requires : goal.check_member-requires
 check_member-requires c =
-    let v = event_at c.args.rec.now (λ i. (c.type_inv.rec i).fits) c.read_head-head.result.properties c.in-At.event (omega arith) (sym c.in-At.ensures) in
+    let v = event_at c.args.rec.now (λ i. (c.type_inv.rec i).fits) c.read_head-head.result.properties c.in-Some.event (omega arith) (sym c.in-Some.ensures) in
     (v.within, omega arith)
 
 pub returns-in_default-check_member : goal.returns-in_default-check_member
 returns-in_default-check_member c =
     let l = c.args.rec.now in
-    let v = event_at l (λ i. (c.type_inv.rec i).fits) c.read_head-head.result.properties c.in-At.event (omega arith) (sym c.in-At.ensures) in
+    let v = event_at l (λ i. (c.type_inv.rec i).fits) c.read_head-head.result.properties c.in-Some.event (omega arith) (sym c.in-Some.ensures) in
     sym
     (event_faulty l (omega arith) (omega arith) (head_in c.read_head-head.result) c.read_head-head.ensures.is
     (sym c.ok_head.ensures ∙ c.if-not-ok_head.false)
-    c.in-At.event v
+    c.in-Some.event v
     (sym c.in_default-check_member.ensures))
 
 pub check_parents-requires : goal.check_parents-requires
 check_parents-requires c =
     let l = c.args.rec.now in
-    let v = event_at l (λ i. (c.type_inv.rec i).fits) c.read_head-head.result.properties c.in-At.event (omega arith) (sym c.in-At.ensures) in
-    let n = next_at l (λ i. (c.type_inv.rec i).fits) c.in-At.event c.in-At-check_member.parents v.within (sym c.in-At-check_member.ensures) in
+    let v = event_at l (λ i. (c.type_inv.rec i).fits) c.read_head-head.result.properties c.in-Some.event (omega arith) (sym c.in-Some.ensures) in
+    let n = next_at l (λ i. (c.type_inv.rec i).fits) c.in-Some.event c.in-Some-check_member.parents v.within (sym c.in-Some-check_member.ensures) in
     (n.within, omega arith, next-path _ _ _ n)
 
 pub returns : goal.returns
 returns c =
     let l = c.args.rec.now in
-    let v = event_at l (λ i. (c.type_inv.rec i).fits) c.read_head-head.result.properties c.in-At.event (omega arith) (sym c.in-At.ensures) in
-    let n = next_at l (λ i. (c.type_inv.rec i).fits) c.in-At.event c.in-At-check_member.parents v.within (sym c.in-At-check_member.ensures) in
+    let v = event_at l (λ i. (c.type_inv.rec i).fits) c.read_head-head.result.properties c.in-Some.event (omega arith) (sym c.in-Some.ensures) in
+    let n = next_at l (λ i. (c.type_inv.rec i).fits) c.in-Some.event c.in-Some-check_member.parents v.within (sym c.in-Some-check_member.ensures) in
     c.check_parents.ensures
     ∙ sym
     (chain-judged l (omega arith) (omega arith) (head_in c.read_head-head.result) c.read_head-head.ensures.is
     (sym c.ok_head.ensures ∙ c.if-not-ok_head.false)
-    c.in-At.event v c.in-At-check_member.parents n)
+    c.in-Some.event v c.in-Some-check_member.parents n)

@@ -3,27 +3,8 @@ use mathlib.Core.Path.{sym, ◌∙◌}
 use native.Mathlib.Omega.{arith}
 use borrow.Author.Tests.{not-true, not-false}
 use Rattle.device_head.specs.Read.{lens_in}
-use Rattle.device_check.proofs.Members.{at_cut, at_unused, at_short, at_faulty, at_sound}
+use Rattle.device_check.proofs.Members.{at_faulty, at_sound}
 use Rattle.device_check.proofs.check_member.Goals as goal
-
-pub returns-then-room-lt4 : goal.returns-then-room-lt4
-returns-then-room-lt4 c =
-    let entry = c.args in
-    sym (at_cut entry.rec.now entry.at c.if-room-lt4.true)
-
-pub returns-then-lens-ne0 : goal.returns-then-lens-ne0
-returns-then-lens-ne0 c =
-    let a = c.args in
-    sym (at_unused a.rec.now a.at (lens_in c.read_lens-lens.result) c.read_lens-lens.ensures.is (omega arith) c.if-lens-ne0.true)
-
-pub returns-then-room-texts : goal.returns-then-room-texts
-returns-then-room-texts c =
-    let if2 = c.if-lens-ne0 in
-    let r = c in
-    let a = c.args in
-    sym
-    (at_short a.rec.now a.at (lens_in c.read_lens-lens.result) c.read_lens-lens.ensures.is (omega arith) if2.false
-    c.if-room-texts.true)
 
 pub returns-then-not-ok_texts : goal.returns-then-not-ok_texts
 returns-then-not-ok_texts c =

@@ -8,6 +8,3 @@ use Rattle.device_check.proofs.ok_path.Given as goal
 
 abbrev pub invariant-loop-i : goal.invariant-loop-i
 invariant-loop-i l = (1 ≤ l.i) × (l.i ≤ length l.s) × (tail_ok (get_or l.s (l.i - 1) 0) (drop l.i l.s) ≡ ok_path l.s)
-
-abbrev pub decreases-loop-i : goal.decreases-loop-i
-decreases-loop-i l = length l.s - l.i

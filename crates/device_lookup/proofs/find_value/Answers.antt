@@ -5,13 +5,13 @@ use Rattle.rows.specs.Row as rows
 use Rattle.device_lookup.specs.Lookup.{value_of}
 use Rattle.device_lookup.proofs.find_value.Goals as goal
 
-pub returns-in-At : goal.returns-in-At
-returns-in-At c =
+pub returns-in-Ok : goal.returns-in-Ok
+returns-in-Ok c =
     let entry = c.args in
     let find = c.find in (
-      ap value_of (sym c.in-At.is ∙ find.ensures.0),
-      (subst (λ x. rows.Within x (length entry.rec.now)) c.in-At.is find.ensures.1).1,
+      ap value_of (sym c.in-Ok.is ∙ find.ensures.0),
+      (subst (λ x. rows.Within x (length entry.rec.now)) c.in-Ok.is find.ensures.1).1,
     )
 
-pub returns-in-Missing : goal.returns-in-Missing
-returns-in-Missing c = (ap value_of (sym c.in-Missing.is ∙ c.find.ensures.0), tt)
+pub returns-in-Err : goal.returns-in-Err
+returns-in-Err c = (ap value_of (sym c.in-Err.is ∙ c.find.ensures.0), tt)

@@ -11,10 +11,10 @@ pub overflow_add-result : goal.overflow_add-result
 overflow_add-result c =
     let entry = c.args in
     let pre = c.requires in
-    let w = subst (λ x. Within x (length entry.rec.now)) c.in-At.is pre in omega arith
+    let w = subst (λ x. Within x (length entry.rec.now)) c.in-Some.is pre in omega arith
 
 pub slice_bounds-result-end : goal.slice_bounds-result-end
 slice_bounds-result-end c =
     let entry = c.args in
     let pre = c.requires in
-    let w = subst (λ x. Within x (length entry.rec.now)) c.in-At.is pre in omega arith
+    let w = subst (λ x. Within x (length entry.rec.now)) c.in-Some.is pre in omega arith

@@ -1,4 +1,6 @@
-use Prim.Native.Nat.{◌-◌}
+use Prim.Native.Nat.{◌-◌, ◌<◌}
+use mathlib.Core.Path.{◌≡◌, ◌∙◌}
+use lib.ListN.{length}
 use Rattle.escapes.proofs.Scanning.{scan_begins, scan_closed, scan_bad, scan_next, scan_out}
 use native.Mathlib.Omega.{arith}
 use Rattle.escapes.proofs.decode.Goals as goal
@@ -15,22 +17,8 @@ returns-then-line-i-eq34 c =
     let at = c.loop-i in
     scan_closed c.args.line.now c.args.start c.args.out.now at.out at.i at.len at.invariant (omega arith) c.if-line-i-eq34.true
 
-pub shape_of-out-then-taken-eq0 : goal.shape_of-out-then-taken-eq0
-shape_of-out-then-taken-eq0 c = c.loop-i.invariant.kept
-
-pub returns-then-taken-eq0 : goal.returns-then-taken-eq0
-returns-then-taken-eq0 c =
-    let at = c.loop-i in
-    scan_bad c.args.line.now c.args.start c.args.out.now at.out at.i at.len at.invariant c.taken_at-taken.result (omega arith) c.if-line-i-eq34.false c.taken_at-taken.ensures.0 c.if-taken-eq0.true
-
-pub overflow_add-i : goal.overflow_add-i
-overflow_add-i c = omega (arith, c.taken_at-taken.ensures.1)
-
 pub overflow_add-len : goal.overflow_add-len
 overflow_add-len c = omega (arith, c.loop-i.invariant.counted)
-
-pub loop-i-smaller : goal.loop-i-smaller
-loop-i-smaller c = omega (arith, c.if-taken-eq0.false)
 
 pub shape_of-out : goal.shape_of-out
 shape_of-out c = c.loop-i.invariant.kept
@@ -43,7 +31,11 @@ returns c =
 pub loop-i-preserved : goal.loop-i-preserved
 loop-i-preserved c =
     let at = c.loop-i in
-    scan_next c.args.line.now c.args.start c.args.out.now at.out at.i at.len at.invariant
-    c.taken_at-taken.result (omega arith)
-    c.if-line-i-eq34.false c.taken_at-taken.ensures.0
-    c.if-taken-eq0.false c.put_at.new.out c.put_at.ensures
+    scan_next c.args.line.now c.args.start c.args.out.now at.out at.i at.len at.invariant (omega arith) c.if-line-i-eq34.false
+    c.in_ok-taken.taken c.in_ok-taken.ensures.value c.put_at.new.out c.put_at.ensures
+
+pub returns-in_err-taken : goal.returns-in_err-taken
+returns-in_err-taken c =
+    let at = c.loop-i in
+    rw c.from_residual.ensures
+    (scan_bad c.args.line.now c.args.start c.args.out.now at.out at.i at.len at.invariant (omega arith) c.if-line-i-eq34.false c.in_err-taken.ensures.value)

@@ -1,5 +1,4 @@
 -- `file_order::any_above` meets its contract.
-use Prim.Native.Nat.{◌-◌}
 use mathlib.Core.Path.{◌≡◌}
 use lib.ListN.{drop}
 use Rattle.lists.specs.Lists.{any}
@@ -9,6 +8,3 @@ use Rattle.file_order.proofs.any_above.Given as goal
 
 abbrev pub invariant-loop-j : goal.invariant-loop-j
 invariant-loop-j l = any (above (file_at l.set l.p)) (drop l.j (files_at l.set l.starts l.n)) ≡ any (above (file_at l.set l.p)) (files_at l.set l.starts l.n)
-
-abbrev pub decreases-loop-j : goal.decreases-loop-j
-decreases-loop-j l = l.n - l.j

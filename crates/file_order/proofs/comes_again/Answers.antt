@@ -11,11 +11,6 @@ bounds-starts-i c =
     let pre = c.requires in
     omega (arith, pre.0.room, pre.1)
 
-pub overflow_add-j : goal.overflow_add-j
-overflow_add-j c =
-    let pre = c.requires in
-    omega (arith, pre.1)
-
 pub loop-j-init : goal.loop-j-init
 loop-j-init c =
     refl

@@ -1,5 +1,4 @@
 -- `file_order::doubled` meets its contract.
-use Prim.Native.Nat.{◌-◌}
 use mathlib.Core.Path.{◌≡◌}
 use lib.ListN.{drop}
 use Rattle.files.specs.Files.{doubled as twice}
@@ -8,6 +7,3 @@ use Rattle.file_order.proofs.doubled.Given as goal
 
 abbrev pub invariant-loop-i : goal.invariant-loop-i
 invariant-loop-i l = twice (drop l.i (files_at l.set l.starts l.n)) ≡ twice (files_at l.set l.starts l.n)
-
-abbrev pub decreases-loop-i : goal.decreases-loop-i
-decreases-loop-i l = l.n - l.i

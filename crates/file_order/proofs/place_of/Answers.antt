@@ -15,8 +15,7 @@ name_of-name-requires c =
     pre.2
 
 pub loop-j-init : goal.loop-j-init
-loop-j-init c =
-    (omega arith, omega arith)
+loop-j-init c = omega arith
 
 pub bounds-order-j : goal.bounds-order-j
 bounds-order-j c =
@@ -30,7 +29,7 @@ offset_bounds-starts-i c =
     let loop = c.loop-j in
     let pre = c.requires in
     let loop-test = c.loop-j-test in
-    let wide = c.wide-i in
+    let wide = c.from-i in
     let number = kept_at entry.n entry.order.now entry.k loop.j pre.1 (omega (arith, loop-test.true)) in
     omega (arith, number, wide.ensures, pre.0.room)
 
@@ -40,7 +39,7 @@ bounds-starts-i c =
     let loop = c.loop-j in
     let pre = c.requires in
     let loop-test = c.loop-j-test in
-    let wide = c.wide-i in
+    let wide = c.from-i in
     let number = kept_at entry.n entry.order.now entry.k loop.j pre.1 (omega (arith, loop-test.true)) in
     omega (arith, number, wide.ensures, pre.0.room)
 
@@ -50,7 +49,7 @@ name_of-requires c =
     let loop = c.loop-j in
     let pre = c.requires in
     let loop-test = c.loop-j-test in
-    let wide = c.wide-i in
+    let wide = c.from-i in
     let number = kept_at entry.n entry.order.now entry.k loop.j pre.1 (omega (arith, loop-test.true)) in
     pre.0.stand wide.result (omega (arith, number, wide.ensures))
 
@@ -59,7 +58,7 @@ returns-then-comes_before c =
     let entry = c.args in
     let loop = c.loop-j in
     let name-of2 = c.name_of in
-    let wide = c.wide-i in
+    let wide = c.from-i in
     let name-of = c.name_of-name in
     let comes-before = c.comes_before in
     let pre = c.requires in
@@ -69,14 +68,14 @@ returns-then-comes_before c =
     = ap (λ (i : ℕ). (file_on entry.set.now entry.starts.now i).name) (sym wide.ensures) ∙ sym name-of2.ensures in
     let first = ap₂ before (sym name-of.ensures) named ∙ sym comes-before.ensures in
     let here = place_here entry.set.now entry.starts.now entry.order.now entry.k pre.1.room (file_at entry.set.now entry.p) loop.j (omega (arith, loop-test.true)) (first ∙ if1.true) in
-    (omega (arith, here, loop.invariant.1), omega (arith, loop-test.true))
+    (omega (arith, here, loop.invariant), omega (arith, loop-test.true))
 
 pub loop-j-preserved : goal.loop-j-preserved
 loop-j-preserved c =
     let entry = c.args in
     let loop = c.loop-j in
     let name-of2 = c.name_of in
-    let wide = c.wide-i in
+    let wide = c.from-i in
     let name-of = c.name_of-name in
     let comes-before = c.comes_before in
     let pre = c.requires in
@@ -86,13 +85,9 @@ loop-j-preserved c =
     = ap (λ (i : ℕ). (file_on entry.set.now entry.starts.now i).name) (sym wide.ensures) ∙ sym name-of2.ensures in
     let first = ap₂ before (sym name-of.ensures) named ∙ sym comes-before.ensures in
     let on = place-on entry.set.now entry.starts.now entry.order.now entry.k pre.1.room (file_at entry.set.now entry.p) loop.j (omega (arith, loop-test.true)) (first ∙ if1.false) in
-    (omega (arith, loop-test.true), sym on ∙ loop.invariant.1)
+    sym on ∙ loop.invariant
 
 pub returns : goal.returns
 returns c =
-    let entry = c.args in
-    let pre = c.requires in
-    let loop = c.loop-j in
-    let loop-test = c.loop-j-test in
-    let end = place_end entry.set.now entry.starts.now entry.order.now entry.k pre.1.room (file_at entry.set.now entry.p) loop.j (omega (arith, loop-test.false)) in
-    (omega (arith, end, loop.invariant.1), loop.invariant.0)
+    let end = place_end c.args.set.now c.args.starts.now c.args.order.now c.args.k c.requires.1.room (file_at c.args.set.now c.args.p) c.loop-j.j (omega (arith, c.loop-j-test.false)) in
+    (omega (arith, end, c.loop-j.invariant, c.loop-j-test.false), omega arith)

@@ -1,5 +1,5 @@
 -- `file_order::place_of` meets its contract.
-use Prim.Native.Nat.{◌+◌, ◌-◌, ◌≤◌}
+use Prim.Native.Nat.{◌+◌}
 use mathlib.Core.Path.{◌≡◌}
 use lib.ListN.{drop}
 use Rattle.file_rows.specs.Places.{file_at}
@@ -7,7 +7,4 @@ use Rattle.file_order.specs.Order.{chosen, place_in}
 use Rattle.file_order.proofs.place_of.Given as goal
 
 abbrev pub invariant-loop-j : goal.invariant-loop-j
-invariant-loop-j l = (l.j ≤ l.k) × (l.j + place_in (file_at l.set l.p) (drop l.j (chosen l.set l.starts l.order l.k)) ≡ place_in (file_at l.set l.p) (chosen l.set l.starts l.order l.k))
-
-abbrev pub decreases-loop-j : goal.decreases-loop-j
-decreases-loop-j l = l.k - l.j
+invariant-loop-j l = l.j + place_in (file_at l.set l.p) (drop l.j (chosen l.set l.starts l.order l.k)) ≡ place_in (file_at l.set l.p) (chosen l.set l.starts l.order l.k)

@@ -6,6 +6,3 @@ use Rattle.file_order.proofs.winners.Given as goal
 
 abbrev pub invariant-loop-i : goal.invariant-loop-i
 invariant-loop-i l = Ordered l.set l.starts l.n l.order l.k l.i × (length l.order ≡ length l.initial.order)
-
-abbrev pub decreases-loop-i : goal.decreases-loop-i
-decreases-loop-i l = l.i

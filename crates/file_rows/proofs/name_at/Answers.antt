@@ -1,47 +1,28 @@
 -- `file_rows::name_at` meets its contract.
+use Prim.Native.Nat.{◌<◌}
+use lib.ListN.{length}
+use mathlib.Core.Logic.{inl, inr}
 use mathlib.Core.Path.{refl}
 use Rattle.file_rows.proofs.Names.{none_there, name_outside, name-empty, name-long, name-is}
 use native.Mathlib.Omega.{arith}
 use Rattle.file_rows.proofs.name_at.Goals as goal
 
 pub returns-then-room-lt1 : goal.returns-then-room-lt1
-returns-then-room-lt1 c =
-    let entry = c.args in
-    let if1 = c.if-room-lt1 in
-    none_there entry.set.now entry.p (omega (arith, if1.true))
+returns-then-room-lt1 c = none_there c.args.set.now c.args.p (omega (arith, c.if-room-lt1.true))
 
 pub returns-then-room-len : goal.returns-then-room-len
 returns-then-room-len c =
-    let entry = c.args in
-    let if1 = c.if-room-lt1 in
-    let wide = c.wide-len in
-    let if2 = c.if-room-len in
-    name_outside entry.set.now entry.p (omega (arith, if1.false)) (omega (arith, wide.ensures, if2.true))
-
-pub returns-then-len-lt1 : goal.returns-then-len-lt1
-returns-then-len-lt1 c =
-    let entry = c.args in
-    let if1 = c.if-room-lt1 in
-    let wide = c.wide-len in
-    let if2 = c.if-room-len in
-    let if3 = c.if-len-lt1 in
-    name-empty entry.set.now entry.p (omega (arith, if1.false)) (omega (arith, wide.ensures, if2.false)) (omega (arith, wide.ensures, if3.true))
-
-pub returns-then-len-gt-MOST_NAME : goal.returns-then-len-gt-MOST_NAME
-returns-then-len-gt-MOST_NAME c =
-    let entry = c.args in
-    let if1 = c.if-room-lt1 in
-    let wide = c.wide-len in
-    let if2 = c.if-room-len in
-    let if4 = c.if-len-gt-MOST_NAME in
-    name-long entry.set.now entry.p (omega (arith, if1.false)) (omega (arith, wide.ensures, if2.false)) (omega (arith, wide.ensures, if4.true))
+    let set = c.args.set.now in
+    let some : c.args.p < length set = omega (arith, c.if-room-lt1.false) in
+    let sized = c.from-len.ensures in
+    elim c.then-room-len.either [
+      | inl l ↦ name_outside set c.args.p some (omega (arith, sized, l))
+      | inr m ↦ elim m [
+        | inl l ↦ name-empty set c.args.p some (omega (arith, sized, l.0)) (omega (arith, sized, l.1))
+        | inr l ↦ name-long set c.args.p some (omega (arith, sized, l.0)) (omega (arith, sized, l.2))
+      ]
+    ]
 
 pub returns : goal.returns
 returns c =
-    let entry = c.args in
-    let if1 = c.if-room-lt1 in
-    let wide = c.wide-len in
-    let if2 = c.if-room-len in
-    let if3 = c.if-len-lt1 in
-    let if4 = c.if-len-gt-MOST_NAME in
-    name-is entry.set.now entry.p (omega (arith, if1.false)) _ refl (omega (arith, wide.ensures)) (omega (arith, if2.false, if1.false)) (omega (arith, wide.ensures, if3.false)) (omega (arith, wide.ensures, if4.false))
+    name-is c.args.set.now c.args.p (omega (arith, c.if-room-lt1.false)) _ refl (omega (arith, c.from-len.ensures)) (omega (arith, c.if-room-len.false, c.if-room-lt1.false)) (omega (arith, c.from-len.ensures, c.if-len-lt1.false)) (omega (arith, c.from-len.ensures, c.if-len-gt-MOST_NAME.false))

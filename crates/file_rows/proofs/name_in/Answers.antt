@@ -14,13 +14,13 @@ pub overflow_add-result : goal.overflow_add-result
 overflow_add-result c =
     let entry = c.args in
     let pre = c.requires in
-    let wide = c.wide in
+    let wide = c.from in
     omega (arith, (name-fits entry.set.now entry.p pre).within, wide.ensures)
 
 pub returns : goal.returns
 returns c =
     let entry = c.args in
     let pre = c.requires in
-    let wide = c.wide in
+    let wide = c.from in
     let fits = name-fits entry.set.now entry.p pre in
     name-is entry.set.now entry.p fits.some _ refl (omega (arith, wide.ensures)) (omega (arith, fits.within, wide.ensures)) fits.least fits.most

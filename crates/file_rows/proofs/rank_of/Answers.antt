@@ -5,7 +5,7 @@ use Rattle.file_rows.proofs.rank_of.Goals as goal
 
 pub returns : goal.returns
 returns c =
-    let wide = c.wide in
+    let wide = c.from in
     let entry = c.args in
     let pre = c.requires in
     wide.ensures ∙ rank_is entry.set.now entry.p pre

@@ -1,7 +1,12 @@
-use Prim.Native.Nat.{◌-◌}
-use mathlib.Core.Path.{refl, sym, ◌∙◌}
+use Prim.Native.Nat.{ℕ, ◌-◌, ◌≤◌}
+use mathlib.Core.Path.{◌≡◌, refl, sym, ◌∙◌}
+use mathlib.Core.Bool.{false}
+use mathlib.Core.List.{List}
+use mathlib.Core.Logic.{◌⊎◌, ⊎_elim}
+use Rattle.glob.specs.Place.{matches_from}
+use Rattle.glob.specs.declared.Step.{Step}
 use native.Mathlib.Omega.{arith}
-use lib.ListN.{length-drop, drop}
+use lib.ListN.{length, length-drop, drop}
 use Rattle.glob.specs.declared.Step.TheVariants.{Done, Star, Miss, Stop}
 use Rattle.glob.specs.Step.{StepIs, Eaten}
 use Rattle.glob.proofs.matches_from.Goals as goal
@@ -88,22 +93,14 @@ loop-next-preserved c =
     rw c.in-Eat.is at step-at.ensures in
     (w.inside, omega (arith, w.byte), sym w.here ∙ loop.invariant.2)
 
+-- no match from here
+missed : (r : Step) (s : List ℕ) (p : ℕ) (v : List ℕ) (t : ℕ) → t ≤ length v → StepIs r s p v t → (r ≡ Miss) ⊎ (r ≡ Stop) → matches_from s p (drop t v) ≡ false
+missed r s p v t h w o =
+    ⊎_elim (λ e. let k : StepIs Miss s p v t = rw e at w in k.1)
+    (λ e. let k : StepIs Stop s p v t = rw e at w in k (drop t v) (omega (arith, length-drop t v))) o
+
 pub returns-in-Miss : goal.returns-in-Miss
 returns-in-Miss c =
     let entry = c.args in
-    let loop-call = c.loop-next in
-    let step-at = c.step_at in
-    let args = entry in
-    let loop = loop-call in
-    let w : StepIs Miss args.pattern.now loop.p args.value.now loop.t = rw c.in-Miss.is at step-at.ensures in
-    sym w.1 ∙ loop.invariant.2
-
-pub returns-in-Stop : goal.returns-in-Stop
-returns-in-Stop c =
-    let entry = c.args in
-    let loop-call = c.loop-next in
-    let step-at = c.step_at in
-    let args = entry in
-    let loop = loop-call in
-    let w : StepIs Stop args.pattern.now loop.p args.value.now loop.t = rw c.in-Stop.is at step-at.ensures in
-    sym (w (drop loop.t args.value.now) (omega (arith, length-drop loop.t args.value.now))) ∙ loop.invariant.2
+    let loop = c.loop-next in
+    sym (missed c.step_at.result entry.pattern.now loop.p entry.value.now loop.t loop.invariant.1 c.step_at.ensures c.in-Miss.is) ∙ loop.invariant.2

@@ -16,8 +16,8 @@ returns-then-is_plain c =
     let byte-or-bar = byte-or-bar-call in
     let k : is_special byte-or-bar.result ≡ false =
     not-true (is_special byte-or-bar.result) (sym is-plain.ensures ∙ c.if-is_plain.true) in
-    start_at_lem args.pattern.now args.star args.value.now args.from c.byte_end.result pre
-    (rw byte-or-bar.ensures at c.byte_end.ensures) (rw byte-or-bar.ensures at k)
+    start_at_lem args.pattern.now args.star args.value.now args.from c.run_end.result pre
+    (rw byte-or-bar.ensures at c.run_end.ensures) (rw byte-or-bar.ensures at k)
 
 pub returns-else-is_plain : goal.returns-else-is_plain
 returns-else-is_plain c =

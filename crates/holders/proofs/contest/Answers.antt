@@ -11,13 +11,13 @@ use Rattle.holders.proofs.Answers.{going_same, all-bytes, all_end, all-names, co
 use Rattle.holders.proofs.Lists.{names_few}
 use Rattle.holders.specs.Lists.{Going}
 use Rattle.lists.specs.Bytes.{Bytes}
-use Rattle.lists.specs.Checked.{refused, ok}
+use Rattle.lists.specs.Checked.{ok}
 use Rattle.lists.specs.Lists.{cat}
 use Rattle.outcome.specs.State.{State}
-use Rattle.refusals.specs.Refusals.{refusal_of}
+use Rattle.std.specs.Prelude.{Err}
+use Rattle.claims.specs.Judged.{JudgedIs}
 use Rattle.set_answers.specs.Answers.{answered}
-use Rattle.sets.specs.Answer.{of_record, acceptance}
-use Rattle.sets.specs.Lent.{most_records}
+use Rattle.sets.specs.Answer.{acceptance}
 use Rattle.splice.specs.Moves.{padded}
 use Rattle.holders.proofs.contest.Goals as goal
 
@@ -32,7 +32,7 @@ count_of-requires c =
     let entry = c.args in
     let enough : fullest_contest ≤ length entry.target.now = omega (arith, c.if-target-lt-FULLEST.false, c.clear.auto.t) in
     let in_bytes : Bytes entry.set.now = λ i. (c.type_inv.set i).fits in
-    let (ss, is) : (ss : List State) × (states_of entry.set.now ≡ ok ss) = c.in-Sound.ensures in
+    let (ss, is) : (ss : List State) × (states_of entry.set.now ≡ ok ss) = c.in-Ok.ensures in
     (whole entry.set.now (length entry.target.now) enough in_bytes ss is).some
 
 pub list-listed-requires : goal.list-listed-requires
@@ -41,7 +41,7 @@ list-listed-requires c =
     let room : length c.clear.new.t ≡ length entry.target.now = omega (arith, c.clear.auto.t) in
     let enough : fullest_contest ≤ length entry.target.now = omega (arith, c.if-target-lt-FULLEST.false, room) in
     let in_bytes : Bytes entry.set.now = λ i. (c.type_inv.set i).fits in
-    let (ss, is) : (ss : List State) × (states_of entry.set.now ≡ ok ss) = c.in-Sound.ensures in
+    let (ss, is) : (ss : List State) × (states_of entry.set.now ≡ ok ss) = c.in-Ok.ensures in
     let counted = c.count_of.ensures.0 ∙ (whole entry.set.now (length entry.target.now) enough in_bytes ss is).counted in
     (contest-going entry.set.now (length entry.target.now) enough in_bytes ss is c.clear.new.t c.count_of.result room counted, c.clear.ensures ∙ ap (λ (n : ℕ). replicate n 0) (sym room))
 
@@ -52,7 +52,7 @@ accepted-requires c =
     let room : length c.clear.new.t ≡ length entry.target.now = omega (arith, c.clear.auto.t) in
     let enough : fullest_contest ≤ length entry.target.now = omega (arith, c.if-target-lt-FULLEST.false, room) in
     let in_bytes : Bytes entry.set.now = λ i. (c.type_inv.set i).fits in
-    let (ss, is) : (ss : List State) × (states_of entry.set.now ≡ ok ss) = c.in-Sound.ensures in
+    let (ss, is) : (ss : List State) × (states_of entry.set.now ≡ ok ss) = c.in-Ok.ensures in
     let counted = c.count_of.ensures.0 ∙ (whole entry.set.now (length entry.target.now) enough in_bytes ss is).counted in
     let going = contest-going entry.set.now (length entry.target.now) enough in_bytes ss is c.clear.new.t c.count_of.result room counted in
     let still = going_same entry.set.now list.new.t c.clear.new.t c.count_of.result list.auto.t going in
@@ -61,21 +61,19 @@ accepted-requires c =
     let few = names_few entry.set.now _ list.new.t list.result.end list.result.names list.ensures.0.written in
     (omega arith, omega arith, omega (arith, size, end), omega (arith, size, end, few))
 
-pub refused-requires-in-Refused : goal.refused-requires-in-Refused
-refused-requires-in-Refused c =
-    let entry = c.args in
-    let why = c.in-Refused in
-    let refused-is : (states_of entry.set.now ≡ refused (of_record why.position (refusal_of why.why))) × (why.position ≤ most_records) = why.ensures in
-    (omega (arith, refused-is.1), omega arith)
+pub refused-requires-in-Err : goal.refused-requires-in-Err
+refused-requires-in-Err c =
+    let is : JudgedIs (states_of c.args.set.now) (Err c.in-Err.fault) = c.in-Err.ensures in
+    (omega (arith, is.1), omega (arith, is.2))
 
-pub returns-in-Sound : goal.returns-in-Sound
-returns-in-Sound c =
+pub returns-in-Ok : goal.returns-in-Ok
+returns-in-Ok c =
     let entry = c.args in
     let list = c.list-listed in
     let room : length c.clear.new.t ≡ length entry.target.now = omega (arith, c.clear.auto.t) in
     let enough : fullest_contest ≤ length entry.target.now = omega (arith, c.if-target-lt-FULLEST.false, room) in
     let in_bytes : Bytes entry.set.now = λ i. (c.type_inv.set i).fits in
-    let (ss, is) : (ss : List State) × (states_of entry.set.now ≡ ok ss) = c.in-Sound.ensures in
+    let (ss, is) : (ss : List State) × (states_of entry.set.now ≡ ok ss) = c.in-Ok.ensures in
     let counted = c.count_of.ensures.0 ∙ (whole entry.set.now (length entry.target.now) enough in_bytes ss is).counted in
     let going = contest-going entry.set.now (length entry.target.now) enough in_bytes ss is c.clear.new.t c.count_of.result room counted in
     let still = going_same entry.set.now list.new.t c.clear.new.t c.count_of.result list.auto.t going in
@@ -89,11 +87,9 @@ returns-in-Sound c =
     ∙ ap (λ (n : ℕ). acceptance (length entry.target.now) 0 0 n made) names
     ∙ contest-accepted entry.set.now (length entry.target.now) enough in_bytes ss is
 
-pub returns-in-Refused : goal.returns-in-Refused
-returns-in-Refused c =
-    let entry = c.args in
-    let why = c.in-Refused in
-    let again = c.refused-in-Refused in
-    let enough : fullest_contest ≤ length entry.target.now = omega (arith, c.if-target-lt-FULLEST.false, c.clear.auto.t) in
-    let refused-is : (states_of entry.set.now ≡ refused (of_record why.position (refusal_of why.why))) × (why.position ≤ most_records) = why.ensures in
-    ap (answered again.result) c.clear.ensures ∙ again.ensures (length entry.target.now) ∙ sym (contest-refused entry.set.now (length entry.target.now) enough (of_record why.position (refusal_of why.why)) refused-is.0)
+pub returns-in-Err : goal.returns-in-Err
+returns-in-Err c =
+    let again = c.refused-in-Err in
+    let enough : fullest_contest ≤ length c.args.target.now = omega (arith, c.if-target-lt-FULLEST.false, c.clear.auto.t) in
+    let is : JudgedIs (states_of c.args.set.now) (Err c.in-Err.fault) = c.in-Err.ensures in
+    ap (answered again.result) c.clear.ensures ∙ again.ensures (length c.args.target.now) ∙ sym (contest-refused c.args.set.now (length c.args.target.now) enough _ is.0)

@@ -1,9 +1,9 @@
 use Prim.Native.Nat.{ℕ, ◌<◌, ◌-◌, ◌+◌}
-use mathlib.Core.Path.{◌≡◌, ap, ◌∙◌, sym, refl}
+use mathlib.Core.Path.{◌≡◌, ap, ◌∙◌, sym}
 use mathlib.Core.List.{List, ◌++◌, map, append_assoc}
 use native.Mathlib.Numerals.{add-one}
 use native.Mathlib.Omega.{arith}
-use lib.ListN.{length, take, drop, set, get_or, length-set, length-map, get_or-map}
+use lib.ListN.{length, take, drop, set, get_or, length-map, get_or-map}
 use lib.Seq.{paste, paste-zero, paste-suc, take-length}
 use Rattle.lists.specs.Bytes.{no_space}
 use Rattle.splice.specs.Moves.{stored}
@@ -29,22 +29,15 @@ done t₀ t src at i e h =
 pub loop-i-init : goal.loop-i-init
 loop-i-init c =
     let entry = c.args in
-    (omega arith, refl, paste-zero entry.t.now entry.at (map no_space entry.src.now))
+    paste-zero entry.t.now entry.at (map no_space entry.src.now)
 
 pub loop-i-preserved : goal.loop-i-preserved
 loop-i-preserved c =
     let entry = c.args in
-    let loop = c.loop-i in (
-      omega arith,
-      simp length-set (omega arith),
-      turn entry.t.now loop.t entry.src.now entry.at loop.i c.no_space.result (omega arith) (omega arith)
-          c.no_space.ensures loop.invariant.2,
-    )
-
-pub shape_of-t : goal.shape_of-t
-shape_of-t c = c.loop-i.invariant.1
+    let loop = c.loop-i in
+    turn entry.t.now loop.t entry.src.now entry.at loop.i c.no_space.result (omega arith) (omega arith) c.no_space.ensures loop.invariant
 
 pub returns : goal.returns
 returns c =
     let entry = c.args in
-    done entry.t.now c.loop-i.t entry.src.now entry.at c.loop-i.i c.loop-i.invariant.2 (omega arith)
+    done entry.t.now c.loop-i.t entry.src.now entry.at c.loop-i.i c.loop-i.invariant (omega arith)

@@ -8,7 +8,4 @@ use Rattle.lists.specs.Bytes.{no_space}
 use Rattle.insertion.proofs.store_spaceless.Given as goal
 
 abbrev pub invariant-loop-i : goal.invariant-loop-i
-invariant-loop-i l = (l.i ≤ length l.src) × (length l.t ≡ length l.initial.t) × (l.t ≡ paste l.initial.t l.at (map no_space l.src) l.i)
-
-abbrev pub decreases-loop-i : goal.decreases-loop-i
-decreases-loop-i l = length l.src - l.i
+invariant-loop-i l = l.t ≡ paste l.initial.t l.at (map no_space l.src) l.i

@@ -1,5 +1,5 @@
 use Prim.Native.Nat.{◌-◌}
-use mathlib.Core.Path.{refl, sym, ◌∙◌}
+use mathlib.Core.Path.{◌≡◌, refl, sym, ◌∙◌}
 use native.Mathlib.Omega.{arith}
 use lib.ListN.{length-set}
 use Rattle.jumps.proofs.Nineteen.{settle-on, settle-all, none_is, put}
@@ -29,12 +29,6 @@ offset_bounds-jumps-i c = omega (arith, c.loop-i-test.true, c.requires.0)
 pub bounds-jumps-i : goal.bounds-jumps-i
 bounds-jumps-i c = omega (arith, c.loop-i-test.true, c.requires.1, c.loop-i.invariant.1)
 
-pub overflow_add-i-in-loop-i : goal.overflow_add-i-in-loop-i
-overflow_add-i-in-loop-i c = omega (arith, c.loop-i-test.true, c.requires.0)
-
-pub loop-i-smaller : goal.loop-i-smaller
-loop-i-smaller c = omega (arith, c.loop-i-test.true)
-
 pub loop-i-preserved : goal.loop-i-preserved
 loop-i-preserved c =
     let a = c.args in (
@@ -52,4 +46,4 @@ pub shape_of-jumps : goal.shape_of-jumps
 shape_of-jumps c = c.loop-i.invariant.1
 
 pub returns : goal.returns
-returns c = (c.loop-i.invariant.0, c.loop-i.invariant.2)
+returns c = let q : c.loop-i.i ≡ c.args.count = omega (arith, c.loop-i.invariant.0, c.loop-i-test.false) in (omega arith, rw q at c.loop-i.invariant.2)

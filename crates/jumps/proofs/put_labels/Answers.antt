@@ -6,18 +6,12 @@ use Rattle.jumps.proofs.put_labels.Goals as goal
 pub loop-i-init : goal.loop-i-init
 loop-i-init c = (c.requires.0, omega arith, refl, c.requires.3, λ k h. refl)
 
-pub overflow_sub-i : goal.overflow_sub-i
-overflow_sub-i c = omega (arith, c.loop-i-test.true)
-
 pub put_label-requires : goal.put_label-requires
 put_label-requires c =
     let a = c.args in
     let (t, (m, (used, x))) = c.requires.2 in
     let q : c.loop-i.i - 1 + 1 ≡ c.loop-i.i = omega (arith, c.loop-i-test.true) in
     (omega (arith, c.loop-i-test.true, c.loop-i.invariant.1, c.requires.1), (t, (m, (used, (a.count, x, rw q c.loop-i.invariant.3)))))
-
-pub loop-i-smaller : goal.loop-i-smaller
-loop-i-smaller c = omega (arith, c.loop-i-test.true)
 
 pub loop-i-preserved : goal.loop-i-preserved
 loop-i-preserved c =

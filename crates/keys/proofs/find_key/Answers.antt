@@ -1,29 +1,18 @@
 -- `keys::find_key` meets its contract.
-use mathlib.Core.Bool.{true}
-use mathlib.Core.Path.{◌≡◌, sym, ◌∙◌}
-use Rattle.lists.specs.Bytes.{same_bytes}
+use mathlib.Core.Path.{sym, ◌∙◌}
 use Rattle.keys.specs.Table.{row_of}
-use Rattle.keys.proofs.Rows.{named_anew, row_unnamed}
+use Rattle.keys.proofs.Rows.{row_named, row_unnamed}
 use Rattle.keys.proofs.find_key.Goals as goal
 
 pub returns-then-same_name : goal.returns-then-same_name
 unfolding row_of
 returns-then-same_name c =
-    let entry = c.args in
-    let place = c.place in
-    let row_at = c.row_at-row in
-    let wide = c.wide in
-    let q : same_bytes (row_of row_at.result).name entry.name.now ≡ true =
-    rw (← wide.ensures) (sym c.same_name.ensures ∙ c.if-same_name.true) in
-    sym (named_anew entry.name.now place.result (row_of row_at.result) row_at.ensures.0 q)
+    sym (row_named c.args.name.now c.place.result (row_of c.row_at-row.result) c.row_at-row.ensures.0
+    (rw (← c.from.ensures) (sym c.same_name.ensures ∙ c.if-same_name.true)))
 
-pub returns : goal.returns
+pub returns-else-same_name : goal.returns-else-same_name
 unfolding row_of
-returns c =
-    let entry = c.args in
-    let place = c.place in
-    let row_at = c.row_at-row in
-    let wide = c.wide in
+returns-else-same_name c =
     sym
-    (row_unnamed entry.name.now place.result (row_of row_at.result) row_at.ensures.0 place.ensures.1
-    (rw (← wide.ensures) (sym c.same_name.ensures ∙ c.if-same_name.false)))
+    (row_unnamed c.args.name.now c.place.result (row_of c.row_at-row.result) c.row_at-row.ensures.0 c.place.ensures.1
+    (rw (← c.from.ensures) (sym c.same_name.ensures ∙ c.if-same_name.false)))

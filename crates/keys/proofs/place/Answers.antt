@@ -10,5 +10,5 @@ pub returns : goal.returns
 unfolding places
 returns c =
     let entry = c.args in
-    rw (c.wide.ensures, c.slot-s.ensures)
+    rw (c.from.ensures, c.slot-s.ensures)
     (place_below (slot_of entry.name.now) (slot_below entry.name.now), place_is entry.name.now)

@@ -7,4 +7,4 @@ unfolding slot_of
 returns c =
     let byte_at = c.byte_at-first in
     let byte-at2 = c.byte_at-second in
-    rw (← byte_at.ensures, ← byte-at2.ensures, ← c.wide.ensures, ← c.wide-2.ensures)
+    rw (← byte_at.ensures, ← byte-at2.ensures, ← c.from.ensures, ← c.from-2.ensures)

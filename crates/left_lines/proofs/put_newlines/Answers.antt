@@ -18,14 +18,6 @@ pub bounds-target-used : goal.bounds-target-used
 bounds-target-used c =
     omega (arith, c.requires, c.loop-i-test.true, c.loop-i.invariant.2)
 
-pub overflow_add-i : goal.overflow_add-i
-overflow_add-i c =
-    omega (arith, c.loop-i-test.true)
-
-pub loop-i-smaller : goal.loop-i-smaller
-loop-i-smaller c =
-    omega (arith, c.loop-i-test.true)
-
 pub loop-i-preserved : goal.loop-i-preserved
 loop-i-preserved c =
     let a = c.args in

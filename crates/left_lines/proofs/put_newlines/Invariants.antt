@@ -7,6 +7,3 @@ use Rattle.left_lines.proofs.put_newlines.Given as goal
 
 abbrev pub invariant-loop-i : goal.invariant-loop-i
 invariant-loop-i l = (l.i ≤ l.n) × (l.target ≡ stored l.initial.target l.used (replicate l.i 10)) × (length l.target ≡ length l.initial.target)
-
-abbrev pub decreases-loop-i : goal.decreases-loop-i
-decreases-loop-i l = l.n - l.i

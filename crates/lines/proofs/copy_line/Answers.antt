@@ -1,35 +1,26 @@
 -- `lines::copy_line` meets its contract.
-use mathlib.Core.Path.{◌∙◌}
+use mathlib.Core.Logic.{inl, inr}
+use mathlib.Core.Path.{refl, ◌∙◌}
+use mathlib.Core.Bool.{true, false}
+use Rattle.std.specs.Prelude.{None, Some}
 use Rattle.lists.specs.Bytes.{part}
-use Rattle.lines.specs.declared.JoinedEnd.TheVariants as joined
-use Rattle.lines.specs.declared.Unjoined.TheVariants as bytes
-use Rattle.lines.specs.Ends.{JoinedAt, UnjoinedIs}
+use Rattle.lines.specs.Ends.{Reaches, UnjoinedIs}
 use Rattle.lines.proofs.Held.{end-within, found_copied}
 use Rattle.lines.proofs.copy_line.Goals as goal
 
 pub unjoin-requires : goal.unjoin-requires
 unjoin-requires c =
     let a = c.args in
-    let j : JoinedAt a.text.now a.at (joined.At c.in-At.end c.in-At.newlines) = rw c.in-At.is at c.joined_end.ensures in
-    let (from, within) = end-within a.text.now a.at c.in-At.end c.requires.0 j.0 in
+    let (from, within) = end-within a.text.now a.at c.in-Ok.extent.end c.requires.0 c.in-Ok.ensures.0 in
     (from, within, c.requires.1)
 
-pub returns-in-Open : goal.returns-in-Open
-returns-in-Open c =
-    let a = c.args in
-    let j : JoinedAt a.text.now a.at (joined.Open c.in-Open.last c.in-Open.joins) = rw c.in-Open.is at c.joined_end.ensures in
-    j
+pub returns-in-Err : goal.returns-in-Err
+returns-in-Err c = inl (refl, c.in-Err.ensures)
 
-pub returns-in-Bad : goal.returns-in-Bad
-returns-in-Bad c =
-    let a = c.args in
-    let j : JoinedAt a.text.now a.at (joined.At c.in-At.end c.in-At.newlines) = rw c.in-At.is at c.joined_end.ensures in
-    let u : UnjoinedIs (part a.text.now a.at c.in-At.end) c.unjoin.new.line bytes.Bad = rw c.in-Bad.is at c.unjoin.ensures in
-    (j, u)
+pub returns-in-None : goal.returns-in-None
+returns-in-None c = inr (refl, c.in-Ok.ensures, c.in-None.ensures)
 
-pub returns-in-Bytes : goal.returns-in-Bytes
-returns-in-Bytes c =
+pub returns-in-Some : goal.returns-in-Some
+returns-in-Some c =
     let a = c.args in
-    let j : JoinedAt a.text.now a.at (joined.At c.in-At.end c.in-At.newlines) = rw c.in-At.is at c.joined_end.ensures in
-    let u : UnjoinedIs (part a.text.now a.at c.in-At.end) c.unjoin.new.line (bytes.Bytes c.in-Bytes.size) = rw c.in-Bytes.is at c.unjoin.ensures in
-    found_copied a.text.now c.unjoin.new.line a.at c.in-At.end c.in-At.newlines j c.in-Bytes.size (c.unjoin.auto.line ∙ c.requires.1) u
+    found_copied a.text.now c.unjoin.new.line a.at c.in-Ok.extent c.in-Ok.ensures c.in-Some.size (c.unjoin.auto.line ∙ c.requires.1) c.in-Some.ensures

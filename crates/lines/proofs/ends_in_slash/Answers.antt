@@ -1,5 +1,6 @@
 -- `lines::ends_in_slash` meets its contract.
-use mathlib.Core.Path.{sym}
+use mathlib.Core.Path.{sym, ◌∙◌}
+use borrow.Author.Tests.{le-ltb}
 use Rattle.lines.proofs.Walk.{slash_at, slash-none}
 use Rattle.lines.proofs.ends_in_slash.Goals as goal
 
@@ -9,4 +10,4 @@ returns-then-at-end c =
 
 pub returns-else-at-end : goal.returns-else-at-end
 returns-else-at-end c =
-    sym (slash-none c.args.text.now c.args.at c.args.end c.if-at-end.false)
+    le-ltb c.args.at c.args.end c.if-at-end.false ∙ sym (slash-none c.args.text.now c.args.at c.args.end c.if-at-end.false)

@@ -1,16 +1,10 @@
-use Prim.Native.Nat.{ℕ, ◌+◌, ◌-◌, ◌≤◌, ◌<◌}
+use Prim.Native.Nat.{ℕ, ◌+◌, ◌-◌, ◌<◌}
 use mathlib.Core.Path.{sym, ◌∙◌}
 use mathlib.Core.Bool.{true, false}
 use native.Mathlib.Omega.{arith}
 use lib.ListN.{length}
 use Rattle.lines.proofs.Walk.{Walk, run-within, walk_comment, walk_first, walk_ends, walk_open, walk_on}
 use Rattle.lines.proofs.joined_end.Goals as goal
-
-more-behind : (n a : ℕ) → 1 < n - a → a + 1 ≤ n
-more-behind n a h = omega arith
-
-less_behind : (n a b : ℕ) → 1 < n - a → a + 1 ≤ b → n - b < n - a
-less_behind n a b h k = omega arith
 
 pub returns-then-byte_at-eq35 : goal.returns-then-byte_at-eq35
 returns-then-byte_at-eq35 c =
@@ -35,27 +29,27 @@ loop-slash-init c =
           (λ e. c.if-byte_at-eq35.false (c.byte_at.ensures ∙ e)) c.ends_in_slash-slash.result c.ends_in_slash-slash.ensures,
     )
 
-pub overflow_sub-text : goal.overflow_sub-text
-overflow_sub-text c = c.loop-slash.invariant.1.within
+pub overflow_sub-last : goal.overflow_sub-last
+overflow_sub-last c = c.loop-slash.invariant.1.within
 
-pub returns-then-text-end-le1 : goal.returns-then-text-end-le1
-returns-then-text-end-le1 c =
+pub returns-then-last : goal.returns-then-last
+returns-then-last c =
     let a = c.args in
     let turn = c.loop-slash in
     let w : Walk a.text.now a.at turn.end true turn.newlines = rw c.loop-slash-test.true at turn.invariant.1 in
-    (walk_open a.text.now a.at turn.end turn.newlines w c.if-text-end-le1.true, w.count, w.slash-is)
+    (walk_open a.text.now a.at turn.end turn.newlines w (omega (arith, c.if-last.true)), w.count, w.slash-is)
 
 pub ends_in_slash-slash-requires-in-loop-slash : goal.ends_in_slash-slash-requires-in-loop-slash
 ends_in_slash-slash-requires-in-loop-slash c =
     let turn = c.loop-slash in
     let end = c.line_end-end-in-loop-slash in
-    (end.ensures.from, run-within c.args.text.now (turn.end + 1) end.result (more-behind _ turn.end c.if-text-end-le1.false) end.ensures)
+    (end.ensures.from, run-within c.args.text.now (turn.end + 1) end.result (omega (arith, c.if-last.false)) end.ensures)
 
 pub overflow_add-newlines : goal.overflow_add-newlines
 overflow_add-newlines c = omega (arith, c.loop-slash.invariant.0, c.loop-slash.invariant.1.within)
 
 pub loop-slash-smaller : goal.loop-slash-smaller
-loop-slash-smaller c = less_behind _ c.loop-slash.end c.line_end-end-in-loop-slash.result c.if-text-end-le1.false c.line_end-end-in-loop-slash.ensures.from
+loop-slash-smaller c = omega (arith, c.if-last.false, c.line_end-end-in-loop-slash.ensures.from)
 
 pub loop-slash-preserved : goal.loop-slash-preserved
 loop-slash-preserved c =

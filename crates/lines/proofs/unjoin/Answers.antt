@@ -3,6 +3,7 @@ use mathlib.Core.Path.{sym, ◌∙◌}
 use mathlib.Core.Logic.{inl, inr}
 use native.Mathlib.Omega.{arith}
 use Rattle.lines.proofs.Copy.{copy-begins, copy-gone, copy_nul, copy-long, copy-byte, copy-ends}
+use Rattle.lines.proofs.unjoin.Goals.{then-b-eq0-via-then-b-eq0, then-b-eq0-via-else-b-eq0+then-n-ge1024}
 use Rattle.lines.proofs.unjoin.Goals as goal
 
 pub loop-i-init : goal.loop-i-init
@@ -21,16 +22,10 @@ pub returns-then-b-eq0 : goal.returns-then-b-eq0
 returns-then-b-eq0 c =
     let turn = c.loop-i in
     let g = sym c.is_gone.ensures ∙ c.if-is_gone.false in
-    inr (copy_nul c.args.text.now c.args.at c.args.end turn.i turn.n turn.line turn.invariant (omega arith) c.requires.1 g c.if-b-eq0.true)
-
-pub shape_of-line-then-n-ge1024 : goal.shape_of-line-then-n-ge1024
-shape_of-line-then-n-ge1024 c = c.loop-i.invariant.size ∙ sym c.requires.2
-
-pub returns-then-n-ge1024 : goal.returns-then-n-ge1024
-returns-then-n-ge1024 c =
-    let turn = c.loop-i in
-    let g = sym c.is_gone.ensures ∙ c.if-is_gone.false in
-    inl (copy-long c.args.text.now c.args.at c.args.end turn.i turn.n turn.line turn.invariant (omega arith) c.requires.1 g c.if-n-ge1024.true)
+    elim c.then-b-eq0.branch [
+      | then-b-eq0-via-then-b-eq0 w ↦ inr (copy_nul c.args.text.now c.args.at c.args.end turn.i turn.n turn.line turn.invariant (omega arith) c.requires.1 g w.if-b-eq0.true)
+      | then-b-eq0-via-else-b-eq0+then-n-ge1024 w ↦ inl (copy-long c.args.text.now c.args.at c.args.end turn.i turn.n turn.line turn.invariant (omega arith) c.requires.1 g w.if-n-ge1024.true)
+    ]
 
 pub bounds-line-n : goal.bounds-line-n
 bounds-line-n c = omega (arith, c.loop-i.invariant.size)

@@ -6,7 +6,4 @@ use Rattle.link_names.specs.Names.{names}
 use Rattle.link_names.proofs.name_from.Given as goal
 
 abbrev pub invariant-loop-start : goal.invariant-loop-start
-invariant-loop-start l = (names (drop l.from l.text) ≡ names (drop l.start l.text)) × (l.from ≤ l.start) × (l.start ≤ length l.text)
-
-abbrev pub decreases-loop-start : goal.decreases-loop-start
-decreases-loop-start l = length l.text - l.start
+invariant-loop-start l = names (drop l.from l.text) ≡ names (drop l.start l.text)

@@ -1,16 +1,16 @@
 -- `listing_lines::put_number_line` meets its contract.
-use Rattle.listing_lines.proofs.Laws.{line-behind}
+use Rattle.std.proofs.Common.{[], ◌∷◌, arith, length-append}
 use Rattle.template.specs.Decimal.{decimal}
+use Rattle.listing_lines.proofs.Laws.{line_size, line_behind}
 use Rattle.listing_lines.proofs.put_number_line.Goals as goal
 
+pub returns-in_err-worded : goal.returns-in_err-worded
+returns-in_err-worded c =
+    rw c.from_residual.ensures (omega (arith, line_size c.args.word.now (decimal c.args.n), length-append c.args.word.now (32 ∷ []), c.in_err-worded.ensures))
+
+pub returns-in_err-numbered : goal.returns-in_err-numbered
+returns-in_err-numbered c =
+    rw c.from_residual-in_err-numbered.ensures (omega (arith, line_size c.args.word.now (decimal c.args.n), length-append c.args.word.now (32 ∷ []), c.in_ok-worded.ensures, c.in_err-numbered.ensures))
+
 pub returns : goal.returns
-returns c =
-    let entry = c.args in
-    let put_word = c.put_word-worded in
-    let put-decimal = c.put_decimal-numbered in
-    let put_byte = c.put_byte in (
-      put_byte.ensures.0,
-      line-behind entry.word.now (decimal entry.n) entry.out.now put_word.new.out put-decimal.new.out put_byte.new.out
-          entry.front put_word.result put-decimal.result put_byte.result put_word.ensures.1 put-decimal.ensures.1
-          put_byte.ensures.1,
-    )
+returns c = line_behind c.args.word.now c.in_ok-worded.ensures c.in_ok-numbered.ensures c.put_byte.result c.put_byte.new.out c.put_byte.ensures

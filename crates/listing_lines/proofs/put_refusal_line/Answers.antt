@@ -1,28 +1,37 @@
 -- `listing_lines::put_refusal_line` meets its contract.
-use mathlib.Core.List.{[], ◌∷◌, ◌++◌}
+use Rattle.std.proofs.Common.{[], ◌∷◌, ◌++◌, arith, length-append}
 use Rattle.lists.specs.Quoted.{bytes}
 use Rattle.template.specs.Decimal.{decimal}
-use Rattle.listing_lines.proofs.Laws.{behind_both}
+use Rattle.listing_lines.proofs.Laws.{behind}
 use Rattle.listing_lines.proofs.put_refusal_line.Goals as goal
+
+pub returns-in_err-worded : goal.returns-in_err-worded
+unfolding bytes
+returns-in_err-worded c = rw c.from_residual.ensures (simp length-append (omega (arith, c.in_err-worded.ensures)))
+
+pub returns-in_err-numbered : goal.returns-in_err-numbered
+unfolding bytes
+returns-in_err-numbered c =
+    rw c.from_residual-in_err-numbered.ensures (simp length-append (omega (arith, c.in_ok-worded.ensures, c.in_err-numbered.ensures)))
+
+pub returns-in_err-lined : goal.returns-in_err-lined
+unfolding bytes
+returns-in_err-lined c =
+    rw c.from_residual-in_err-lined.ensures
+    (simp length-append (omega (arith, c.in_ok-worded.ensures, c.in_ok-numbered.ensures, c.in_err-lined.ensures)))
+
+pub returns-in_err-placed : goal.returns-in_err-placed
+unfolding bytes
+returns-in_err-placed c =
+    rw c.from_residual-in_err-placed.ensures
+    (simp length-append (omega (arith, c.in_ok-worded.ensures, c.in_ok-numbered.ensures, c.in_ok-lined.ensures, c.in_err-placed.ensures)))
 
 pub returns : goal.returns
 unfolding bytes
 returns c =
-    let entry = c.args in
-    let put-text = c.put_text-worded in
-    let put-decimal = c.put_decimal-numbered in
-    let put-text2 = c.put_text-lined in
-    let put-decimal2 = c.put_decimal-placed in
-    let put_byte = c.put_byte in (
-      put_byte.ensures.0,
-      (behind_both (bytes "refused ") (decimal entry.number ++ (bytes " line " ++ (decimal entry.line ++ (10 ∷ []))))
-          entry.out.now put-text.new.out put_byte.new.out entry.front put-text.result put_byte.result
-          put-text.ensures.1
-          (behind_both (decimal entry.number) (bytes " line " ++ (decimal entry.line ++ (10 ∷ []))) put-text.new.out
-          put-decimal.new.out put_byte.new.out put-text.result put-decimal.result put_byte.result
-          put-decimal.ensures.1
-          (behind_both (bytes " line ") (decimal entry.line ++ (10 ∷ [])) put-decimal.new.out put-text2.new.out
-          put_byte.new.out put-decimal.result put-text2.result put_byte.result put-text2.ensures.1
-          (behind_both (decimal entry.line) (10 ∷ []) put-text2.new.out put-decimal2.new.out put_byte.new.out
-          put-text2.result put-decimal2.result put_byte.result put-decimal2.ensures.1 put_byte.ensures.1)))),
-    )
+    let r = c.put_byte.result in
+    let out = c.put_byte.new.out in
+    behind c.in_ok-worded.ensures (decimal c.args.number ++ (bytes " line " ++ (decimal c.args.line ++ (10 ∷ [])))) r out
+    (behind c.in_ok-numbered.ensures (bytes " line " ++ (decimal c.args.line ++ (10 ∷ []))) r out
+    (behind c.in_ok-lined.ensures (decimal c.args.line ++ (10 ∷ [])) r out
+    (behind c.in_ok-placed.ensures (10 ∷ []) r out c.put_byte.ensures)))

@@ -1,22 +1,23 @@
 -- `listing_lines::put_signed_line` meets its contract.
-use mathlib.Core.Path.{ap}
+use Rattle.std.proofs.Common.{[], ◌∷◌, ap, length, Some, arith, length-append}
+use lib.IntN.{ℤ}
 use mir.Facts.{to_z-of_z}
-use mir.Syntax.{w32}
-use mir.Val.{to_z, of_z}
-use Rattle.listing_lines.proofs.Laws.{behind-is, line-behind}
 use Rattle.engine.specs.Listing.{signed}
+use Rattle.listing_lines.proofs.Laws.{appended_as, line_size, line_behind}
 use Rattle.listing_lines.proofs.put_signed_line.Goals as goal
+
+pub returns-in_err-worded : goal.returns-in_err-worded
+returns-in_err-worded c =
+    rw c.from_residual.ensures (omega (arith, line_size c.args.word.now (signed c.args.z), length-append c.args.word.now (32 ∷ []), c.in_err-worded.ensures))
+
+pub returns-in_err-numbered : goal.returns-in_err-numbered
+returns-in_err-numbered c =
+    let e = ap (λ (z : ℤ). length (signed z)) (to_z-of_z c.ranges.z) in
+    rw c.from_residual-in_err-numbered.ensures
+    (omega (arith, e, line_size c.args.word.now (signed c.args.z), length-append c.args.word.now (32 ∷ []), c.in_ok-worded.ensures, c.in_err-numbered.ensures))
 
 pub returns : goal.returns
 returns c =
-    let entry = c.args in
-    let put_word = c.put_word-worded in
-    let put-signed = c.put_signed-numbered in
-    let put_byte = c.put_byte in (
-      put_byte.ensures.0,
-      line-behind entry.word.now (signed entry.z) entry.out.now put_word.new.out put-signed.new.out put_byte.new.out
-          entry.front put_word.result put-signed.result put_byte.result put_word.ensures.1
-          (behind-is (signed (to_z w32 (of_z w32 entry.z))) (signed entry.z) put_word.new.out put-signed.new.out put_word.result
-          put-signed.result (ap signed (to_z-of_z c.ranges.z)) put-signed.ensures.1)
-          put_byte.ensures.1,
-    )
+    let n = c.in_ok-numbered in
+    let text = appended_as _ (signed c.args.z) _ _ (Some n.numbered) _ (ap signed (to_z-of_z c.ranges.z)) n.ensures in
+    line_behind c.args.word.now c.in_ok-worded.ensures text c.put_byte.result c.put_byte.new.out c.put_byte.ensures

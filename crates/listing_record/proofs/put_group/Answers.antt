@@ -2,7 +2,7 @@
 use mathlib.Core.Path.{ap}
 use Rattle.lists.specs.Quoted.{bytes}
 use Rattle.engine.specs.Listing.{set_line}
-use Rattle.listing_lines.proofs.Laws.{behind-is}
+use Rattle.listing_lines.proofs.Laws.{appended_as}
 use Rattle.listing_record.proofs.Laws.{names-within, group-text}
 use native.Mathlib.Omega.{arith}
 use Rattle.listing_record.proofs.put_group.Goals as goal
@@ -12,7 +12,7 @@ overflow_sub-start c =
     let entry = c in
     let a = entry.args in
     let group = c.field in
-    let (n, s, h) = entry.requires.1 in
+    let (n, s, h) = entry.requires.held in
     let w = names-within n a.t.now a.layout s h in
     omega (arith, w.0, w.1, group.ensures.0)
 
@@ -20,7 +20,7 @@ pub slice_bounds-put_set_line-count : goal.slice_bounds-put_set_line-count
 slice_bounds-put_set_line-count c =
     let a = c.args in
     let group = c.field in
-    let (n, s, h) = c.requires.1 in
+    let (n, s, h) = c.requires.held in
     let w = names-within n a.t.now a.layout s h in
     omega (arith, w.0, w.1, group.ensures.0)
 
@@ -28,7 +28,7 @@ pub slice_bounds-put_set_line-start : goal.slice_bounds-put_set_line-start
 slice_bounds-put_set_line-start c =
     let a = c.args in
     let group = c.field in
-    let (n, s, h) = c.requires.1 in
+    let (n, s, h) = c.requires.held in
     let w = names-within n a.t.now a.layout s h in
     omega (arith, w.0, w.1, group.ensures.0)
 
@@ -36,7 +36,7 @@ pub slice_bounds-put_set_line-end-2 : goal.slice_bounds-put_set_line-end-2
 slice_bounds-put_set_line-end-2 c =
     let a = c.args in
     let group = c.field in
-    let (n, s, h) = c.requires.1 in
+    let (n, s, h) = c.requires.held in
     let w = names-within n a.t.now a.layout s h in
     omega (arith, w.0, w.1, group.ensures.0)
 
@@ -45,10 +45,7 @@ unfolding bytes
 returns c =
     let a = c.args in
     let group = c.field in
-    let put = c.put_set_line in (
-      put.ensures.0,
-      λ n s h.
-          behind-is _ (set_line (bytes "group") s.group) a.out.now put.new.out a.front put.result
-          (ap (set_line (bytes "group")) (group-text n a.t.now a.layout s h group.result group.ensures.0))
-          put.ensures.1,
-    )
+    let put = c.put_set_line in
+    λ n s h.
+    appended_as _ (set_line (bytes "group") s.group) a.out.now a.used put.result put.new.out
+    (ap (set_line (bytes "group")) (group-text n a.t.now a.layout s h group.result group.ensures.0)) put.ensures

@@ -1,24 +1,26 @@
 -- `listing_record::put_lists` meets its contract.
-use mathlib.Core.List.{◌++◌}
+use Rattle.std.proofs.Common.{◌++◌, arith, length-append}
 use Rattle.lists.specs.Quoted.{bytes}
-use Rattle.listing_lines.proofs.Laws.{behind_both}
+use Rattle.listing_lines.proofs.Laws.{behind}
 use Rattle.listing_record.specs.Lines.{text_lines, property_lines}
 use Rattle.listing_record.proofs.put_lists.Goals as goal
+
+pub returns-in_err-links : goal.returns-in_err-links
+unfolding bytes
+returns-in_err-links c = rw c.from_residual.ensures (λ n s h. simp length-append (omega (arith, c.in_err-links.ensures n s h)))
+
+pub returns-in_err-properties : goal.returns-in_err-properties
+unfolding bytes
+returns-in_err-properties c =
+    rw c.from_residual-in_err-properties.ensures
+    (λ n s h. simp length-append (omega (arith, c.in_ok-links.ensures n s h, c.in_err-properties.ensures n s h)))
 
 pub returns : goal.returns
 unfolding bytes
 returns c =
-    let entry = c.args in
-    let put-texts = c.put_texts-links in
-    let put-properties = c.put_properties-properties in
-    let put-texts2 = c.put_texts in (
-      put-texts2.ensures.0,
-      λ n s h.
-          let links = text_lines (bytes "link") s.links in
-          let properties = property_lines (bytes "env") s.properties in
-          let tags = text_lines (bytes "tag") s.tags in
-          let behind-links = behind_both properties tags put-texts.new.out put-properties.new.out put-texts2.new.out
-          put-texts.result put-properties.result put-texts2.result (put-properties.ensures.1 n s h) (put-texts2.ensures.1 n s h) in
-          behind_both links (properties ++ tags) entry.out.now put-texts.new.out put-texts2.new.out
-          entry.front put-texts.result put-texts2.result (put-texts.ensures.1 n s h) behind-links,
-    )
+    let last = c.put_texts-2 in
+    λ n s h.
+    let properties = property_lines (bytes "env") s.properties in
+    let tags = text_lines (bytes "tag") s.tags in
+    behind (c.in_ok-links.ensures n s h) (properties ++ tags) last.result last.new.out
+    (behind (c.in_ok-properties.ensures n s h) tags last.result last.new.out (last.ensures n s h))

@@ -1,5 +1,5 @@
 -- `listing_record::put_priority` meets its contract.
-use Rattle.listing_lines.proofs.Laws.{behind-is}
+use Rattle.listing_lines.proofs.Laws.{appended_as}
 use Rattle.bits.specs.Signed.{to_signed}
 use Rattle.engine.specs.Listing.{signed, line_of}
 use Rattle.outcome_target.proofs.Facts.{held_number, held_head}
@@ -20,12 +20,10 @@ returns c =
     let put-signed-line = c.put_signed_line in
     let word = entry.word.now in
     let t = entry.t.now in
-    let z = to_z w32 (of_z w32 to-signed.result) in (
-      put-signed-line.ensures.0,
-      λ n s h.
-          let number : field.result ≡ s.priority =
-          field.ensures.0 ∙ held_number n t entry.layout s h 35 32 (omega arith) ∙ ap (λ (x : Head). x.priority) (held_head n t entry.layout s h) in
-          let e : z ≡ to_signed s.priority = to_z-of_z {w = w32} {z = to-signed.result} (record { sfits = to-signed.type_inv }) ∙ to-signed.ensures ∙ ap to_signed number in
-          behind-is (line_of word (signed z)) (line_of word (signed (to_signed s.priority))) entry.out.now put-signed-line.new.out
-          entry.front put-signed-line.result (ap (λ (i : ℤ). line_of word (signed i)) e) put-signed-line.ensures.1,
-    )
+    let z = to_z w32 (of_z w32 to-signed.result) in
+    λ n s h.
+    let number : field.result ≡ s.priority =
+    field.ensures.0 ∙ held_number n t entry.layout s h 35 32 (omega arith) ∙ ap (λ (x : Head). x.priority) (held_head n t entry.layout s h) in
+    let e : z ≡ to_signed s.priority = to_z-of_z {w = w32} {z = to-signed.result} (record { sfits = to-signed.type_inv }) ∙ to-signed.ensures ∙ ap to_signed number in
+    appended_as (line_of word (signed z)) (line_of word (signed (to_signed s.priority))) entry.out.now entry.used
+    put-signed-line.result put-signed-line.new.out (ap (λ (i : ℤ). line_of word (signed i)) e) put-signed-line.ensures

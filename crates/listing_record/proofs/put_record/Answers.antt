@@ -1,17 +1,32 @@
 -- `listing_record::put_record` meets its contract.
-use mathlib.Core.List.{◌++◌}
-use Rattle.listing_lines.proofs.Laws.{behind_both}
+use Rattle.std.proofs.Common.{◌++◌, arith, length-append}
+use Rattle.listing_lines.proofs.Laws.{behind}
 use Rattle.listing_record.specs.Lines.{count_lines, setting_lines, list_lines}
 use Rattle.listing_record.proofs.put_record.Goals as goal
 
+pub returns-in_err-counts : goal.returns-in_err-counts
+returns-in_err-counts c =
+    let a = c.args in
+    rw c.from_residual.ensures
+    (λ n s h. omega (arith, length-append (count_lines a.visited a.tried) (setting_lines s ++ list_lines s), c.in_err-counts.ensures))
+
+pub returns-in_err-settings : goal.returns-in_err-settings
+returns-in_err-settings c =
+    let a = c.args in
+    rw c.from_residual-in_err-settings.ensures
+    (λ n s h.
+    omega (
+      arith,
+      length-append (count_lines a.visited a.tried) (setting_lines s ++ list_lines s),
+      length-append (setting_lines s) (list_lines s),
+      c.in_ok-counts.ensures,
+      c.in_err-settings.ensures n s h,
+    ))
+
 pub returns : goal.returns
 returns c =
-    let args = c.args in
-    let counts = c.put_counts-counts in
-    let settings = c.put_settings-settings in
-    let lists = c.put_lists in (
-      lists.ensures.0,
-      λ n s h.
-          behind_both (count_lines args.visited args.tried) (setting_lines s ++ list_lines s) args.out.now counts.new.out lists.new.out args.front counts.result lists.result counts.ensures.1
-          (behind_both (setting_lines s) (list_lines s) counts.new.out settings.new.out lists.new.out counts.result settings.result lists.result (settings.ensures.1 n s h) (lists.ensures.1 n s h)),
-    )
+    let r = c.put_lists.result in
+    let out = c.put_lists.new.out in
+    λ n s h.
+    behind c.in_ok-counts.ensures (setting_lines s ++ list_lines s) r out
+    (behind (c.in_ok-settings.ensures n s h) (list_lines s) r out (c.put_lists.ensures n s h))

@@ -1,44 +1,38 @@
 -- `listing_record::put_watch` meets its contract.
 use mathlib.Core.List.{[]}
 use mathlib.Core.Path.{sym, ◌∙◌}
+use Rattle.std.specs.Prelude.{Some}
+use native.Mathlib.Omega.{arith}
 use Rattle.lists.specs.Quoted.{bytes}
 use Rattle.engine.specs.Listing.{watch_line}
-use Rattle.listing_lines.proofs.Laws.{behind-is, behind-none}
+use Rattle.insertion.proofs.Laws.{appended_none}
+use Rattle.listing_lines.proofs.Laws.{appended_as}
 use Rattle.listing_record.proofs.Laws.{watch_line_lem, nowatch_line, no_line, watch_is}
 use Rattle.listing_record.proofs.put_watch.Goals as goal
 
-pub returns-then-watch-eq1 : goal.returns-then-watch-eq1
+pub returns-in-1 : goal.returns-in-1
 unfolding bytes
-returns-then-watch-eq1 c =
+returns-in-1 c =
     let a = c.args in
-    let field = c.field-watch in
-    let put = c.put_text in (
-      put.ensures.0,
-      λ n s h.
-          let watch = field.ensures.0 ∙ watch_is n a.t.now a.layout s h in
-          behind-is _ (watch_line s.watch) a.out.now put.new.out a.front put.result (watch_line_lem s.watch (sym watch ∙ c.if-watch-eq1.true)) put.ensures.1,
-    )
+    let put = c.put_text in
+    λ n s h.
+    appended_as _ (watch_line s.watch) a.out.now a.used put.result put.new.out
+    (watch_line_lem s.watch (sym (c.field.ensures.0 ∙ watch_is n a.t.now a.layout s h) ∙ c.in-1.is)) put.ensures
 
-pub returns-then-watch-eq2 : goal.returns-then-watch-eq2
+pub returns-in-2 : goal.returns-in-2
 unfolding bytes
-returns-then-watch-eq2 c =
+returns-in-2 c =
     let a = c.args in
-    let field = c.field-watch in
-    let put = c.put_text-then-watch-eq2 in (
-      put.ensures.0,
-      λ n s h.
-          let watch = field.ensures.0 ∙ watch_is n a.t.now a.layout s h in
-          behind-is _ (watch_line s.watch) a.out.now put.new.out a.front put.result (nowatch_line s.watch (sym watch ∙ c.if-watch-eq2.true)) put.ensures.1,
-    )
+    let put = c.put_text-in-2 in
+    λ n s h.
+    appended_as _ (watch_line s.watch) a.out.now a.used put.result put.new.out
+    (nowatch_line s.watch (sym (c.field.ensures.0 ∙ watch_is n a.t.now a.layout s h) ∙ c.in-2.is)) put.ensures
 
-pub returns : goal.returns
-returns c =
+pub returns-in_default : goal.returns-in_default
+returns-in_default c =
     let a = c.args in
-    let field = c.field-watch in (
-      c.requires.0,
-      λ n s h.
-          let watch = field.ensures.0 ∙ watch_is n a.t.now a.layout s h in
-          behind-is [] (watch_line s.watch) a.out.now a.out.now a.front a.front
-          (no_line s.watch (λ e. c.if-watch-eq1.false (watch ∙ e)) (λ e. c.if-watch-eq2.false (watch ∙ e)))
-          (behind-none a.out.now a.front),
-    )
+    λ n s h.
+    let watch = c.field.ensures.0 ∙ watch_is n a.t.now a.layout s h in
+    appended_as [] (watch_line s.watch) a.out.now a.used (Some a.used) a.out.now
+    (no_line s.watch (λ e. omega (arith, watch, e)) (λ e. omega (arith, watch, e)))
+    (appended_none a.out.now a.used c.requires.room)

@@ -4,7 +4,8 @@ use mathlib.Core.List.{List}
 use lib.Seq.{length-take-le}
 use mathlib.Core.Path.{sym, ap}
 use Rattle.engine.specs.Listing.{listing_from, listing}
-use Rattle.listing_run.proofs.Laws.{appended_is, fresh_record, fresh-within}
+use Rattle.listing_run.proofs.Laws.{fresh_record, fresh-within}
+use Rattle.listing_lines.proofs.Laws.{appended_as}
 use native.Mathlib.Omega.{arith}
 use Rattle.listing_run.proofs.list.Goals as goal
 
@@ -27,6 +28,6 @@ returns c =
     let a = c.args in
     let fresh = c.fresh-made in
     let list-from = c.list_from in
-    appended_is _ _ a.out.now list-from.new.out list-from.result
+    appended_as _ _ a.out.now 0 list-from.result list-from.new.out
     (ap (λ (x : List ℕ). listing_from a.text.now a.device.now x a.sheet.now) (fresh_record a.device.now fresh.result fresh.new.target fresh.ensures))
     list-from.ensures

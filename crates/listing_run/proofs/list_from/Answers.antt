@@ -1,9 +1,10 @@
 -- `listing_run::list_from` meets its contract.
 use mathlib.Core.Path.{sym}
 use Rattle.engine.specs.Listing.{printed, listing_from}
-use Rattle.listing_lines.specs.Behind.{refusal_line}
+use Rattle.listing_lines.specs.Lines.{refusal_line}
+use Rattle.listing_lines.proofs.Laws.{appended_as}
 use Rattle.listing_run.specs.Listed.{closed_listing}
-use Rattle.listing_run.proofs.Laws.{from_start, appended_is, run-refused, run-left}
+use Rattle.listing_run.proofs.Laws.{run-refused, run-left}
 use Rattle.listing_run.proofs.list_from.Goals as goal
 
 pub returns-then-ran-ne0 : goal.returns-then-ran-ne0
@@ -12,10 +13,9 @@ returns-then-ran-ne0 c =
     let run = c.run-ran in
     let put = c.put_refusal_line in
     let said = refusal_line run.result.number run.result.line in
-    appended_is said (listing_from a.text.now a.device.now a.outcome.now a.sheet.now) a.out.now put.new.out put.result
-    (run-refused a.text.now a.device.now a.outcome.now a.sheet.now run.result run.new.target run.ensures
-    c.if-ran-ne0.true)
-    (from_start said a.out.now put.new.out put.result put.ensures.1)
+    appended_as said (listing_from a.text.now a.device.now a.outcome.now a.sheet.now) a.out.now 0 put.result put.new.out
+    (run-refused a.text.now a.device.now a.outcome.now a.sheet.now run.result run.new.target run.ensures c.if-ran-ne0.true)
+    put.ensures
 
 pub list_closed-requires : goal.list_closed-requires
 list_closed-requires c =
@@ -39,6 +39,6 @@ returns c =
     (λ i. (c.type_inv.sheet i).fits)
     run.auto.target c.if-ran-ne0.false
     in
-    appended_is (printed (closed_listing run.result.visited run.result.tried d s))
-    (listing_from a.text.now a.device.now a.outcome.now a.sheet.now) a.out.now list-closed.new.out list-closed.result (sym e)
+    appended_as (printed (closed_listing run.result.visited run.result.tried d s))
+    (listing_from a.text.now a.device.now a.outcome.now a.sheet.now) a.out.now 0 list-closed.result list-closed.new.out (sym e)
     (list-closed.ensures d s w)

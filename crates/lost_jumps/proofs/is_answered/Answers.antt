@@ -20,14 +20,6 @@ returns-then-is_label c =
     answered-here a.values.now a.rows.now t a.name.now a.from a.count c.loop-i.i c.loop-i.invariant.0 (c.loop-i.invariant.1 t m used x) c.loop-i-test.true
     (sym (c.is_label.ensures t m used a.count c.loop-i-test.true x) ∙ c.if-is_label.true)
 
-pub overflow_add-i : goal.overflow_add-i
-overflow_add-i c =
-    omega (arith, c.loop-i-test.true)
-
-pub loop-i-smaller : goal.loop-i-smaller
-loop-i-smaller c =
-    omega (arith, c.loop-i-test.true)
-
 pub loop-i-preserved : goal.loop-i-preserved
 loop-i-preserved c =
     let a = c.args in (

@@ -8,6 +8,3 @@ use Rattle.lost_jumps.proofs.is_answered.Given as goal
 abbrev pub invariant-loop-i : goal.invariant-loop-i
 invariant-loop-i l =
     (l.from ≤ l.i) × ((t : List ℕ) (m used : ℕ) → Rules l.values l.rows t l.labels m used l.count → NoneTo l.values l.rows t l.name l.from l.i)
-
-abbrev pub decreases-loop-i : goal.decreases-loop-i
-decreases-loop-i l = l.count - l.i

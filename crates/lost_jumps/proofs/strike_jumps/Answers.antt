@@ -9,19 +9,11 @@ loop-i-init c =
     let a = c.args in
     (turn-start a.values.now a.rows.now a.rules.now a.labels.now a.count, refl, refl)
 
-pub overflow_sub-i : goal.overflow_sub-i
-overflow_sub-i c =
-    omega (arith, c.loop-i-test.true)
-
 pub judge_rule-requires : goal.judge_rule-requires
 judge_rule-requires c =
     let a = c.args in
     let (m, (used, x)) = c.requires.3 in
     (omega (arith, c.loop-i.invariant.0.within, c.loop-i-test.true), omega (arith, c.loop-i.invariant.2, c.requires.1), omega (arith, c.loop-i.invariant.1, c.requires.2), (m, (used, c.loop-i.invariant.0.table m used x)))
-
-pub loop-i-smaller : goal.loop-i-smaller
-loop-i-smaller c =
-    omega (arith, c.loop-i-test.true)
 
 pub loop-i-preserved : goal.loop-i-preserved
 loop-i-preserved c =

@@ -8,6 +8,3 @@ use Rattle.lost_jumps.proofs.strike_jumps.Given as goal
 abbrev pub invariant-loop-i : goal.invariant-loop-i
 invariant-loop-i l =
     Turn l.values l.rows l.initial.rules l.initial.labels l.rules l.labels l.i l.count × (length l.rules ≡ length l.initial.rules) × (length l.labels ≡ length l.initial.labels)
-
-abbrev pub decreases-loop-i : goal.decreases-loop-i
-decreases-loop-i l = l.i

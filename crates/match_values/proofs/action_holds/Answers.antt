@@ -1,41 +1,33 @@
 -- `match_values::action_holds` meets its contract.
-use Prim.Native.Nat.{ℕ, ◌≤◌, ◌<◌}
-use mathlib.Core.Path.{◌≡◌}
+use Prim.Native.Nat.{ℕ}
+use mathlib.Core.Path.{◌≡◌, ap, ◌∙◌}
+use mathlib.Core.List.{List}
 use native.Mathlib.Omega.{arith}
+use Rattle.std.proofs.Common.{Bor}
 use Rattle.device.specs.Device.{action_names}
+use Rattle.entries.specs.Entry.{or_empty}
+use Rattle.lists.specs.Lists.{nth}
 use Rattle.lists.specs.Quoted.{bytes}
+use Rattle.pattern.specs.Pattern.{matches}
+use Rattle.keys.specs.Table.{operator_of}
+use Rattle.engine.specs.Match.{judged}
 use Rattle.match_values.proofs.action_holds.Goals as goal
+use Rattle.match_values.proofs.action_holds.Goals.{in-0, in-1, in-2, in-3, in-4, in-5, in-6, in_default}
 
-pub returns-in-0 : goal.returns-in-0
+pub returns : goal.returns
 unfolding bytes action_names
-returns-in-0 c = rw c.in-0.is c.value_holds.ensures
-
-pub returns-in-1 : goal.returns-in-1
-unfolding bytes action_names
-returns-in-1 c = rw c.in-1.is c.value_holds-in-1.ensures
-
-pub returns-in-2 : goal.returns-in-2
-unfolding bytes action_names
-returns-in-2 c = rw c.in-2.is c.value_holds-in-2.ensures
-
-pub returns-in-3 : goal.returns-in-3
-unfolding bytes action_names
-returns-in-3 c = rw c.in-3.is c.value_holds-in-3.ensures
-
-pub returns-in-4 : goal.returns-in-4
-unfolding bytes action_names
-returns-in-4 c = rw c.in-4.is c.value_holds-in-4.ensures
-
-pub returns-in-5 : goal.returns-in-5
-unfolding bytes action_names
-returns-in-5 c = rw c.in-5.is c.value_holds-in-5.ensures
-
-pub returns-in-6 : goal.returns-in-6
-unfolding bytes action_names
-returns-in-6 c = rw c.in-6.is c.value_holds-in-6.ensures
-
-pub returns-in_default : goal.returns-in_default
-unfolding bytes action_names
-returns-in_default c =
-    let e : c.args.action ≡ 7 = omega (arith, c.requires.0) in
-    rw e c.value_holds-in_default.ensures
+returns c =
+    let a = c.args in
+    let text : Bor (List ℕ) → List ℕ = λ b. b.now in
+    let named : c.match-action.name.now ≡ or_empty (nth a.action action_names) =
+    elim c.match-action.branch [
+      | in-0 w ↦ rw w.in-0.is (ap text w.name-is)
+      | in-1 w ↦ rw w.in-1.is (ap text w.name-is)
+      | in-2 w ↦ rw w.in-2.is (ap text w.name-is)
+      | in-3 w ↦ rw w.in-3.is (ap text w.name-is)
+      | in-4 w ↦ rw w.in-4.is (ap text w.name-is)
+      | in-5 w ↦ rw w.in-5.is (ap text w.name-is)
+      | in-6 w ↦ rw w.in-6.is (ap text w.name-is)
+      | in_default w ↦ let e : a.action ≡ 7 = omega (arith, c.requires.0) in rw e (ap text w.name-is)
+    ] in
+    c.value_holds.ensures ∙ ap (λ (x : List ℕ). judged (operator_of a.operator) (matches a.pattern.now x)) named

@@ -11,4 +11,4 @@ returns-then-ends_in_space c = (omega arith, rw (← c.ends_in_space.ensures, c.
 
 pub returns-else-ends_in_space : goal.returns-else-ends_in_space
 unfolding seen_by
-returns-else-ends_in_space c = (c.trimmed_len-trimmed.ensures.0, rw (← c.ends_in_space.ensures, c.if-ends_in_space.false) c.trimmed_len-trimmed.ensures.1)
+returns-else-ends_in_space c = (c.trimmed_len.ensures.0, rw (← c.ends_in_space.ensures, c.if-ends_in_space.false) c.trimmed_len.ensures.1)

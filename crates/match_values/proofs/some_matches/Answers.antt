@@ -1,4 +1,5 @@
-use mathlib.Core.Path.{refl, sym, ◌∙◌}
+use Prim.Native.Nat.{ℕ, ◌+◌, ◌-◌, ◌<◌}
+use mathlib.Core.Path.{◌≡◌, refl, sym, ◌∙◌}
 use native.Mathlib.Omega.{arith}
 use lib.ListN.{drop}
 use Rattle.match_values.proofs.Texts.{some-here, some_next}
@@ -9,11 +10,16 @@ use Rattle.rows.specs.Row.{names}
 use Rattle.lists.proofs.Moves.{ap_at}
 use Rattle.match_values.proofs.some_matches.Goals as goal
 
-pub loop-left-init : goal.loop-left-init
-loop-left-init c = (c.requires.0, c.requires.1, refl)
+pub loop-init : goal.loop-init
+loop-init c =
+    let all : c.args.n - 0 ≡ c.args.n = omega arith in
+    (c.requires.0, rw all c.requires.1, rw all refl)
 
 pub parts_at-entry-requires : goal.parts_at-entry-requires
-parts_at-entry-requires c = (c.loop-left.invariant.0, row_first Text c.loop-left.left (drop c.loop-left.p c.args.rec.now) c.loop-left-test.true c.loop-left.invariant.1)
+parts_at-entry-requires c =
+    let left : ℕ = c.args.n - c.loop.counter in
+    let more : 0 < left = omega arith in
+    (c.loop.invariant.0, row_first Text left (drop c.loop.p c.args.rec.now) more c.loop.invariant.1)
 
 pub text_matches-requires : goal.text_matches-requires
 text_matches-requires c = c.requires.2
@@ -21,22 +27,25 @@ text_matches-requires c = c.requires.2
 pub returns-then-text_matches : goal.returns-then-text_matches
 returns-then-text_matches c =
     let x = c.args in
-    sym (c.loop-left.invariant.2 ∙ some-here Text x.pattern.now x.rec.now c.loop-left.p
-    c.loop-left.left c.parts_at-entry.result c.parts_at-entry.ensures
-    c.loop-left-test.true (sym c.text_matches.ensures ∙ c.if-text_matches.true))
+    let left : ℕ = x.n - c.loop.counter in
+    let more : 0 < left = omega arith in
+    sym (c.loop.invariant.2 ∙ some-here Text x.pattern.now x.rec.now c.loop.p left c.parts_at-entry.result c.parts_at-entry.ensures
+    more (sym c.text_matches.ensures ∙ c.if-text_matches.true))
 
-pub loop-left-preserved : goal.loop-left-preserved
-loop-left-preserved c =
-    let a = c.args in
-    let x = a in (
+pub loop-preserved : goal.loop-preserved
+loop-preserved c =
+    let x = c.args in
+    let left : ℕ = x.n - c.loop.counter in
+    let more : 0 < left = omega arith in
+    let fewer : x.n - (c.loop.counter + 1) ≡ left - 1 = omega arith in (
       c.parts_at-entry.ensures.within,
-      row-turn Text x.rec.now c.loop-left.p
-          c.loop-left.left c.parts_at-entry.result c.parts_at-entry.ensures
-          c.loop-left-test.true c.loop-left.invariant.1,
-      c.loop-left.invariant.2 ∙ some_next Text x.pattern.now x.rec.now c.loop-left.p
-          c.loop-left.left c.parts_at-entry.result c.parts_at-entry.ensures
-          c.loop-left-test.true (sym c.text_matches.ensures ∙ c.if-text_matches.false),
+      rw fewer (row-turn Text x.rec.now c.loop.p left c.parts_at-entry.result c.parts_at-entry.ensures more c.loop.invariant.1),
+      rw fewer
+          (c.loop.invariant.2 ∙ some_next Text x.pattern.now x.rec.now c.loop.p left c.parts_at-entry.result c.parts_at-entry.ensures
+          more (sym c.text_matches.ensures ∙ c.if-text_matches.false)),
     )
 
 pub returns : goal.returns
-returns c = sym (c.loop-left.invariant.2 ∙ ap_at (λ i. some_matches c.args.pattern.now (names Text i (drop c.loop-left.p c.args.rec.now))) c.loop-left.left 0 (omega arith))
+returns c =
+    let x = c.args in
+    sym (c.loop.invariant.2 ∙ ap_at (λ i. some_matches x.pattern.now (names Text i (drop c.loop.p x.rec.now))) (x.n - c.loop.counter) 0 (omega arith))

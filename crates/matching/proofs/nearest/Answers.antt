@@ -3,6 +3,7 @@ use Prim.Native.Nat.{ℕ, ◌+◌, ◌-◌, ◌≤◌, ◌<◌}
 use mathlib.Core.Path.{◌≡◌, refl, sym, ◌∙◌}
 use mathlib.Core.Bool.{Bool}
 use mathlib.Core.List.{List}
+use Rattle.std.specs.Prelude.{Option}
 use native.Mathlib.Omega.{arith}
 use borrow.Author.Rules.{rules}
 use borrow.Author.Tests.{not-true, not-false}
@@ -36,7 +37,7 @@ module _ (dev : List ℕ) (b : Bytes dev) (places : Chain) (t : List ℕ) (lay :
   few x k h = omega (arith, chain_few dev x.device x.decoded, x.chained.len)
 
   -- as the definitions judge it there
-  judged : (values : List ℕ) (r : Entry) (u : Subject) → u ≡ subject_of (key_of r.key) → (v : Subject) → v ≡ at_parent u → (k : ℕ) (q : Bool)
+  judged : (values : List ℕ) (r : Entry) (u : Option Subject) → u ≡ subject_of (key_of r.key) → (v : Option Subject) → v ≡ at_parent u → (k : ℕ) (q : Bool)
       → ((x : Judging dev (get_or places.at k 0) t lay) → q ≡ pair_on v (entry_of values r) x.device x.member x.state)
       → (x : Begun dev places t lay) (m : Member) → Lies dev (get_or places.at k 0) m → parent_test m (entry_of values r) ≡ q
   judged values r u e v f k q h x m l = parent_judged values r u e v f x.device m x.state q (h (judged_at dev b places t lay x k m l))
@@ -57,12 +58,7 @@ bounds-places-k c =
     few a.dev.now (λ i. (c.type_inv.dev i).fits) a.chain a.t.now a.layout c.requires.2 c.search.k c.if-devices-k.false
 
 pub loop-i-init : goal.loop-i-init
-loop-i-init c = (c.requires.0, λ m f. refl)
-
-pub overflow_add-place : goal.overflow_add-place
-overflow_add-place c =
-    let a = c.args in
-    omega (arith, few a.dev.now (λ i. (c.type_inv.dev i).fits) a.chain a.t.now a.layout c.requires.2 c.search.k c.if-devices-k.false)
+loop-i-init c = λ m f. refl
 
 pub pair_at-entry-requires : goal.pair_at-entry-requires
 pair_at-entry-requires c = omega (arith, c.requires.1.room)
@@ -72,7 +68,7 @@ pair_holds-requires c =
     let a = c.args in
     let b : Bytes a.dev.now = λ i. (c.type_inv.dev i).fits in
     let n = the_nth a.dev.now b a.chain a.t.now a.layout c.requires.2 c.search.k c.if-devices-k.false in (
-      entry_in a.values.now a.rows.now c.loop-i.i a.to c.pair_at-entry.result c.pair_at-entry.ensures c.if-to-i.false c.requires.1,
+      entry_in a.values.now a.rows.now c.loop-i.i a.to c.pair_at-entry.result c.pair_at-entry.ensures c.loop-i-test.true c.requires.1,
       judged_at a.dev.now b a.chain a.t.now a.layout c.requires.2 c.search.k n.member n.lies,
     )
 
@@ -80,15 +76,13 @@ pub loop-i-preserved : goal.loop-i-preserved
 loop-i-preserved c =
     let a = c.args in
     let b : Bytes a.dev.now = λ i. (c.type_inv.dev i).fits in
-    let r = c.pair_at-entry.result in (
-      omega arith,
-      λ m f.
-          c.loop-i.invariant.1 m f
-          ∙ all-next a.values.now a.rows.now c.loop-i.i a.to r c.pair_at-entry.ensures c.if-to-i.false (parent_test m)
-          (judged a.dev.now b a.chain a.t.now a.layout a.values.now r c.subject_of.result c.subject_of.ensures c.at_parent.result c.at_parent.ensures
-          c.search.k c.pair_holds.result c.pair_holds.ensures c.requires.2 m f
-          ∙ not-false _ c.if-not-pair_holds.false-raw),
-    )
+    let r = c.pair_at-entry.result in
+    λ m f.
+    c.loop-i.invariant m f
+    ∙ all-next a.values.now a.rows.now c.loop-i.i a.to r c.pair_at-entry.ensures (omega arith) (parent_test m)
+    (judged a.dev.now b a.chain a.t.now a.layout a.values.now r c.subject_of.result c.subject_of.ensures c.at_parent-subject.result c.at_parent-subject.ensures
+    c.search.k c.pair_holds.result c.pair_holds.ensures c.requires.2 m f
+    ∙ not-false _ c.if-not-pair_holds.false-raw)
 
 pub overflow_add-k : goal.overflow_add-k
 overflow_add-k c =
@@ -106,13 +100,13 @@ search-preserved c =
           let q = c.search in
           let n = the_nth a.dev.now b a.chain a.t.now a.layout x q.k c.if-devices-k.false in
           let f =
-          judged a.dev.now b a.chain a.t.now a.layout a.values.now r c.subject_of.result c.subject_of.ensures c.at_parent.result c.at_parent.ensures
+          judged a.dev.now b a.chain a.t.now a.layout a.values.now r c.subject_of.result c.subject_of.ensures c.at_parent-subject.result c.at_parent-subject.ensures
           q.k c.pair_holds.result c.pair_holds.ensures x n.member n.lies
           ∙ not-true _ c.if-not-pair_holds.true-raw in
           q.invariant.1 x
           ∙ near_later (chain x.device) q.k (pairs_from a.values.now a.rows.now a.from (a.to - a.from)) n.member n.nth
-          (c.loop-i.invariant.1 n.member n.lies
-          ∙ all_fails a.values.now a.rows.now c.loop-i.i a.to r c.pair_at-entry.ensures c.if-to-i.false (parent_test n.member) f),
+          (c.loop-i.invariant n.member n.lies
+          ∙ all_fails a.values.now a.rows.now c.loop-i.i a.to r c.pair_at-entry.ensures c.loop-i-test.true (parent_test n.member) f),
     )
 
 pub returns-then-devices-k : goal.returns-then-devices-k
@@ -120,9 +114,9 @@ returns-then-devices-k c =
     let q = c.search in
     ((λ x. sym (q.invariant.1 x ∙ near_none (chain x.device) q.k _ (omega (arith, x.chained.len)))), refl, omega arith)
 
-pub returns-then-to-i : goal.returns-then-to-i
+pub returns-after-loop-i : goal.returns-after-loop-i
 unfolding parents_hold
-returns-then-to-i c =
+returns-after-loop-i c =
     let a = c.args in
     let b : Bytes a.dev.now = λ i. (c.type_inv.dev i).fits in (
       (λ x.
@@ -131,7 +125,7 @@ returns-then-to-i c =
           sym
           (q.invariant.1 x
           ∙ near_here (chain x.device) q.k (pairs_from a.values.now a.rows.now a.from (a.to - a.from)) n.member n.nth
-          (c.loop-i.invariant.1 n.member n.lies ∙ all_end (parent_test n.member) a.values.now a.rows.now c.loop-i.i a.to c.if-to-i.true))),
+          (c.loop-i.invariant n.member n.lies ∙ all_end (parent_test n.member) a.values.now a.rows.now c.loop-i.i a.to (omega arith)))),
       refl,
       omega arith,
     )

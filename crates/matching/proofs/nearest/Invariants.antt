@@ -18,12 +18,8 @@ parent_test m p = parent_holds p.key m p
 
 abbrev pub invariant-loop-i : goal.invariant-loop-i
 invariant-loop-i l =
-    (l.i ≤ l.to)
-    × ((m : Member) → Lies l.dev l.device m
-    → all (parent_test m) (pairs_from l.values l.rows l.from (l.to - l.from)) ≡ all (parent_test m) (pairs_from l.values l.rows l.i (l.to - l.i)))
-
-abbrev pub decreases-loop-i : goal.decreases-loop-i
-decreases-loop-i l = l.to - l.i
+    (m : Member) → Lies l.dev l.device m
+    → all (parent_test m) (pairs_from l.values l.rows l.from (l.to - l.from)) ≡ all (parent_test m) (pairs_from l.values l.rows l.i (l.to - l.i))
 
 abbrev pub invariant-search : goal.invariant-search
 invariant-search l =

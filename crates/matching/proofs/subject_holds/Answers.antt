@@ -24,22 +24,16 @@ pub list_holds-requires : goal.list_holds-requires
 list_holds-requires c =
     ((c.requires.0.n, c.requires.0.state, c.requires.0.held), c.requires.1)
 
-pub returns-in-Action : goal.returns-in-Action
-returns-in-Action c = λ x. rw c.in-Action.is (c.action_holds.ensures x.device x.decoded)
+pub returns-in-Some-Action : goal.returns-in-Some-Action
+returns-in-Some-Action c = λ x. let is = rw c.in-Some-Action.is at c.in-Some-Action.field-0-is in rw (c.in-Some-Action.is, is) (c.action_holds.ensures x.device x.decoded)
 
-pub returns-in-Device : goal.returns-in-Device
-returns-in-Device c = λ x. rw c.in-Device.is (c.part_holds.ensures x.member x.lies)
+pub returns-in-Some-Device : goal.returns-in-Some-Device
+returns-in-Some-Device c = λ x. let is = rw c.in-Some-Device.is at c.in-Some-Device.field-0-is in rw (c.in-Some-Device.is, is) (c.part_holds.ensures x.member x.lies)
 
-pub returns-in-Parent : goal.returns-in-Parent
-returns-in-Parent c = λ x. rw c.in-Parent.is
-
-pub returns-in-Property : goal.returns-in-Property
-returns-in-Property c =
+pub returns-in-Some-Property : goal.returns-in-Some-Property
+returns-in-Some-Property c =
     let a = c.args in
-    λ x. rw c.in-Property.is (c.value_holds.ensures ∙ ap (λ (v : List ℕ). judged (operator_of a.operator) (matches a.pattern.now v)) (c.property.ensures x.n x.state x.held))
+    λ x. let is = rw c.in-Some-Property.is at c.in-Some-Property.field-0-is in rw (c.in-Some-Property.is, is) (c.value_holds.ensures ∙ ap (λ (v : List ℕ). judged (operator_of a.operator) (matches a.pattern.now v)) (c.property.ensures x.n x.state x.held))
 
-pub returns-in-List : goal.returns-in-List
-returns-in-List c = λ x. rw c.in-List.is (c.list_holds.ensures x.n x.state x.held)
-
-pub returns-in-Nothing : goal.returns-in-Nothing
-returns-in-Nothing c = λ x. rw c.in-Nothing.is
+pub returns-in-Some-List : goal.returns-in-Some-List
+returns-in-Some-List c = λ x. let is = rw c.in-Some-List.is at c.in-Some-List.field-0-is in rw (c.in-Some-List.is, is) (c.list_holds.ensures x.n x.state x.held)

@@ -2,7 +2,7 @@
 use mathlib.Core.Path.{sym, ap, ◌∙◌, subst}
 use lib.ListN.{length}
 use Rattle.rows.proofs.Search.{text-written}
-use Rattle.rows.specs.declared.Found.TheVariants.{At}
+use Rattle.std.specs.Prelude.{Ok}
 use Rattle.rows.specs.Row.{Within}
 use Rattle.outcome_target.specs.Held.{Held}
 use Rattle.outcome_target.specs.Texts.{ok_of, with_texts}
@@ -22,26 +22,24 @@ find-requires c =
     let k = c.count_of-n in
     let h = texts_read a.list sec.result sec.ensures entry.requires.0 a.t.now a.layout entry.requires.1 entry.requires.2 st.result k.result st.ensures k.ensures.0 in (h.within, h.row)
 
-pub overflow_add-v : goal.overflow_add-v
-overflow_add-v c =
+pub overflow_add-found : goal.overflow_add-found
+overflow_add-found c =
     let x = c.args in
     let u = c.find.ensures.1 in
-    let q : Within (At c.in-At.p c.in-At.v c.in-At.k) (length x.t.now) = rw c.in-At.is at u in omega arith
+    let q : Within (Ok c.in-Ok.found) (length x.t.now) = rw c.in-Ok.is at u in omega arith
 
-pub overflow_sub-v : goal.overflow_sub-v
-overflow_sub-v c =
+pub overflow_sub-found : goal.overflow_sub-found
+overflow_sub-found c =
     let entry = c in
     let a = c.args in
     let sec = c.section_of-section in
     let st = c.start_of-at in
     let k = c.count_of-n in
-    let p = c.in-At.p in
-    let v = c.in-At.v in
-    let z = c.in-At.k in
+    let f = c.in-Ok.found in
     let h = found-cuts (texts_at a.list sec.result sec.ensures) (text-written (ok_of a.list)) entry.requires.0 a.t.now a.layout entry.requires.1
     entry.requires.2 (texts-sound a.list entry.requires.0 entry.requires.1 entry.requires.2.good).each
     (text-apart a.list sec.result sec.ensures entry.requires.0 a.t.now a.layout entry.requires.1 entry.requires.2 a.x.now) a.x.now st.result
-    k.result st.ensures k.ensures.0 p v z (sym c.find.ensures.0 ∙ c.in-At.is) in omega (arith, h.over)
+    k.result st.ensures k.ensures.0 f (sym c.find.ensures.0 ∙ c.in-Ok.is) in omega (arith, h.over)
 
 pub overflow_sub-n : goal.overflow_sub-n
 overflow_sub-n c =
@@ -50,13 +48,11 @@ overflow_sub-n c =
     let sec = c.section_of-section in
     let st = c.start_of-at in
     let k = c.count_of-n in
-    let p = c.in-At.p in
-    let v = c.in-At.v in
-    let z = c.in-At.k in
+    let f = c.in-Ok.found in
     let h = found-more (texts_at a.list sec.result sec.ensures) (text-written (ok_of a.list)) entry.requires.0 a.t.now a.layout entry.requires.1
     entry.requires.2 (texts-sound a.list entry.requires.0 entry.requires.1 entry.requires.2.good).each
     (text-apart a.list sec.result sec.ensures entry.requires.0 a.t.now a.layout entry.requires.1 entry.requires.2 a.x.now) a.x.now st.result
-    k.result st.ensures k.ensures.0 p v z (sym c.find.ensures.0 ∙ c.in-At.is) in omega (arith, h)
+    k.result st.ensures k.ensures.0 f (sym c.find.ensures.0 ∙ c.in-Ok.is) in omega (arith, h)
 
 pub cut-requires : goal.cut-requires
 cut-requires c =
@@ -65,31 +61,27 @@ cut-requires c =
     let sec = c.section_of-section in
     let st = c.start_of-at in
     let k = c.count_of-n in
-    let p = c.in-At.p in
-    let v = c.in-At.v in
-    let z = c.in-At.k in
+    let f = c.in-Ok.found in
     let h = found-cuts (texts_at a.list sec.result sec.ensures) (text-written (ok_of a.list)) entry.requires.0 a.t.now a.layout entry.requires.1
     entry.requires.2 (texts-sound a.list entry.requires.0 entry.requires.1 entry.requires.2.good).each
     (text-apart a.list sec.result sec.ensures entry.requires.0 a.t.now a.layout entry.requires.1 entry.requires.2 a.x.now) a.x.now st.result
-    k.result st.ensures k.ensures.0 p v z (sym c.find.ensures.0 ∙ c.in-At.is) in (h.rising, h.within, h.end, h.most)
+    k.result st.ensures k.ensures.0 f (sym c.find.ensures.0 ∙ c.in-Ok.is) in (h.rising, h.within, h.end, h.most)
 
-pub returns-in-At : goal.returns-in-At
-returns-in-At c =
+pub returns-in-Ok : goal.returns-in-Ok
+returns-in-Ok c =
     let a = c.args in
     let sec = c.section_of-section in
     let st = c.start_of-at in
     let k = c.count_of-n in
-    let p = c.in-At.p in
-    let v = c.in-At.v in
-    let z = c.in-At.k in λ n s w. found-held (texts_at a.list sec.result sec.ensures)
+    let f = c.in-Ok.found in λ n s w. found-held (texts_at a.list sec.result sec.ensures)
     (text-written (ok_of a.list)) n a.t.now a.layout s w (texts-sound a.list n s w.good).each
     (text-apart a.list sec.result sec.ensures n a.t.now a.layout s w a.x.now) a.x.now st.result k.result st.ensures
-    k.ensures.0 p v z (sym c.find.ensures.0 ∙ c.in-At.is)
+    k.ensures.0 f (sym c.find.ensures.0 ∙ c.in-Ok.is)
     c.cut.new.t c.cut.result c.cut.auto.t c.cut.ensures
     (text_less a.list sec.result sec.ensures n a.t.now a.layout s w a.x.now)
 
-pub returns-in-Missing : goal.returns-in-Missing
-returns-in-Missing c =
+pub returns-in-Err : goal.returns-in-Err
+returns-in-Err c =
     let a = c.args in
     let sec = c.section_of-section in
     let st = c.start_of-at in
@@ -97,4 +89,4 @@ returns-in-Missing c =
     (sym (texts-same a.list s) ∙ ap (with_texts a.list s)
     (missing_kept (texts_at a.list sec.result sec.ensures) (text-written (ok_of a.list)) n a.t.now
     a.layout s w (texts-sound a.list n s w.good).each (text-apart a.list sec.result sec.ensures n a.t.now a.layout s w a.x.now)
-    a.x.now st.result k.result st.ensures k.ensures.0 c.in-Missing.field-0 (sym c.find.ensures.0 ∙ c.in-Missing.is))) w
+    a.x.now st.result k.result st.ensures k.ensures.0 c.in-Err.field-0 (sym c.find.ensures.0 ∙ c.in-Err.is))) w

@@ -25,11 +25,9 @@ replace_value-requires c =
     let x = entry.args in
     let a = x in
     let k = c.count_of-n in
-    let p = c.in-At.p in
-    let v = c.in-At.field-1 in
-    let z = c.in-At.old in
+    let f = c.in-Ok.found in
     let h = there_fits entry.requires.0.0 a.t.now a.layout entry.requires.0.1 entry.requires.0.2 a.key.now a.layout.properties
-    k.result refl k.ensures.0 a.value.now entry.requires.1 p v z (sym c.find.ensures.0 ∙ c.in-At.is) in (h.rising, h.within, h.end, h.fits, h.small)
+    k.result refl k.ensures.0 a.value.now entry.requires.1 f (sym c.find.ensures.0 ∙ c.in-Ok.is) in (h.rising, h.within, h.end, h.fits, h.small)
 
 pub append_property-requires : goal.append_property-requires
 append_property-requires c =
@@ -38,7 +36,7 @@ append_property-requires c =
     let a = x in
     let k = c.count_of-n in
     let m = property-among entry.requires.0.0 a.t.now a.layout entry.requires.0.1 entry.requires.0.2 a.key.now a.layout.properties
-    k.result refl k.ensures.0 c.in-Missing.field-0 (sym c.find.ensures.0 ∙ c.in-Missing.is) in
+    k.result refl k.ensures.0 c.in-Err.field-0 (sym c.find.ensures.0 ∙ c.in-Err.is) in
     let h = property_room entry.requires.0.0 a.t.now a.layout entry.requires.0.1 entry.requires.0.2 a.key.now a.layout.properties
     k.result refl k.ensures.0 a.value.now entry.requires.1 m (omega (
       arith,
@@ -48,17 +46,15 @@ append_property-requires c =
     )) in
     let z = property-size a.key.now a.value.now in (h.rising, omega (arith, z, h.fits), omega arith, omega (arith, z, h.most))
 
-pub returns-in-At : goal.returns-in-At
-returns-in-At c =
+pub returns-in-Ok : goal.returns-in-Ok
+returns-in-Ok c =
     let entry = c in
     let x = entry.args in
     let a = x in
     let k = c.count_of-n in
-    let p = c.in-At.p in
-    let v = c.in-At.field-1 in
-    let z = c.in-At.old in λ n s w. there_set n a.t.now a.layout s w a.key.now a.layout.properties
-    k.result refl k.ensures.0 a.value.now entry.requires.1 p v z
-    (sym c.find.ensures.0 ∙ c.in-At.is)
+    let f = c.in-Ok.found in λ n s w. there_set n a.t.now a.layout s w a.key.now a.layout.properties
+    k.result refl k.ensures.0 a.value.now entry.requires.1 f
+    (sym c.find.ensures.0 ∙ c.in-Ok.is)
     c.replace_value.new.t c.replace_value.result c.replace_value.auto.t c.replace_value.ensures
 
 pub returns-then-n-lt32 : goal.returns-then-n-lt32
@@ -67,8 +63,8 @@ returns-then-n-lt32 c =
     let x = entry.args in
     let a = x in
     let k = c.count_of-n in λ n s w. let m = property-among n a.t.now
-    a.layout s w a.key.now a.layout.properties k.result refl k.ensures.0 c.in-Missing.field-0
-    (sym c.find.ensures.0 ∙ c.in-Missing.is) in
+    a.layout s w a.key.now a.layout.properties k.result refl k.ensures.0 c.in-Err.field-0
+    (sym c.find.ensures.0 ∙ c.in-Err.is) in
     let i : length s.properties < 32 = omega (
       arith,
       k.ensures.0,
@@ -88,5 +84,5 @@ returns-else-n-lt32 c =
     let x = c.args in
     let a = x in
     let k = c.count_of-n in λ n s w. set_full a.key.now a.value.now s.properties
-    (property-among n a.t.now a.layout s w a.key.now a.layout.properties k.result refl k.ensures.0 c.in-Missing.field-0
-    (sym c.find.ensures.0 ∙ c.in-Missing.is)) (omega (arith, k.ensures.0, row_count properties-row n a.t.now a.layout s w))
+    (property-among n a.t.now a.layout s w a.key.now a.layout.properties k.result refl k.ensures.0 c.in-Err.field-0
+    (sym c.find.ensures.0 ∙ c.in-Err.is)) (omega (arith, k.ensures.0, row_count properties-row n a.t.now a.layout s w))

@@ -1,20 +1,15 @@
 -- `pair_content::is_setting` meets its contract.
+use mathlib.Core.Path.{◌≡◌, refl, ap, ◌∙◌}
+use Rattle.std.specs.Prelude.{Option, None, Some}
+use Rattle.std.specs.Option.{is_some}
+use Rattle.lists.specs.Lists as lists
+use Rattle.signed.specs.declared.Setting.{Setting}
+use Rattle.signed.specs.Signed.{set_by}
 use Rattle.pair_content.proofs.is_setting.Goals as goal
 
-pub returns-in-EscapeNone : goal.returns-in-EscapeNone
-returns-in-EscapeNone c = rw (← c.setting_of.ensures, c.in-EscapeNone.is)
+said : (o : Option Setting) → is_some o ≡ lists.is_some (set_by o)
+said None = refl
+said (Some s) = refl
 
-pub returns-in-EscapeReplace : goal.returns-in-EscapeReplace
-returns-in-EscapeReplace c = rw (← c.setting_of.ensures, c.in-EscapeReplace.is)
-
-pub returns-in-Watch : goal.returns-in-Watch
-returns-in-Watch c = rw (← c.setting_of.ensures, c.in-Watch.is)
-
-pub returns-in-NoWatch : goal.returns-in-NoWatch
-returns-in-NoWatch c = rw (← c.setting_of.ensures, c.in-NoWatch.is)
-
-pub returns-in-Priority : goal.returns-in-Priority
-returns-in-Priority c = rw (← c.setting_of.ensures, c.in-Priority.is)
-
-pub returns-in-Faulty : goal.returns-in-Faulty
-returns-in-Faulty c = rw (← c.setting_of.ensures, c.in-Faulty.is)
+pub returns : goal.returns
+returns c = c.is_some.ensures ∙ said c.setting_of.result ∙ ap lists.is_some c.setting_of.ensures

@@ -1,11 +1,6 @@
 -- `pairs::close_of` meets its contract.
-use Prim.Native.Nat.{◌-◌}
-use lib.ListN.{length}
 use Rattle.pairs.proofs.Closing.{Scans}
 use Rattle.pairs.proofs.close_of.Given as goal
 
 abbrev pub invariant-loop-i : goal.invariant-loop-i
 invariant-loop-i l = Scans l.line l.start l.i l.marks
-
-abbrev pub decreases-loop-i : goal.decreases-loop-i
-decreases-loop-i l = length l.line - l.i

@@ -22,10 +22,10 @@ pub returns-then-byte_at-ne34 : goal.returns-then-byte_at-ne34
 returns-then-byte_at-ne34 c =
     (sym (no_mark_behind c.args.line.now c.args.at (sym c.byte_at-b.ensures ∙ c.if-b-ne101.false) (λ e. c.if-byte_at-ne34.true (c.byte_at.ensures ∙ e))), tt)
 
-pub overflow_add-result : goal.overflow_add-result
-overflow_add-result c =
+pub overflow_add-start : goal.overflow_add-start
+overflow_add-start c =
     omega (arith, byte_in c.args.line.now c.args.at 101 (sym c.byte_at-b.ensures ∙ c.if-b-ne101.false) (omega arith))
 
 pub returns : goal.returns
 returns c =
-    (sym (value_coded c.args.line.now c.args.at (sym c.byte_at-b.ensures ∙ c.if-b-ne101.false) (sym c.byte_at.ensures ∙ c.if-byte_at-ne34.false)), tt)
+    (c.read_coded.ensures.0 ∙ sym (value_coded c.args.line.now c.args.at (sym c.byte_at-b.ensures ∙ c.if-b-ne101.false) (sym c.byte_at.ensures ∙ c.if-byte_at-ne34.false)), c.read_coded.ensures.1)

@@ -1,11 +1,6 @@
 -- `pieces::written_end` meets its contract.
-use Prim.Native.Nat.{◌-◌}
-use lib.ListN.{length}
 use Rattle.pieces.specs.Read.{PassesWritten}
 use Rattle.pieces.proofs.written_end.Given as goal
 
 abbrev pub invariant-loop-i : goal.invariant-loop-i
 invariant-loop-i l = PassesWritten l.template l.at l.i
-
-abbrev pub decreases-loop-i : goal.decreases-loop-i
-decreases-loop-i l = length l.template - l.i

@@ -3,8 +3,8 @@ use Prim.Native.Nat.{◌-◌, ◌≤◌}
 use lib.ListN.{length}
 use Rattle.pieces_examples.proofs.show_template.Given as goal
 
-abbrev pub invariant-loop-p : goal.invariant-loop-p
-invariant-loop-p l = l.i ≤ length l.template
+abbrev pub invariant-loop-read : goal.invariant-loop-read
+invariant-loop-read l = l.i ≤ length l.template
 
-abbrev pub decreases-loop-p : goal.decreases-loop-p
-decreases-loop-p l = length l.template - l.i
+abbrev pub decreases-loop-read : goal.decreases-loop-read
+decreases-loop-read l = length l.template - l.i

@@ -6,23 +6,14 @@ use mathlib.Core.Path.{◌≡◌, sym, ap, ◌∙◌}
 use Rattle.lists.specs.Bytes.{same_bytes}
 use Rattle.plan_due.proofs.differs.Goals as goal
 
-pub returns-then-same : goal.returns-then-same
-returns-then-same c =
-    let entry = c.args in
-    let event-path = c.event_path in
-    let same = c.same in
-    let if1 = c.if-same in
+pub returns-then-not-same : goal.returns-then-not-same
+returns-then-not-same c =
     λ d e.
-    let path : same_bytes d.event.path entry.path.now ≡ true = ap (λ (x : List ℕ). same_bytes x entry.path.now) (sym (event-path.ensures d e)) ∙ sym same.ensures ∙ if1.true in
-    sym (ap (λ (t : Bool). not t && not (same_bytes entry.wanted.now entry.link.now)) path)
+    let path : same_bytes d.event.path c.args.path.now ≡ false = ap (λ (x : List ℕ). same_bytes x c.args.path.now) (sym (c.event_path.ensures d e)) ∙ sym c.same.ensures ∙ c.if-not-same.true in
+    ap not c.same-then-not-same.ensures ∙ sym (ap (λ (t : Bool). not t && not (same_bytes c.args.wanted.now c.args.link.now)) path)
 
-pub returns : goal.returns
-returns c =
-    let entry = c.args in
-    let event-path = c.event_path in
-    let same = c.same in
-    let if1 = c.if-same in
-    let same2 = c.same-2 in
+pub returns-else-not-same : goal.returns-else-not-same
+returns-else-not-same c =
     λ d e.
-    let path : same_bytes d.event.path entry.path.now ≡ false = ap (λ (x : List ℕ). same_bytes x entry.path.now) (sym (event-path.ensures d e)) ∙ sym same.ensures ∙ if1.false in
-    ap not same2.ensures ∙ sym (ap (λ (t : Bool). not t && not (same_bytes entry.wanted.now entry.link.now)) path)
+    let path : same_bytes d.event.path c.args.path.now ≡ true = ap (λ (x : List ℕ). same_bytes x c.args.path.now) (sym (c.event_path.ensures d e)) ∙ sym c.same.ensures ∙ c.if-not-same.false in
+    ap not c.if-not-same.false ∙ sym (ap (λ (t : Bool). not t && not (same_bytes c.args.wanted.now c.args.link.now)) path)

@@ -1,5 +1,5 @@
+use Prim.Native.Nat.{◌-◌}
 use mathlib.Core.Path.{ap, ◌∙◌}
-use borrow.Author.Tests.{not-true, not-false}
 use Rattle.device.specs.Device.{decode}
 use Rattle.plan_rows.proofs.Walk.{walk_from, walk_here, walk_next, walk_last}
 use Rattle.plan_due.proofs.Each.{Due, due-whole, others_stand, due_unspoken, due_twice, due-next}
@@ -19,8 +19,8 @@ wish_in-place-requires c =
     let loop-test = c.loop-left-test in
     walk_from (Due entry.set.now) entry.set.now loop.p loop.left loop.invariant (omega (arith, loop-test.true))
 
-pub bytes_of-record-requires : goal.bytes_of-record-requires
-bytes_of-record-requires c =
+pub bytes_of-device-requires : goal.bytes_of-device-requires
+bytes_of-device-requires c =
     let wish-in = c.wish_in-place in
     wish-in.ensures.device
 
@@ -35,7 +35,7 @@ plan_naming-requires c =
     let loop = c.loop-left in
     let loop-test = c.loop-left-test in
     let wish-in = c.wish_in-place in
-    let bytes_of = c.bytes_of-record in
+    let bytes_of = c.bytes_of-device in
     let here = walk_here (Due entry.set.now) entry.set.now loop.p loop.left loop.invariant (omega (arith, loop-test.true)) wish-in.result wish-in.ensures in
     (here.naming.device, ap decode (bytes_of.ensures ∙ here.device) ∙ here.sound)
 
@@ -45,7 +45,7 @@ returns-then-not-plan_naming c =
     let loop = c.loop-left in
     let loop-test = c.loop-left-test in
     let wish-in = c.wish_in-place in
-    let bytes_of = c.bytes_of-record in
+    let bytes_of = c.bytes_of-device in
     let bytes-of2 = c.bytes_of-link in
     let plan-naming = c.plan_naming in
     let if1 = c.if-not-plan_naming in
@@ -59,7 +59,7 @@ event_path-requires c =
     let loop = c.loop-left in
     let loop-test = c.loop-left-test in
     let wish-in = c.wish_in-place in
-    let bytes_of = c.bytes_of-record in
+    let bytes_of = c.bytes_of-device in
     let here = walk_here (Due entry.set.now) entry.set.now loop.p loop.left loop.invariant (omega (arith, loop-test.true)) wish-in.result wish-in.ensures in
     (here.naming.device, ap decode (bytes_of.ensures ∙ here.device) ∙ here.sound)
 
@@ -69,7 +69,7 @@ apart-requires c =
     let loop = c.loop-left in
     let loop-test = c.loop-left-test in
     let wish-in = c.wish_in-place in
-    let bytes_of = c.bytes_of-record in
+    let bytes_of = c.bytes_of-device in
     let bytes-of2 = c.bytes_of-link in
     let here = walk_here (Due entry.set.now) entry.set.now loop.p loop.left loop.invariant (omega (arith, loop-test.true)) wish-in.result wish-in.ensures in
     others_stand entry.set.now loop.invariant.namings loop.invariant.so_far wish-in.result here bytes_of.result.now bytes-of2.result.now bytes_of.ensures bytes-of2.ensures
@@ -81,7 +81,7 @@ returns-then-not-apart c =
     let loop = c.loop-left in
     let loop-test = c.loop-left-test in
     let wish-in = c.wish_in-place in
-    let bytes_of = c.bytes_of-record in
+    let bytes_of = c.bytes_of-device in
     let bytes-of2 = c.bytes_of-link in
     let plan-naming = c.plan_naming in
     let if1 = c.if-not-plan_naming in
@@ -98,7 +98,7 @@ loop-left-preserved c =
     let loop = c.loop-left in
     let loop-test = c.loop-left-test in
     let wish-in = c.wish_in-place in
-    let bytes_of = c.bytes_of-record in
+    let bytes_of = c.bytes_of-device in
     let bytes-of2 = c.bytes_of-link in
     let plan-naming = c.plan_naming in
     let if1 = c.if-not-plan_naming in
@@ -108,7 +108,7 @@ loop-left-preserved c =
     let here = walk_here (Due entry.set.now) entry.set.now loop.p loop.left loop.invariant (omega (arith, loop-test.true)) wish-in.result wish-in.ensures in
     walk_next (Due entry.set.now) entry.set.now loop.p loop.left loop.invariant wish-in.result here
     (due-next entry.set.now loop.invariant.namings loop.invariant.so_far wish-in.result here bytes_of.result.now bytes-of2.result.now bytes_of.ensures bytes-of2.ensures
-    plan-naming.result plan-naming.ensures (if1.false) event-path.result.now event-path.ensures apart.result loop.left loop.invariant.counted apart.ensures (if2.false))
+    plan-naming.result plan-naming.ensures (if1.false) event-path.result.now event-path.ensures apart.result loop.left loop.invariant.counted apart.ensures (if2.false)) (loop.left - 1) (omega (arith, loop-test.true))
 
 pub returns : goal.returns
 returns c =

@@ -5,6 +5,3 @@ use Rattle.plan_due.proofs.due.Given as goal
 
 abbrev pub invariant-loop-left : goal.invariant-loop-left
 invariant-loop-left l = Walking (Due l.set) l.set l.p l.left
-
-abbrev pub decreases-loop-left : goal.decreases-loop-left
-decreases-loop-left l = l.left

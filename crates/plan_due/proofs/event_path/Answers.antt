@@ -7,7 +7,7 @@ path-requires c =
     let pre = c.requires in
     let entry = c.args in
     let shared-slice-known = c.type_inv.device in
-    let chain-of = c.chain_of-chain in
+    let chain-of = c.chain_of in
     let (d, e) = pre in
     event_stands entry.device.now d (λ i. (shared-slice-known i).fits) e chain-of.result (chain-of.ensures d e)
 
@@ -16,5 +16,5 @@ returns c =
     let path = c.path in
     let entry = c.args in
     let shared-slice-known = c.type_inv.device in
-    let chain-of = c.chain_of-chain in
+    let chain-of = c.chain_of in
     λ d e. path.ensures d.event (event_lies entry.device.now d (λ i. (shared-slice-known i).fits) e chain-of.result (chain-of.ensures d e))

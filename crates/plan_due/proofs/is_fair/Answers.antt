@@ -1,31 +1,20 @@
 -- `plan_due::is_fair` meets its contract.
 use mathlib.Core.Bool.{Bool, ◌||◌}
 use mathlib.Core.Path.{sym, ap, ◌∙◌}
-use Rattle.lists.specs.Bytes.{is_digit as is_decimal, holds}
+use Rattle.lists.specs.Bytes.{between, holds}
+use Rattle.plan_due.proofs.Fair.{fair-parts, holds-any}
 use Rattle.plan_due.proofs.is_fair.Goals as goal
 
-pub returns-then-is_letter : goal.returns-then-is_letter
-returns-then-is_letter c =
-    let entry = c.args in
-    let is-letter = c.is_letter in
-    let if1 = c.if-is_letter in
-    sym (ap (λ (t : Bool). t || (is_decimal entry.b || holds entry.b entry.marks.now)) (sym is-letter.ensures ∙ if1.true))
+pub returns-then-is_ascii_alphanumeric : goal.returns-then-is_ascii_alphanumeric
+returns-then-is_ascii_alphanumeric c =
+    let b = c.args.b in
+    let there = holds b c.args.marks.now in
+    let known = sym c.is_ascii_alphanumeric.ensures.value ∙ c.if-is_ascii_alphanumeric.true in
+    c.if-is_ascii_alphanumeric.true ∙ sym (ap (λ (t : Bool). t || there) known) ∙ fair-parts (between 48 57 b) (between 65 90 b) (between 97 122 b) there
 
-pub returns-then-is_digit : goal.returns-then-is_digit
-returns-then-is_digit c =
-    let entry = c.args in
-    let is-letter = c.is_letter in
-    let if1 = c.if-is_letter in
-    let is_digit = c.is_digit in
-    let if2 = c.if-is_digit in
-    sym (ap (λ (t : Bool). t || (is_decimal entry.b || holds entry.b entry.marks.now)) (sym is-letter.ensures ∙ if1.false) ∙ ap (λ (t : Bool). t || holds entry.b entry.marks.now) (sym is_digit.ensures ∙ if2.true))
-
-pub returns : goal.returns
-returns c =
-    let is_among = c.is_among in
-    let entry = c.args in
-    let is-letter = c.is_letter in
-    let if1 = c.if-is_letter in
-    let is_digit = c.is_digit in
-    let if2 = c.if-is_digit in
-    is_among.ensures ∙ sym (ap (λ (t : Bool). t || (is_decimal entry.b || holds entry.b entry.marks.now)) (sym is-letter.ensures ∙ if1.false) ∙ ap (λ (t : Bool). t || holds entry.b entry.marks.now) (sym is_digit.ensures ∙ if2.false))
+pub returns-else-is_ascii_alphanumeric : goal.returns-else-is_ascii_alphanumeric
+returns-else-is_ascii_alphanumeric c =
+    let b = c.args.b in
+    let there = holds b c.args.marks.now in
+    let known = sym c.is_ascii_alphanumeric.ensures.value ∙ c.if-is_ascii_alphanumeric.false in
+    c.contains.ensures.value ∙ holds-any b c.args.marks.now ∙ sym (ap (λ (t : Bool). t || there) known) ∙ fair-parts (between 48 57 b) (between 65 90 b) (between 97 122 b) there

@@ -8,11 +8,13 @@ use Rattle.plan.specs.Plan.{most_plan_path, plan_byte}
 use native.Mathlib.Omega.{arith}
 use Rattle.plan_due.proofs.plan_path.Goals as goal
 
-pub returns-then-path-gt128 : goal.returns-then-path-gt128
-returns-then-path-gt128 c =
-    rw (lt-leb (length c.args.path.now) most_plan_path (omega arith))
-
-pub returns : goal.returns
-returns c =
+pub returns-then-path-le-MOST_PATH : goal.returns-then-path-le-MOST_PATH
+returns-then-path-le-MOST_PATH c =
     let path = c.args.path.now in
     c.all_fair.ensures ∙ sym (ap (λ (t : Bool). t && all plan_byte path) (le-leb (length path) most_plan_path (omega arith)))
+
+pub returns-else-path-le-MOST_PATH : goal.returns-else-path-le-MOST_PATH
+returns-else-path-le-MOST_PATH c =
+    let path = c.args.path.now in
+    let long = lt-leb (length path) most_plan_path (omega arith) in
+    long ∙ sym (ap (λ (t : Bool). t && all plan_byte path) long)

@@ -1,77 +1,35 @@
-use Prim.Native.Nat.{◌-◌}
-use borrow.Author.Tests.{not-true, not-false}
-use mathlib.Core.Path.{sym, ◌∙◌}
+use mathlib.Core.Path.{refl, sym, ◌∙◌}
 use Rattle.plan_rows.proofs.Judging.{set-left, set-none, set-counted, left-from, left-faulty, left-sound, left-none}
 use native.Mathlib.Omega.{arith}
 use Rattle.plan_rows.proofs.judge.Goals as goal
 
 pub returns-then-not-check_wishes : goal.returns-then-not-check_wishes
-returns-then-not-check_wishes c =
-    let entry = c.args in
-    let check-wishes = c.check_wishes in
-    let if1 = c.if-not-check_wishes in
-    (set-none entry.set.now (sym check-wishes.ensures ∙ if1.true), omega arith)
+returns-then-not-check_wishes c = (set-none c.args.set.now (sym c.check_wishes.ensures ∙ c.if-not-check_wishes.true), omega arith, refl)
 
-pub count_of-count-requires : goal.count_of-count-requires
-count_of-count-requires c =
-    let entry = c.args in
-    let check-wishes = c.check_wishes in
-    let if1 = c.if-not-check_wishes in
-    set-counted entry.set.now (sym check-wishes.ensures ∙ if1.false)
+pub count_of-i-end-requires : goal.count_of-i-end-requires
+count_of-i-end-requires c = set-counted c.args.set.now (sym c.check_wishes.ensures ∙ c.if-not-check_wishes.false)
 
 pub loop-i-init : goal.loop-i-init
-loop-i-init c =
-    let entry = c.args in
-    let count_of = c.count_of-count in
-    let check-wishes = c.check_wishes in
-    let if1 = c.if-not-check_wishes in
-    set-left entry.set.now count_of.result count_of.ensures.0 (sym check-wishes.ensures ∙ if1.false)
+loop-i-init c = set-left c.args.set.now c.count_of-i-end.result c.count_of-i-end.ensures.0 (sym c.check_wishes.ensures ∙ c.if-not-check_wishes.false)
 
 pub wish_in-place-requires : goal.wish_in-place-requires
-wish_in-place-requires c =
-    let entry = c.args in
-    let loop = c.loop-i in
-    let count_of = c.count_of-count in
-    let loop-test = c.loop-i-test in
-    left-from entry.set.now loop.p loop.i count_of.result loop.invariant (omega (arith, loop-test.true))
+wish_in-place-requires c = left-from c.args.set.now c.loop-i.p c.loop-i.i c.count_of-i-end.result c.loop-i.invariant (omega (arith, c.loop-i-test.true))
 
 pub bytes_of-requires : goal.bytes_of-requires
-bytes_of-requires c =
-    let wish-in = c.wish_in-place in
-    wish-in.ensures.device
+bytes_of-requires c = c.wish_in-place.ensures.device
 
 pub returns-then-not-check : goal.returns-then-not-check
-returns-then-not-check c =
-    let entry = c.args in
-    let loop = c.loop-i in
-    let count_of = c.count_of-count in
-    let loop-test = c.loop-i-test in
-    let wish-in = c.wish_in-place in
-    let bytes_of = c.bytes_of in
-    let check = c.check in
-    let if2 = c.if-not-check in (
-      left-faulty entry.set.now loop.p loop.i count_of.result loop.invariant (omega (arith, loop-test.true)) wish-in.result wish-in.ensures
-          bytes_of.result.now bytes_of.ensures (sym check.ensures ∙ if2.true),
-      omega (arith, loop.invariant.few, loop-test.true),
-    )
+returns-then-not-check c = (
+  left-faulty c.args.set.now c.loop-i.p c.loop-i.i c.count_of-i-end.result c.loop-i.invariant (omega (arith, c.loop-i-test.true)) c.wish_in-place.result c.wish_in-place.ensures
+      c.bytes_of.result.now c.bytes_of.ensures (sym c.check.ensures ∙ c.if-not-check.true),
+  omega (arith, c.loop-i.invariant.few, c.loop-i-test.true),
+  refl,
+)
 
 pub loop-i-preserved : goal.loop-i-preserved
 loop-i-preserved c =
-    let entry = c.args in
-    let loop = c.loop-i in
-    let count_of = c.count_of-count in
-    let loop-test = c.loop-i-test in
-    let wish-in = c.wish_in-place in
-    let bytes_of = c.bytes_of in
-    let check = c.check in
-    let if2 = c.if-not-check in
-    left-sound entry.set.now loop.p loop.i count_of.result loop.invariant (omega (arith, loop-test.true)) wish-in.result wish-in.ensures
-    bytes_of.result.now bytes_of.ensures (sym check.ensures ∙ if2.false)
+    left-sound c.args.set.now c.loop-i.p c.loop-i.i c.count_of-i-end.result c.loop-i.invariant (omega (arith, c.loop-i-test.true)) c.wish_in-place.result c.wish_in-place.ensures
+    c.bytes_of.result.now c.bytes_of.ensures (sym c.check.ensures ∙ c.if-not-check.false)
 
 pub returns : goal.returns
-returns c =
-    let entry = c.args in
-    let loop = c.loop-i in
-    let count_of = c.count_of-count in
-    let loop-test = c.loop-i-test in
-    left-none entry.set.now loop.p loop.i count_of.result loop.invariant (omega (arith, loop-test.false))
+returns c = left-none c.args.set.now c.loop-i.p c.loop-i.i c.count_of-i-end.result c.loop-i.invariant (omega (arith, c.loop-i-test.false))

@@ -1,10 +1,6 @@
 -- `plan_rows::judge` meets its contract.
-use Prim.Native.Nat.{◌-◌}
 use Rattle.plan_rows.proofs.Judging.{Left}
 use Rattle.plan_rows.proofs.judge.Given as goal
 
 abbrev pub invariant-loop-i : goal.invariant-loop-i
-invariant-loop-i l = Left l.set l.p l.i l.count
-
-abbrev pub decreases-loop-i : goal.decreases-loop-i
-decreases-loop-i l = l.count - l.i
+invariant-loop-i l = Left l.set l.p l.i l.i-end

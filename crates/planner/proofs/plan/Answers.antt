@@ -10,7 +10,7 @@ use Rattle.set_answers.specs.Answers.{answered}
 use Rattle.plan.specs.Plan.{plan_text}
 use Rattle.plan.proofs.Plans.{plan-fits}
 use Rattle.plan_rows.specs.Namings.{namings_in, Whole, JudgedIs}
-use Rattle.plan_rows.specs.declared.Judged.TheVariants.{Refused}
+use Rattle.std.specs.Prelude.{Err}
 use Rattle.planner.proofs.Answers.{plan-short, plan-refused, plan-none, plan-made}
 use native.Mathlib.Omega.{arith}
 use Rattle.planner.proofs.plan.Goals as goal
@@ -23,23 +23,21 @@ returns-then-target-lt-MOST_TEXT c =
     let if1 = c.if-target-lt-MOST_TEXT in
     ap (answered the-refused.result) clear.ensures ∙ plan-short entry.set.now (length entry.target.now) the-refused.result (omega (arith, if1.true, clear.auto.t)) the-refused.ensures
 
-pub refused-requires-in-Refused : goal.refused-requires-in-Refused
-refused-requires-in-Refused c =
+pub refused-requires-in-Err : goal.refused-requires-in-Err
+refused-requires-in-Err c =
     let entry = c.args in
-    let judged = c.in-Refused in
-    let judge = c.judge-judged in
-    let is : JudgedIs entry.set.now (Refused judged.why judged.position) = judged.ensures in
-    (omega (arith, is.1), omega arith)
+    let judged = c.in-Err in
+    let is : JudgedIs entry.set.now (Err judged.fault) = judged.ensures in
+    (omega (arith, is.1), omega (arith, is.2))
 
-pub returns-in-Refused : goal.returns-in-Refused
-returns-in-Refused c =
+pub returns-in-Err : goal.returns-in-Err
+returns-in-Err c =
     let entry = c.args in
-    let judged = c.in-Refused in
-    let judge = c.judge-judged in
+    let judged = c.in-Err in
     let if1 = c.if-target-lt-MOST_TEXT in
     let clear = c.clear in
-    let refused2 = c.refused-in-Refused in
-    let is : JudgedIs entry.set.now (Refused judged.why judged.position) = judged.ensures in
+    let refused2 = c.refused-in-Err in
+    let is : JudgedIs entry.set.now (Err judged.fault) = judged.ensures in
     let room : most_text ≤ length entry.target.now = omega (arith, if1.false, clear.auto.t) in
     ap (answered refused2.result) clear.ensures ∙ plan-refused entry.set.now (length entry.target.now) refused2.result room _ is.0 refused2.ensures
 
@@ -47,7 +45,6 @@ pub count_of-n-requires : goal.count_of-n-requires
 count_of-n-requires c =
     let entry = c.args in
     let enum_told = c.in_default in
-    let judge = c.judge-judged in
     let whole : Whole entry.set.now = enum_told.ensures in
     whole.some
 
@@ -55,7 +52,6 @@ pub due-requires : goal.due-requires
 due-requires c =
     let entry = c.args in
     let enum_told = c.in_default in
-    let judge = c.judge-judged in
     let count_of = c.count_of-n in
     let whole : Whole entry.set.now = enum_told.ensures in
     (whole, count_of.ensures.0 ∙ whole.counted)
@@ -64,7 +60,6 @@ pub returns-then-not-due : goal.returns-then-not-due
 returns-then-not-due c =
     let entry = c.args in
     let enum_told = c.in_default in
-    let judge = c.judge-judged in
     let if1 = c.if-target-lt-MOST_TEXT in
     let clear = c.clear in
     let the-accepted = c.accepted in
@@ -79,7 +74,6 @@ pub put_plan-requires : goal.put_plan-requires
 put_plan-requires c =
     let entry = c.args in
     let enum_told = c.in_default in
-    let judge = c.judge-judged in
     let due = c.due in
     let if2 = c.if-not-due in
     let count_of = c.count_of-n in
@@ -93,7 +87,6 @@ pub accepted-requires-2 : goal.accepted-requires-2
 accepted-requires-2 c =
     let entry = c.args in
     let enum_told = c.in_default in
-    let judge = c.judge-judged in
     let due = c.due in
     let if2 = c.if-not-due in
     let put-plan = c.put_plan in
@@ -106,7 +99,6 @@ pub returns : goal.returns
 returns c =
     let entry = c.args in
     let enum_told = c.in_default in
-    let judge = c.judge-judged in
     let if1 = c.if-target-lt-MOST_TEXT in
     let clear = c.clear in
     let due = c.due in

@@ -5,6 +5,3 @@ use Rattle.programs.proofs.ask_all.Given as goal
 
 abbrev pub invariant-loop-i : goal.invariant-loop-i
 invariant-loop-i l = Going l.values l.rows l.from l.to l.sheet l.initial.t l.dev l.chain l.place l.initial.layout l.t l.layout l.i
-
-abbrev pub decreases-loop-i : goal.decreases-loop-i
-decreases-loop-i l = l.to - l.i

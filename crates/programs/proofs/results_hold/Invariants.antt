@@ -7,6 +7,3 @@ use Rattle.programs.proofs.results_hold.Given as goal
 
 abbrev pub invariant-loop-i : goal.invariant-loop-i
 invariant-loop-i l = (l.i ≤ l.to) × (results_on l.output (pairs_from l.values l.rows l.from (l.to - l.from)) ≡ results_on l.output (pairs_from l.values l.rows l.i (l.to - l.i)))
-
-abbrev pub decreases-loop-i : goal.decreases-loop-i
-decreases-loop-i l = l.to - l.i

@@ -1,19 +1,9 @@
 use Rattle.reader.proofs.Notes.{noted-start, noted-end}
 use Rattle.reader.proofs.Lines.{filled_none, upto_start, upto_end}
-use Rattle.reader.specs.Read.{TakenIs}
-use Rattle.reader.specs.declared.Taken.TheVariants as taken
-use Rattle.reader.specs.declared.Taken.{Taken}
 use mathlib.Core.Path.{◌≡◌, refl, sym, ◌∙◌}
 use Prim.Native.Nat.{◌-◌}
-use borrow.Author.Rules.{rules}
 use native.Mathlib.Omega.{arith}
-use Rattle.reader.proofs.take_lines.Goals.{After-take_line}
 use Rattle.reader.proofs.take_lines.Goals as goal
-
-taken_is : (w : After-take_line) → (o : Taken) → w.take_line.result ≡ o
-    → let a = w.args in
-    TakenIs a.text.now w.loop-place.place w.take_line.new.values w.take_line.new.rows w.take_line.new.rules w.take_line.new.labels w.take_line.new.list a.strict o
-taken_is w o e = rw (← e) w.take_line.ensures
 
 pub loop-place-init : goal.loop-place-init
 loop-place-init c =
@@ -37,34 +27,34 @@ pub slice_bounds-take_line-end : goal.slice_bounds-take_line-end
 slice_bounds-take_line-end c =
     sym c.loop-place.invariant.6
 
-pub shape_of-values-in-Refused : goal.shape_of-values-in-Refused
-shape_of-values-in-Refused c =
+pub shape_of-values-in-Err : goal.shape_of-values-in-Err
+shape_of-values-in-Err c =
     c.take_line.auto.values ∙ c.loop-place.invariant.4
 
-pub shape_of-rows-in-Refused : goal.shape_of-rows-in-Refused
-shape_of-rows-in-Refused c =
+pub shape_of-rows-in-Err : goal.shape_of-rows-in-Err
+shape_of-rows-in-Err c =
     c.take_line.auto.rows ∙ c.loop-place.invariant.5
 
-pub shape_of-rules-in-Refused : goal.shape_of-rules-in-Refused
-shape_of-rules-in-Refused c =
+pub shape_of-rules-in-Err : goal.shape_of-rules-in-Err
+shape_of-rules-in-Err c =
     c.take_line.auto.rules ∙ c.loop-place.invariant.2.filled.rules_room ∙ sym c.requires.2
 
-pub shape_of-labels-in-Refused : goal.shape_of-labels-in-Refused
-shape_of-labels-in-Refused c =
+pub shape_of-labels-in-Err : goal.shape_of-labels-in-Err
+shape_of-labels-in-Err c =
     c.take_line.auto.labels ∙ c.loop-place.invariant.2.filled.labels_room ∙ sym c.requires.3
 
-pub shape_of-list-in-Refused : goal.shape_of-list-in-Refused
-shape_of-list-in-Refused c =
+pub shape_of-list-in-Err : goal.shape_of-list-in-Err
+shape_of-list-in-Err c =
     c.take_line.auto.list ∙ c.loop-place.invariant.7
 
 pub loop-place-smaller : goal.loop-place-smaller
 loop-place-smaller c =
-    let t = taken_is (goal.at.loop-place-smaller c).After-take_line (taken.Next c.in-Next.next) c.in-Next.is in omega (arith, t.0, t.1)
+    omega (arith, c.in-Ok.ensures.0, c.in-Ok.ensures.1)
 
 pub loop-place-preserved : goal.loop-place-preserved
 loop-place-preserved c =
     let a = c.args in
-    let t = taken_is (goal.at.loop-place-preserved c).After-take_line (taken.Next c.in-Next.next) c.in-Next.is in
+    let t = c.in-Ok.ensures in
     (t.1, t.2, t.3, t.4, c.take_line.auto.values ∙ c.loop-place.invariant.4, c.take_line.auto.rows ∙ c.loop-place.invariant.5, c.take_line.auto.copy ∙ c.loop-place.invariant.6, c.take_line.auto.list ∙ c.loop-place.invariant.7)
 
 pub shape_of-values : goal.shape_of-values
@@ -95,10 +85,10 @@ returns c =
       λ z. noted-end a.text.now c.loop-place.values c.loop-place.rows c.loop-place.rules c.loop-place.labels c.loop-place.list c.loop-place.place c.requires.0 (c.loop-place.invariant.2.noting z) (omega arith) c.loop-place.invariant.0,
     )
 
-pub returns-in-Refused : goal.returns-in-Refused
-returns-in-Refused c =
+pub returns-in-Err : goal.returns-in-Err
+returns-in-Err c =
     let a = c.args in
-    let t = taken_is (goal.at.returns-in-Refused c).After-take_line (taken.Refused c.in-Refused.f) c.in-Refused.is in
+    let t = c.in-Err.ensures in
     (t.0, omega (arith, c.requires.0, c.loop-place-test.true, c.loop-place.invariant.1), t.1)
 
 pub take_line-requires : goal.take_line-requires

@@ -1,5 +1,5 @@
 use Rattle.std.proofs.Common.{◌≡◌, ℕ, suc, ◌+◌, ◌<◌, length, sym, ◌∙◌, subst, arith}
-use mathlib.Core.Option.{some}
+use Rattle.std.specs.Prelude.{Some}
 use borrow.Author.Tests.{not-false, ltb-true}
 use Rattle.lists.specs.Bytes.{Bytes}
 use Rattle.lists.proofs.Records.{nth_there}

@@ -7,6 +7,3 @@ use Rattle.rule_writing.proofs.put_others.Given as goal
 
 abbrev pub invariant-loop-i : goal.invariant-loop-i
 invariant-loop-i l = (l.i ≤ l.to) × Writes (others (pairs_from l.values l.rows l.from (l.to - l.from))) l.initial.out l.used (others (pairs_from l.values l.rows l.i (l.to - l.i))) l.out l.end
-
-abbrev pub decreases-loop-i : goal.decreases-loop-i
-decreases-loop-i l = l.to - l.i

@@ -6,8 +6,5 @@ use Rattle.rule_writing.proofs.Writes.{Writes}
 use Rattle.writing.specs.Writing.{plain_byte}
 use Rattle.rule_writing.proofs.put_plain.Given as goal
 
-abbrev pub invariant-loop-i : goal.invariant-loop-i
-invariant-loop-i l = (l.i ≤ length l.value) × Writes (cat plain_byte l.value) l.initial.out l.used (cat plain_byte (drop l.i l.value)) l.out l.end
-
-abbrev pub decreases-loop-i : goal.decreases-loop-i
-decreases-loop-i l = length l.value - l.i
+abbrev pub invariant-loop-b : goal.invariant-loop-b
+invariant-loop-b l = (l.b-index ≤ length l.value) × Writes (cat plain_byte l.value) l.initial.out l.used (cat plain_byte (drop l.b-index l.value)) l.out l.end

@@ -8,6 +8,3 @@ use Rattle.rule_writing.proofs.put_rules.Given as goal
 
 abbrev pub invariant-loop-i : goal.invariant-loop-i
 invariant-loop-i l = (l.i ≤ l.count) × (l.used ≤ most_text) × Writes (written (rules_from l.values l.rows l.rules 0 l.count)) l.initial.out 0 (written (rules_from l.values l.rows l.rules l.i (l.count - l.i))) l.out l.used
-
-abbrev pub decreases-loop-i : goal.decreases-loop-i
-decreases-loop-i l = l.count - l.i

@@ -84,17 +84,6 @@ put_numbers-requires c =
     let loop = c.loop-i in
     omega (arith, loop-test.true, pre.0.places, loop.invariant.2)
 
-pub overflow_add-i : goal.overflow_add-i
-overflow_add-i c =
-    let loop-test = c.loop-i-test in
-    let pre = c.requires in
-    omega (arith, loop-test.true, pre.0.few)
-
-pub loop-i-smaller : goal.loop-i-smaller
-loop-i-smaller c =
-    let loop-test = c.loop-i-test in
-    omega (arith, loop-test.true)
-
 pub loop-i-preserved : goal.loop-i-preserved
 loop-i-preserved c =
     let loop = c.loop-i in

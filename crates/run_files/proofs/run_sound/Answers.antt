@@ -1,14 +1,16 @@
 -- `run_files::run_sound` meets its contract.
-use mathlib.Core.Path.{◌∙◌}
+use Prim.Native.Nat.{ℕ}
+use mathlib.Core.Path.{sym, ap, ◌∙◌}
 use lib.ListN.{length}
 use Rattle.lists.proofs.Lists.{is-some}
 use Rattle.device.specs.Device.{chain}
 use Rattle.sheet.specs.Sheet.{decode}
-use Rattle.refusals.specs.Refusals.{refusal_of}
+use Rattle.set_answers.specs.Answers.{fault_of}
 use Rattle.run.proofs.Laws.{record_short, used_few}
-use Rattle.run_files.specs.declared.FilesRan.TheVariants as files
+use Rattle.std.specs.Prelude.{Ok, Err}
+use Rattle.sets.specs.Answer.{refusal}
 use Rattle.run_files.specs.Running.{FilesRun}
-use Rattle.run_files.proofs.Answers.{loaded, ranked, holds, cleared, gives-run, gives-running}
+use Rattle.run_files.proofs.Answers.{loaded, ranked, holds, gives-run, gives-running}
 use native.Mathlib.Omega.{arith}
 use Rattle.run_files.proofs.run_sound.Goals as goal
 
@@ -36,64 +38,56 @@ accepted-requires c =
     let entry = c.args in
     let load = c.load in
     let run-all = c.run_all in
-    let left = c.in-Ended in
+    let left = c.in-Ok in
     let (ls, read) = pre.1 in
     let (d, s, held) = pre.2 in
     let start = loaded entry.dev.now entry.rec.now entry.chain entry.layout d s held load.new.t load.ensures (omega (arith, pre.4, load.auto.t)) in
     let (a, q) = is-some (decode entry.sheet.now) pre.3 in
-    let is : FilesRun entry.set.now entry.starts.now entry.order.now entry.count entry.dev.now entry.chain entry.sheet.now load.new.t entry.layout run-all.new.t (files.Ended
-    left.left left.visited left.tried) = left.ensures in
+    let is : FilesRun entry.set.now entry.starts.now entry.order.now entry.count entry.dev.now entry.chain entry.sheet.now load.new.t entry.layout run-all.new.t (Ok left.ended) = left.ensures in
     let (l, _, z, _, _) = is.says ls read a q d s start in
-    (is.counted.0, is.counted.1, omega (arith, used_few (length (chain d)) _ left.left l.state z.held), omega arith)
+    (is.counted.0, is.counted.1, omega (arith, used_few (length (chain d)) _ left.ended.layout l.state z.held), omega arith)
 
-pub refused-requires : goal.refused-requires
-refused-requires c =
+pub refuse-requires : goal.refuse-requires
+refuse-requires c =
     let entry = c.args in
     let load = c.load in
     let run-all = c.run_all in
-    let why = c.in-Refused in
-    let is : FilesRun entry.set.now entry.starts.now entry.order.now entry.count entry.dev.now entry.chain entry.sheet.now load.new.t entry.layout run-all.new.t (files.Refused
-    why.why why.position why.line) = why.ensures in
+    let why = c.in-Err in
+    let is : FilesRun entry.set.now entry.starts.now entry.order.now entry.count entry.dev.now entry.chain entry.sheet.now load.new.t entry.layout run-all.new.t (Err why.fault) = why.ensures in
     (omega (arith, is.counted.0), omega (arith, is.counted.1))
 
-pub shape_of-t-in-Ended : goal.shape_of-t-in-Ended
-shape_of-t-in-Ended c =
+pub shape_of-t-in-Ok : goal.shape_of-t-in-Ok
+shape_of-t-in-Ok c =
     let run-all = c.run_all in
     let load = c.load in
     run-all.ensures.length ∙ load.auto.t
 
-pub returns-in-Ended : goal.returns-in-Ended
-returns-in-Ended c =
+pub returns-in-Ok : goal.returns-in-Ok
+returns-in-Ok c =
     let pre = c.requires in
     let entry = c.args in
     let load = c.load in
     let run-all = c.run_all in
-    let left = c.in-Ended in
+    let left = c.in-Ok in
     let accepted = c.accepted in
     let (ls, read) = pre.1 in
     let (d, s, held) = pre.2 in
     let start = loaded entry.dev.now entry.rec.now entry.chain entry.layout d s held load.new.t load.ensures (omega (arith, pre.4, load.auto.t)) in
     let (a, q) = is-some (decode entry.sheet.now) pre.3 in
-    let is : FilesRun entry.set.now entry.starts.now entry.order.now entry.count entry.dev.now entry.chain entry.sheet.now load.new.t entry.layout run-all.new.t (files.Ended
-    left.left left.visited left.tried) = left.ensures in
+    let is : FilesRun entry.set.now entry.starts.now entry.order.now entry.count entry.dev.now entry.chain entry.sheet.now load.new.t entry.layout run-all.new.t (Ok left.ended) = left.ensures in
     let (l, e, z, v, w) = is.says ls read a q d s start in
-    holds (length entry.t.now) (length (chain d)) run-all.new.t left.left left.visited left.tried l z.held v w (is.length ∙ load.auto.t) accepted.result accepted.ensures _
+    holds (length entry.t.now) (length (chain d)) run-all.new.t left.ended.layout left.ended.visited left.ended.tried l z.held v w (is.length ∙ load.auto.t) accepted.result accepted.ensures _
     (gives-run entry.set.now entry.starts.now entry.n entry.order.now entry.count pre.0 entry.dev.now entry.rec.now entry.sheet.now (length entry.t.now) pre.4 ls read entry.chain entry.layout d s held a q l e)
 
-pub returns-in-Refused : goal.returns-in-Refused
-returns-in-Refused c =
+pub returns-in-Err : goal.returns-in-Err
+returns-in-Err c =
     let pre = c.requires in
-    let entry = c.args in
-    let load = c.load in
-    let run-all = c.run_all in
-    let why = c.in-Refused in
-    let clear = c.clear in
-    let refused = c.refused in
+    let a = c.args in
     let (ls, read) = pre.1 in
     let (d, s, held) = pre.2 in
-    let start = loaded entry.dev.now entry.rec.now entry.chain entry.layout d s held load.new.t load.ensures (omega (arith, pre.4, load.auto.t)) in
-    let (a, q) = is-some (decode entry.sheet.now) pre.3 in
-    let is : FilesRun entry.set.now entry.starts.now entry.order.now entry.count entry.dev.now entry.chain entry.sheet.now load.new.t entry.layout run-all.new.t (files.Refused
-    why.why why.position why.line) = why.ensures in
-    cleared (length entry.t.now) (length run-all.new.t) clear.new.t refused.result (record { why = refusal_of why.why; position = why.position; line = why.line }) refused.ensures clear.ensures (is.length ∙ load.auto.t) _
-    (gives-running entry.set.now entry.starts.now entry.n entry.order.now entry.count pre.0 entry.dev.now entry.rec.now entry.sheet.now (length entry.t.now) pre.4 ls read entry.chain entry.layout d s held a q _ _ _ (is.says ls read a q d s start))
+    let start = loaded a.dev.now a.rec.now a.chain a.layout d s held c.load.new.t c.load.ensures (omega (arith, pre.4, c.load.auto.t)) in
+    let (b, q) = is-some (decode a.sheet.now) pre.3 in
+    let is : FilesRun a.set.now a.starts.now a.order.now a.count a.dev.now a.chain a.sheet.now c.load.new.t a.layout c.run_all.new.t (Err c.in-Err.fault) = c.in-Err.ensures in
+    c.refuse.ensures
+    ∙ ap (λ (i : ℕ). refusal i (fault_of c.in-Err.fault)) (is.length ∙ c.load.auto.t)
+    ∙ sym (gives-running a.set.now a.starts.now a.n a.order.now a.count pre.0 a.dev.now a.rec.now a.sheet.now (length a.t.now) pre.4 ls read a.chain a.layout d s held b q _ _ _ (is.says ls read b q d s start))

@@ -1,46 +1,37 @@
 -- `run_list::put_command` meets its contract.
-use Prim.Native.Nat.{◌+◌, ◌-◌, ◌≤◌}
+use Prim.Native.Nat.{◌+◌, ◌≤◌}
 use mathlib.Core.Bool.{false}
-use mathlib.Core.Path.{◌≡◌, refl, ◌∙◌}
+use mathlib.Core.Path.{refl, ◌∙◌}
 use native.Mathlib.Omega.{arith}
-use lib.ListN.{take, drop}
 use Rattle.run_list.proofs.Entries.{command_made}
 use Rattle.run_list.proofs.Heads.{lent_part}
-use Rattle.substitution.specs.Turns.{Text}
 use Rattle.engine.specs.Substitute.{filled}
 use Rattle.lists.proofs.Moves.{length_part}
-use Rattle.lists.specs.Refusal.{substitution_long}
-use Rattle.lists.specs.Checked.{refused}
 use Rattle.run_list.proofs.put_command.Goals as goal
 
 pub overflow_add-result : goal.overflow_add-result
 overflow_add-result c =
-    let pre = c.requires in
-    let args = c.args in
-    let substitute = c.substitute in
-    let the-k = c.in-Done in
-    let w : Text (filled false pre.2.0 args.template.now) (take (args.at + 2 + 512 - (args.at + 2)) (drop (args.at + 2) args.t.now)) the-k.k substitute.new.out = rw the-k.is at (substitute.ensures pre.2.0 pre.2.1) in
-    let few : the-k.k ≤ 512 = omega (arith, w.room, length_part args.t.now (args.at + 2) (args.at + 2 + 512) (omega arith)) in
+    let a = c.args in
+    let w = c.in_ok-k.ensures c.requires.2.0 c.requires.2.1 in
+    let few : c.in_ok-k.k ≤ 512 = omega (arith, w.room, length_part a.t.now (a.at + 2) (a.at + 2 + 512) (omega arith)) in
     omega arith
 
-pub returns-in-Done : goal.returns-in-Done
-returns-in-Done c =
-    let x = c.args in
-    let pre = c.requires in
-    let args = x in
-    let substitute = c.substitute in
-    let the-k = c.in-Done in
-    let write-head = c.write_head in
-    let w : Text (filled false pre.2.0 args.template.now) (take (args.at + 2 + 512 - (args.at + 2)) (drop (args.at + 2) args.t.now)) the-k.k substitute.new.out = rw the-k.is at (substitute.ensures pre.2.0 pre.2.1) in
-    let few : the-k.k ≤ 512 = omega (arith, w.room, length_part args.t.now (args.at + 2) (args.at + 2 + 512) (omega arith)) in (
+pub returns : goal.returns
+returns c =
+    let a = c.args in
+    let k = c.in_ok-k.k in
+    let out = c.substitute.new.out in
+    let head = c.write_head.new.head in
+    let w = c.in_ok-k.ensures c.requires.2.0 c.requires.2.1 in
+    let few : k ≤ 512 = omega (arith, w.room, length_part a.t.now (a.at + 2) (a.at + 2 + 512) (omega arith)) in (
       omega arith,
-      λ s h. let v : Text (filled false s args.template.now) (take (args.at + 2 + 512 - (args.at + 2)) (drop (args.at + 2) args.t.now))
-          the-k.k substitute.new.out = rw the-k.is at (substitute.ensures s h) in command_made args.t.now
-          substitute.new.out (lent_part args.t.now (args.at + 2) (args.at + 2 + 512) substitute.new.out) write-head.new.head
-          (lent_part (lent_part args.t.now (args.at + 2) (args.at + 2 + 512) substitute.new.out) args.at (args.at + 2) write-head.new.head)
-          args.at the-k.k args.builtin (filled false s args.template.now)
-          pre.0 v (v.size ∙ length_part args.t.now (args.at + 2) (args.at + 2 + 512) (omega arith) ∙ omega arith) few refl write-head.ensures refl,
+      λ s h.
+          let v = c.in_ok-k.ensures s h in
+          command_made a.t.now out (lent_part a.t.now (a.at + 2) (a.at + 2 + 512) out) head
+          (lent_part (lent_part a.t.now (a.at + 2) (a.at + 2 + 512) out) a.at (a.at + 2) head)
+          a.at k a.builtin (filled false s a.template.now)
+          c.requires.0 v (v.size ∙ length_part a.t.now (a.at + 2) (a.at + 2 + 512) (omega arith) ∙ omega arith) few refl c.write_head.ensures refl,
     )
 
-pub returns-in-Full : goal.returns-in-Full
-returns-in-Full c = (tt, λ s h. let v : (filled false s c.args.template.now) ≡ refused substitution_long = rw c.in-Full.is at (c.substitute.ensures s h) in v)
+pub returns-in_err-k : goal.returns-in_err-k
+returns-in_err-k c = rw c.from_residual.ensures (tt, λ s h. c.in_err-k.ensures s h)

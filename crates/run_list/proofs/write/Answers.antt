@@ -1,14 +1,11 @@
 -- `run_list::write` meets its contract.
-use mathlib.Core.Path.{◌≡◌, refl, sym, ◌∙◌}
+use mathlib.Core.Path.{refl, sym, ◌∙◌}
+use Prim.Native.Nat.{ℕ}
 use native.Mathlib.Omega.{arith}
 use Rattle.run_list.proofs.Rows.{both_header, runs-row_of, runs_few, both_beside, both_runs}
 use Rattle.run_list.proofs.Entries.{commands-count, list_written}
 use Rattle.run_list.proofs.Heads.{lent_part}
-use Rattle.run_list.specs.Lists.{Listed}
-use Rattle.insertion.specs.declared.Put.TheVariants.{Done}
 use Rattle.engine.specs.Operations.{commands}
-use Rattle.lists.specs.Refusal.{substitution_long}
-use Rattle.lists.specs.Checked.{refused}
 use Rattle.run_list.proofs.write.Goals as goal
 
 pub count_of-runs-requires : goal.count_of-runs-requires
@@ -59,58 +56,30 @@ put_runs-requires c =
       ),
     )
 
-pub returns-in-Done : goal.returns-in-Done
-returns-in-Done c =
-    let entry = c.args in
-    let pre = c.requires in
-    let shared-slice-known2-call = c.type_inv.rec in
-    let count-of-call = c.count_of-runs in
-    let count-of2-call = c.count_of-count in
-    let put-runs-call = c.put_runs in
-    let k = c.in-Done in
-    let write-count-call = c.write_count in
-    let args = entry in
-    let shared-slice-known2 = shared-slice-known2-call in
-    let count_of = count-of-call in
-    let count-of2 = count-of2-call in
-    let put-runs = put-runs-call in
-    let the-k = k in
-    let write-count = write-count-call in
+pub returns : goal.returns
+returns c =
+    let a = c.args in
+    let bytes = λ (i : ℕ). (c.type_inv.rec i).fits in
+    let runs = c.count_of-runs in
+    let t = c.put_runs.new.t in
+    let head = c.write_count.new.head in
     λ d s w.
-    let l : Listed (commands d s.properties s.output s.runs) args.t.now 1 (Done the-k.k) put-runs.new.t =
-    rw the-k.is at
-    (put-runs.ensures d s.properties s.output s.runs
-    (both_beside args.dev.now args.rec.now args.chain args.layout d s (λ i. (shared-slice-known2 i).fits) w
-    count-of2.result count-of2.ensures.0)
-    (both_runs args.dev.now args.rec.now args.chain args.layout d s (λ i. (shared-slice-known2 i).fits) w
-    count_of.result count_of.ensures.0))
-    in
-    list_written (commands d s.properties s.output s.runs) args.t.now put-runs.new.t write-count.new.head
-    (lent_part put-runs.new.t 0 1 write-count.new.head) count_of.result the-k.k (omega (arith, pre.0))
+    list_written (commands d s.properties s.output s.runs) a.t.now t head
+    (lent_part t 0 1 head) runs.result c.in_ok-k.k (omega (arith, c.requires.0))
     (λ cs e.
     commands-count d s.properties s.output s.runs cs e ∙ sym
-    (runs-row_of args.dev.now args.rec.now args.chain args.layout d s (λ i. (shared-slice-known2 i).fits) w
-    count_of.result count_of.ensures.0).counted)
-    l (omega arith) write-count.ensures refl
+    (runs-row_of a.dev.now a.rec.now a.chain a.layout d s bytes w runs.result runs.ensures.0).counted)
+    (c.in_ok-k.ensures d s.properties s.output s.runs
+    (both_beside a.dev.now a.rec.now a.chain a.layout d s bytes w c.count_of-count.result c.count_of-count.ensures.0)
+    (both_runs a.dev.now a.rec.now a.chain a.layout d s bytes w c.count_of-runs.result c.count_of-runs.ensures.0))
+    (omega arith) c.write_count.ensures refl
 
-pub returns-in-Full : goal.returns-in-Full
-returns-in-Full c =
-    let entry = c.args in
-    let shared-slice-known2-call = c.type_inv.rec in
-    let count-of-call = c.count_of-runs in
-    let count-of2-call = c.count_of-count in
-    let put-runs = c.put_runs in
-    let args = entry in
-    let shared-slice-known2 = shared-slice-known2-call in
-    let count_of = count-of-call in
-    let count-of2 = count-of2-call in
-    λ d s w.
-    let l : commands d s.properties s.output s.runs ≡ refused substitution_long =
-    rw c.in-Full.is at
-    (put-runs.ensures d s.properties s.output s.runs
-    (both_beside args.dev.now args.rec.now args.chain args.layout d s (λ i. (shared-slice-known2 i).fits) w
-    count-of2.result count-of2.ensures.0)
-    (both_runs args.dev.now args.rec.now args.chain args.layout d s (λ i. (shared-slice-known2 i).fits) w
-    count_of.result count_of.ensures.0))
-    in
-    l
+pub returns-in_err-k : goal.returns-in_err-k
+returns-in_err-k c =
+    let a = c.args in
+    let bytes = λ (i : ℕ). (c.type_inv.rec i).fits in
+    rw c.from_residual.ensures
+    (λ d s w.
+    c.in_err-k.ensures d s.properties s.output s.runs
+    (both_beside a.dev.now a.rec.now a.chain a.layout d s bytes w c.count_of-count.result c.count_of-count.ensures.0)
+    (both_runs a.dev.now a.rec.now a.chain a.layout d s bytes w c.count_of-runs.result c.count_of-runs.ensures.0))

@@ -1,5 +1,8 @@
 -- `runner::run_rule` meets its contract.
 use Prim.Native.Nat.{◌-◌}
+use mathlib.Core.Path.{refl, ap}
+use Rattle.std.specs.Prelude.{Ok}
+use Rattle.std.proofs.lemmas.Result.{err_from_is_err_and}
 use native.Mathlib.Omega.{arith}
 use borrow.Author.Rules.{rules}
 use Rattle.runner.proofs.Running.{rule-rows, rule_missed, rule_failed, rule-left, rule-refused}
@@ -57,13 +60,12 @@ returns-in-Missed c =
     let a = c.args in
     let from = c.number_at-from in
     let to = c.number_at-to in
-    let step = c.step in
     record {
       says =
           rule_missed a.values.now a.rows.now a.rules.now a.jumps.now a.count a.i c.requires.0 c.requires.1
           from.result to.result from.ensures.0 to.ensures.0
-          a.dev.now a.chain a.sheet.now a.t.now a.layout _ step.result step.ensures _ c.in-Missed.is;
-      length = step.ensures.length;
+          a.dev.now a.chain a.sheet.now a.t.now a.layout _ _ c.in_ok-stepped.ensures _ (ap Ok c.in-Missed.is);
+      length = c.in_ok-stepped.ensures.length;
     }
 
 pub returns-in-Failed : goal.returns-in-Failed
@@ -71,13 +73,12 @@ returns-in-Failed c =
     let a = c.args in
     let from = c.number_at-from in
     let to = c.number_at-to in
-    let step = c.step in
     record {
       says =
           rule_failed a.values.now a.rows.now a.rules.now a.jumps.now a.count a.i c.requires.0 c.requires.1
           from.result to.result from.ensures.0 to.ensures.0
-          a.dev.now a.chain a.sheet.now a.t.now a.layout _ step.result step.ensures _ _ c.in-Failed.is;
-      length = step.ensures.length;
+          a.dev.now a.chain a.sheet.now a.t.now a.layout _ _ c.in_ok-stepped.ensures _ _ (ap Ok c.in-Failed.is);
+      length = c.in_ok-stepped.ensures.length;
     }
 
 pub returns-in-Left : goal.returns-in-Left
@@ -85,25 +86,25 @@ returns-in-Left c =
     let a = c.args in
     let from = c.number_at-from in
     let to = c.number_at-to in
-    let step = c.step in
     record {
       says =
           rule-left a.values.now a.rows.now a.rules.now a.jumps.now a.count a.i c.requires.0 c.requires.1
           from.result to.result from.ensures.0 to.ensures.0
-          a.dev.now a.chain a.sheet.now a.t.now a.layout _ step.result step.ensures _ _ c.in-Left.is c.behind.result c.behind.ensures;
-      length = step.ensures.length;
+          a.dev.now a.chain a.sheet.now a.t.now a.layout _ _ c.in_ok-stepped.ensures _ _ (ap Ok c.in-Left.is) c.behind.result c.behind.ensures;
+      length = c.in_ok-stepped.ensures.length;
     }
 
-pub returns-in-Refused : goal.returns-in-Refused
-returns-in-Refused c =
+pub returns-in_err-stepped : goal.returns-in_err-stepped
+returns-in_err-stepped c =
     let a = c.args in
     let from = c.number_at-from in
     let to = c.number_at-to in
-    let step = c.step in
-    record {
+    let p = err_from_is_err_and c.from_residual.result c.from_residual.ensures.1 in
+    rw (p.1, p.2)
+    (record {
       says =
           rule-refused a.values.now a.rows.now a.rules.now a.jumps.now a.count a.i c.requires.0 c.requires.1
           from.result to.result from.ensures.0 to.ensures.0
-          a.dev.now a.chain a.sheet.now a.t.now a.layout _ step.result step.ensures _ c.in-Refused.is;
-      length = step.ensures.length;
-    }
+          a.dev.now a.chain a.sheet.now a.t.now a.layout _ _ c.in_err-stepped.ensures _ refl;
+      length = c.in_err-stepped.ensures.length;
+    })

@@ -30,7 +30,7 @@ overflow_add-tried c =
     let x = c.run_rule in
     let y =
     further a.values.now a.rows.now a.rules.now a.count a.dev.now a.chain a.sheet.now a.t.now a.layout l.t l.layout
-    l.visited l.tried l.i l.invariant _ x.result x.ensures _ _ _ c.in-Next.is in
+    l.visited l.tried l.i l.invariant _ x.result x.ensures _ c.in-Ok.is in
     omega (arith, l.invariant.tried, l.invariant.few, l.invariant.within, c.requires.0.few, y.2)
 
 pub loop-i-smaller : goal.loop-i-smaller
@@ -40,7 +40,7 @@ loop-i-smaller c =
     let x = c.run_rule in
     let y =
     further a.values.now a.rows.now a.rules.now a.count a.dev.now a.chain a.sheet.now a.t.now a.layout l.t l.layout
-    l.visited l.tried l.i l.invariant _ x.result x.ensures _ _ _ c.in-Next.is in
+    l.visited l.tried l.i l.invariant _ x.result x.ensures _ c.in-Ok.is in
     omega (arith, y.0, y.1)
 
 pub loop-i-preserved : goal.loop-i-preserved
@@ -49,7 +49,7 @@ loop-i-preserved c =
     let l = c.loop-i in
     let x = c.run_rule in
     going_on a.values.now a.rows.now a.rules.now a.count a.dev.now a.chain a.sheet.now a.t.now a.layout l.t l.layout
-    l.visited l.tried l.i l.invariant _ x.result x.ensures _ _ _ c.in-Next.is
+    l.visited l.tried l.i l.invariant _ x.result x.ensures _ c.in-Ok.is
 
 pub overflow_mul-i : goal.overflow_mul-i
 overflow_mul-i c = omega (arith, c.loop-i-test.true, c.requires.0.few)
@@ -57,14 +57,14 @@ overflow_mul-i c = omega (arith, c.loop-i-test.true, c.requires.0.few)
 pub number_at-requires : goal.number_at-requires
 number_at-requires c = omega (arith, c.loop-i-test.true, c.requires.0.rules_room)
 
-pub returns-in-Refused : goal.returns-in-Refused
-returns-in-Refused c =
+pub returns-in-Err : goal.returns-in-Err
+returns-in-Err c =
     let a = c.args in
     let l = c.loop-i in
     let x = c.run_rule in
     going_refused a.values.now a.rows.now a.rules.now a.count a.dev.now a.chain a.sheet.now a.t.now a.layout l.t
     l.layout l.visited l.tried l.i l.invariant _ x.result x.ensures _
-    c.in-Refused.is c.number_at.result c.number_at.ensures.0 c.number_at.ensures.1
+    c.in-Err.is c.number_at.result c.number_at.ensures.0 c.number_at.ensures.1
 
 pub shape_of-t : goal.shape_of-t
 shape_of-t c = c.loop-i.invariant.room

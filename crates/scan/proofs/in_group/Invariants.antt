@@ -6,7 +6,4 @@ use Rattle.scan.specs.Groups.{LacksFrom, Met}
 use Rattle.scan.proofs.in_group.Given as goal
 
 abbrev pub invariant-loop-i : goal.invariant-loop-i
-invariant-loop-i l = (l.at ≤ l.i) × (l.i ≤ l.at + l.n) × (l.found ≡ false → LacksFrom l.b l.s l.at l.i) × (l.found ≡ true → Met l.b l.s l.at l.i)
-
-abbrev pub decreases-loop-i : goal.decreases-loop-i
-decreases-loop-i l = l.at + l.n - l.i
+invariant-loop-i l = (l.found ≡ false → LacksFrom l.b l.s l.at l.i) × (l.found ≡ true → Met l.b l.s l.at l.i)

@@ -6,7 +6,4 @@ use Rattle.scan.specs.Groups.{AboveFrom}
 use Rattle.scan.proofs.low_in_group.Given as goal
 
 abbrev pub invariant-loop-i : goal.invariant-loop-i
-invariant-loop-i l = (l.i ≤ l.at + 16) × (l.low ≡ false → AboveFrom l.s l.at l.i)
-
-abbrev pub decreases-loop-i : goal.decreases-loop-i
-decreases-loop-i l = l.at + 16 - l.i
+invariant-loop-i l = (l.low ≡ false → AboveFrom l.s l.at l.i)

@@ -8,7 +8,4 @@ use Rattle.scan.specs.Groups.{SameFrom}
 use Rattle.scan.proofs.same_group.Given as goal
 
 abbrev pub invariant-loop-i : goal.invariant-loop-i
-invariant-loop-i l = (l.at ≤ l.i) × (l.i ≤ l.at + l.n) × (l.same ≡ true → SameFrom l.a l.b l.at l.i) × (l.same ≡ false → same_bytes (drop l.at l.a) (drop l.at l.b) ≡ false)
-
-abbrev pub decreases-loop-i : goal.decreases-loop-i
-decreases-loop-i l = l.at + l.n - l.i
+invariant-loop-i l = (l.same ≡ true → SameFrom l.a l.b l.at l.i) × (l.same ≡ false → same_bytes (drop l.at l.a) (drop l.at l.b) ≡ false)

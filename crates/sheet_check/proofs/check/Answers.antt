@@ -25,17 +25,17 @@ returns-in_default c =
 pub returns-then-end-sheet : goal.returns-then-end-sheet
 returns-then-end-sheet c =
     let sheet = c.args.sheet.now in
-    let ends = sym c.in-At.ensures in
-    sym (ap is_some (sheet_more sheet c.if-sheet-lt1.false c.if-sheet-gt32768.false c.in-At.end ends c.if-end-sheet.true))
+    let ends = sym c.in-Some.ensures in
+    sym (ap is_some (sheet_more sheet c.if-sheet-lt1.false c.if-sheet-gt32768.false c.in-Some.end ends c.if-end-sheet.true))
 
 pub distinct-requires : goal.distinct-requires
 distinct-requires c =
-    let ends = sym c.in-At.ensures in
-    (c.if-sheet-lt1.false, sheet_row c.args.sheet.now c.in-At.end ends)
+    let ends = sym c.in-Some.ensures in
+    (c.if-sheet-lt1.false, sheet_row c.args.sheet.now c.in-Some.end ends)
 
 pub returns : goal.returns
 returns c =
     let sheet = c.args.sheet.now in
-    let ends = sym c.in-At.ensures in
+    let ends = sym c.in-Some.ensures in
     let short = c.if-sheet-gt32768.false in
-    c.distinct.ensures ∙ sym (sheet_judged sheet c.if-sheet-lt1.false short c.in-At.end c.if-n-gt64.false ends c.if-end-sheet.false)
+    c.distinct.ensures ∙ sym (sheet_judged sheet c.if-sheet-lt1.false short c.in-Some.end c.if-n-gt64.false ends c.if-end-sheet.false)

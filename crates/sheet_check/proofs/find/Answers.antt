@@ -19,22 +19,17 @@ overflow_cast-n c = omega (arith, (c.type_inv.sheet 0).fits)
 pub find-requires : goal.find-requires
 find-requires c = sound-row c.args.sheet.now c.requires
 
-pub overflow_add-p : goal.overflow_add-p
-overflow_add-p c =
-    let w : c.in-At.p + 3 ≤ length c.args.sheet.now = head_within c.args.sheet.now c.args.command.now _ _ _ c.requires (sym c.in-At.ensures.0) in
-    omega arith
-
 pub slice_bounds-reply_head-end : goal.slice_bounds-reply_head-end
 slice_bounds-reply_head-end c =
-    let w : c.in-At.p + 3 ≤ length c.args.sheet.now = head_within c.args.sheet.now c.args.command.now _ _ _ c.requires (sym c.in-At.ensures.0) in
+    let w : c.in-Ok.found.at + 3 ≤ length c.args.sheet.now = head_within c.args.sheet.now c.args.command.now _ c.requires (sym c.in-Ok.ensures.0) in
     omega arith
 
-pub returns-in-At : goal.returns-in-At
-returns-in-At c =
+pub returns-in-Ok : goal.returns-in-Ok
+returns-in-Ok c =
     let a = c.args in
-    let p = c.in-At.p in
+    let p = c.in-Ok.found.at in
     let success = c.reply_head-h.ensures.success ∙ ap_at (λ i. number_at (take i (drop p a.sheet.now)) 0 1) (p + 3 - p) 3 (omega arith) in
-    says_at a.sheet.now a.command.now _ p _ _ (sym c.in-At.ensures.0) (ap (λ (i : ℕ). eqb i 1) success)
+    says_at a.sheet.now a.command.now _ _ (sym c.in-Ok.ensures.0) (ap (λ (i : ℕ). eqb i 1) success)
 
-pub returns-in-Missing : goal.returns-in-Missing
-returns-in-Missing c = says_missing c.args.sheet.now c.args.command.now _ (sym c.in-Missing.ensures.0)
+pub returns-in-Err : goal.returns-in-Err
+returns-in-Err c = says_missing c.args.sheet.now c.args.command.now _ (sym c.in-Err.ensures.0)

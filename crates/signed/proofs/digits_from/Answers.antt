@@ -1,65 +1,45 @@
-use Prim.Native.Nat.{◌-◌}
-use mathlib.Core.Path.{sym, ◌∙◌, refl}
+use mathlib.Core.Bool.{true}
+use mathlib.Core.Path.{◌≡◌, sym, ◌∙◌}
 use native.Mathlib.Omega.{arith}
-use borrow.Author.Tests.{ne_eqb, not-true, not-false}
-use lib.ListN.{get_or}
-use Rattle.signed.proofs.Numbers.{digit_bounds, ten_more, ten_room, digit_more, digit_not, digit_many, digits-end}
+use borrow.Author.Tests.{ne_eqb, eqb-true, eqb-false}
+use lib.ListN.{get_or, length}
+use Rattle.lists.specs.Bytes.{is_digit}
+use Rattle.signed.proofs.Numbers.{digit_bounds, ten_more, digit_more, digit_not, digit_many, digits-end}
 use Rattle.signed.proofs.digits_from.Goals as goal
-
-pub loop-i-init : goal.loop-i-init
-loop-i-init c = (omega arith, omega arith, refl)
+use Rattle.signed.proofs.digits_from.Goals.{then-not-is_digit-via-then-not-is_digit, then-not-is_digit-via-else-not-is_digit+then-n-ge10}
 
 pub returns-then-not-is_digit : goal.returns-then-not-is_digit
 returns-then-not-is_digit c =
-    let x = c.args in
-    sym (digit_not x.s.now c.loop-i.i c.loop-i.n c.loop-i.m
-    x.negative (omega arith) (sym c.is_digit.ensures ∙ not-true _ c.if-not-is_digit.true-raw)) ∙ c.loop-i.invariant.2
+    let s = c.args.digits.now in
+    let l = c.loop-n in
+    elim c.then-not-is_digit.branch [
+      | then-not-is_digit-via-then-not-is_digit w ↦ sym (digit_not s l.n l.n l.m c.args.negative (omega arith) (cc)) ∙ l.invariant.2
+      | then-not-is_digit-via-else-not-is_digit+then-n-ge10 w ↦ sym (digit_many s l.n l.n l.m c.args.negative (omega arith) w.if-n-ge10.true) ∙ l.invariant.2
+    ]
 
-pub returns-then-n-ge10 : goal.returns-then-n-ge10
-returns-then-n-ge10 c =
-    let x = c.args in
-    sym (digit_many x.s.now c.loop-i.i c.loop-i.n c.loop-i.m x.negative (omega arith) c.if-n-ge10.true) ∙ c.loop-i.invariant.2
-
-pub overflow_mul-m : goal.overflow_mul-m
-overflow_mul-m c = omega (arith, ten_room c.loop-i.m c.loop-i.n c.loop-i.invariant.1 (omega arith))
-
-pub overflow_sub-m : goal.overflow_sub-m
-overflow_sub-m c =
-    let x = c.args in
-    omega (arith, c.wide64.ensures, digit_bounds (get_or x.s.now c.loop-i.i 0) (sym c.is_digit.ensures ∙ not-false _ c.if-not-is_digit.false-raw))
-
-pub overflow_add-m : goal.overflow_add-m
-overflow_add-m c =
-    let x = c.args in
-    omega (
-      arith,
-      c.wide64.ensures,
-      digit_bounds (get_or x.s.now c.loop-i.i 0)
-          (sym c.is_digit.ensures ∙ not-false _ c.if-not-is_digit.false-raw),
-      ten_room c.loop-i.m c.loop-i.n c.loop-i.invariant.1 (omega arith),
-    )
-
-pub loop-i-preserved : goal.loop-i-preserved
-loop-i-preserved c =
-    let a = c.args in
-    let x = a in
-    let p = digit_bounds (get_or x.s.now c.loop-i.i 0)
-    (sym c.is_digit.ensures ∙ not-false _ c.if-not-is_digit.false-raw) in (
+pub loop-n-preserved : goal.loop-n-preserved
+loop-n-preserved c =
+    let s = c.args.digits.now in
+    let l = c.loop-n in
+    let is : is_digit (get_or s l.n 0) ≡ true = cc in
+    let p = digit_bounds (get_or s l.n 0) is in (
       omega arith,
-      ten_more
-          c.loop-i.m (c.wide64.result - 48) c.loop-i.n
-          c.loop-i.invariant.1
-          (omega (arith, c.wide64.ensures, p)),
-      (rw c.wide64.ensures
-          (sym (digit_more x.s.now c.loop-i.i c.loop-i.n
-          c.loop-i.m x.negative (omega arith)
-          (sym c.is_digit.ensures ∙ not-false _ c.if-not-is_digit.false-raw) (omega arith)) ∙ c.loop-i.invariant.2)),
+      ten_more l.m c.from.result l.n l.invariant.1 (omega (arith, c.from.ensures, p)),
+      rw c.from.ensures (sym (digit_more s l.n l.n l.m c.args.negative (omega arith) is (omega arith)) ∙ l.invariant.2),
     )
 
-pub returns-then-n-eq0 : goal.returns-then-n-eq0
-returns-then-n-eq0 c = rw (← c.loop-i.invariant.2, digits-end c.args.s.now c.loop-i.i c.loop-i.n c.loop-i.m c.args.negative (omega arith), c.if-n-eq0.true)
+pub returns-then-is_empty : goal.returns-then-is_empty
+returns-then-is_empty c =
+    let s = c.args.digits.now in
+    let l = c.loop-n in
+    let e : length s ≡ 0 = eqb-true (length s) 0 (sym c.is_empty.ensures ∙ c.if-is_empty.true) in
+    let n : l.n ≡ 0 = omega arith in
+    sym (digits-end s l.n l.n l.m c.args.negative (omega arith) ∙ rw n) ∙ l.invariant.2
 
 pub returns : goal.returns
 returns c =
-    let x = c.args in
-    rw (← c.loop-i.invariant.2, digits-end x.s.now c.loop-i.i c.loop-i.n c.loop-i.m x.negative (omega arith), ne_eqb _ _ c.if-n-eq0.false) c.with_sign.ensures
+    let s = c.args.digits.now in
+    let l = c.loop-n in
+    let f : length s ≡ 0 → ⊥ = eqb-false (length s) 0 (sym c.is_empty.ensures ∙ c.if-is_empty.false) in
+    let e : l.n ≡ 0 → ⊥ = λ z. omega arith in
+    c.with_sign.ensures ∙ sym (digits-end s l.n l.n l.m c.args.negative (omega arith) ∙ rw (ne_eqb l.n 0 e)) ∙ l.invariant.2

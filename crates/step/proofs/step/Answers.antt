@@ -7,6 +7,8 @@ use Rattle.sheet.specs.Sheet.{decode}
 use Rattle.table.specs.Table.{pairs_from}
 use Rattle.matching.specs.Answers.{tried_in, near_of}
 use Rattle.matching.specs.declared.Matched.{Matched}
+use Rattle.std.specs.Prelude.{Result}
+use Prim.Native.Nat.{ℕ}
 use Rattle.step.proofs.Rules.{begun-from, few_tried, says_few, step_missed, step_placed, asks_at}
 use Rattle.step.proofs.step.Goals as goal
 
@@ -19,42 +21,38 @@ match_rule-requires c =
 
 pub step_at-requires : goal.step_at-requires
 step_at-requires c =
-    let entry = c in
-    let x = entry.args in
+    let x = c.args in
     let m = c.match_rule in
-    let place = c.in-At in
-    let few = subst (λ (y : Matched). tried_in (near_of y) ≤ x.chain.len) place.is m.ensures.0.1 in
-    (entry.requires.0, entry.requires.1, few, entry.requires.2, asks_at (pairs_from x.values.now x.rows.now x.from (x.to - x.from)) m.result m.ensures.1 _ _ place.is)
+    let few = subst (λ (y : Result Matched ℕ). tried_in (near_of y) ≤ x.chain.len) c.in-Ok.is m.ensures.0.1 in
+    (c.requires.0, c.requires.1, few, c.requires.2, asks_at (pairs_from x.values.now x.rows.now x.from (x.to - x.from)) m.result m.ensures.1 _ c.in-Ok.is)
 
-pub returns-in-At : goal.returns-in-At
-returns-in-At c =
-    let entry = c in
-    let x = entry.args in
+pub returns-in-Ok : goal.returns-in-Ok
+returns-in-Ok c =
+    let x = c.args in
     let m = c.match_rule in
-    let place = c.in-At in
+    let at = c.in-Ok.matched in
     let step-at = c.step_at in
-    let (d₀, s₀, h₀) = entry.requires.1 in
-    let (a₀, is₀) = is-some (decode x.sheet.now) entry.requires.2 in
-    let few = few_tried x.dev.now x.chain x.t.now x.layout d₀ s₀ h₀ place.place (subst (λ (y : Matched). tried_in (near_of y) ≤ x.chain.len) place.is m.ensures.0.1) in
+    let (d₀, s₀, h₀) = c.requires.1 in
+    let (a₀, is₀) = is-some (decode x.sheet.now) c.requires.2 in
+    let few = few_tried x.dev.now x.chain x.t.now x.layout d₀ s₀ h₀ at.place (subst (λ (y : Result Matched ℕ). tried_in (near_of y) ≤ x.chain.len) c.in-Ok.is m.ensures.0.1) in
     record {
       says = λ a is d s h.
           let e = m.ensures.0.0 (begun-from x.dev.now x.chain x.t.now x.layout d s h) in
-          step_placed a d s (pairs_from x.values.now x.rows.now x.from (x.to - x.from)) m.result e.0 e.1 x.dev.now x.chain x.t.now x.layout h _ _ place.is _ step-at.result (step-at.ensures a is d s h);
-      few = says_few x.dev.now x.chain x.layout d₀ s₀ _ step-at.result _ place.place few (step-at.ensures a₀ is₀ d₀ s₀ h₀);
+          step_placed a d s (pairs_from x.values.now x.rows.now x.from (x.to - x.from)) m.result e.0 e.1 x.dev.now x.chain x.t.now x.layout h at c.in-Ok.is _ step-at.result (step-at.ensures a is d s h);
+      few = says_few x.dev.now x.chain x.layout d₀ s₀ _ step-at.result _ at.place few (step-at.ensures a₀ is₀ d₀ s₀ h₀);
       length = search rules;
     }
 
-pub returns-in-Missed : goal.returns-in-Missed
-returns-in-Missed c =
-    let entry = c in
-    let x = entry.args in
+pub returns-in-Err : goal.returns-in-Err
+returns-in-Err c =
+    let x = c.args in
     let m = c.match_rule in
-    let tried = c.in-Missed in
-    let (d₀, s₀, h₀) = entry.requires.1 in
+    let tried = c.in-Err in
+    let (d₀, s₀, h₀) = c.requires.1 in
     record {
       says = λ a is d s h.
           let e = m.ensures.0.0 (begun-from x.dev.now x.chain x.t.now x.layout d s h) in
           step_missed a d s (pairs_from x.values.now x.rows.now x.from (x.to - x.from)) m.result e.0 e.1 x.dev.now x.chain x.t.now x.layout h _ tried.is;
-      few = few_tried x.dev.now x.chain x.t.now x.layout d₀ s₀ h₀ tried.tried (subst (λ (y : Matched). tried_in (near_of y) ≤ x.chain.len) tried.is m.ensures.0.1);
+      few = few_tried x.dev.now x.chain x.t.now x.layout d₀ s₀ h₀ tried.tried (subst (λ (y : Result Matched ℕ). tried_in (near_of y) ≤ x.chain.len) tried.is m.ensures.0.1);
       length = refl;
     }

@@ -14,19 +14,19 @@ done t₀ t i e h =
     ∙ ap (λ (l : List ℕ). replicate (length t₀) 0 ++ l) (drop-length t₀)
     ∙ append-nil (replicate (length t₀) 0)
 
-pub loop-i-init : goal.loop-i-init
-loop-i-init c = (omega arith, refl, refl)
+pub loop-n-init : goal.loop-n-init
+loop-n-init c = (omega arith, refl, refl)
 
-pub loop-i-preserved : goal.loop-i-preserved
-loop-i-preserved c =
-    let h : c.loop-i.i < length c.args.list.now = omega arith in (
+pub loop-n-preserved : goal.loop-n-preserved
+loop-n-preserved c =
+    let h : c.loop-n.n-index < length c.args.list.now = omega arith in (
       omega arith,
       simp length-set (omega arith),
-      ap (λ (l : List ℕ). set l c.loop-i.i 0) c.loop-i.invariant.2 ∙ fill_more c.loop-i.i 0 c.args.list.now h,
+      ap (λ (l : List ℕ). set l c.loop-n.n-index 0) c.loop-n.invariant.2 ∙ fill_more c.loop-n.n-index 0 c.args.list.now h,
     )
 
 pub shape_of-list : goal.shape_of-list
-shape_of-list c = c.loop-i.invariant.1
+shape_of-list c = c.loop-n.invariant.1
 
 pub returns : goal.returns
-returns c = done c.args.list.now c.loop-i.list c.loop-i.i c.loop-i.invariant.2 (omega arith)
+returns c = done c.args.list.now c.loop-n.list c.loop-n.n-index c.loop-n.invariant.2 (omega arith)

@@ -5,8 +5,5 @@ use mathlib.Core.List.{◌++◌}
 use lib.ListN.{length, drop, replicate}
 use Rattle.strike.proofs.clear_numbers.Given as goal
 
-abbrev pub invariant-loop-i : goal.invariant-loop-i
-invariant-loop-i l = (l.i ≤ length l.initial.list) × (length l.list ≡ length l.initial.list) × (l.list ≡ replicate l.i 0 ++ drop l.i l.initial.list)
-
-abbrev pub decreases-loop-i : goal.decreases-loop-i
-decreases-loop-i l = length l.initial.list - l.i
+abbrev pub invariant-loop-n : goal.invariant-loop-n
+invariant-loop-n l = (l.n-index ≤ length l.initial.list) × (length l.list ≡ length l.initial.list) × (l.list ≡ replicate l.n-index 0 ++ drop l.n-index l.initial.list)

@@ -1,7 +1,7 @@
 -- `substitution::put_driver` meets its contract.
 use mathlib.Core.Path.{◌∙◌}
 use Rattle.substitution.proofs.Parts.{appended_same, nothing_put, matched-text, unmatched_text}
-use Rattle.substitution.specs.declared.Matched.TheVariants.{At, Nothing}
+use Rattle.std.specs.Prelude.{Some, None}
 use Rattle.substitution.specs.Places.{MatchedIs, MatchedStands}
 use Rattle.engine.specs.Substitute.{of_matched}
 use Rattle.substitution.proofs.put_driver.Goals as goal
@@ -10,31 +10,31 @@ pub driver_at-requires : goal.driver_at-requires
 driver_at-requires c =
     let entry = c.args in
     let pre = c.requires in
-    let matched-call = c.in-At in
+    let matched-call = c.in-Some in
     let matched = matched-call in
-    let w : MatchedStands entry.dev.now (At matched.at) = rw matched.is at pre.0 in
+    let w : MatchedStands entry.dev.now (Some matched.at) = rw matched.is at pre.0 in
     w
 
-pub returns-in-At : goal.returns-in-At
-returns-in-At c =
+pub returns-in-Some : goal.returns-in-Some
+returns-in-Some c =
     let entry = c.args in
-    let matched-call = c.in-At in
+    let matched-call = c.in-Some in
     let driver-at = c.driver_at in
     let put-text-call = c.put_text in
     let args = entry in
     let matched = matched-call in
     let put-text = put-text-call in
     λ o h.
-    let w : MatchedIs args.dev.now (At matched.at) o = rw matched.is at h in
+    let w : MatchedIs args.dev.now (Some matched.at) o = rw matched.is at h in
     appended_same args.spaceless _ (of_matched o (λ n. n.driver)) args.out.now args.used put-text.result _
     (driver-at.ensures w.0 w.2 ∙ matched-text (λ n. n.driver) o w.0 w.1) put-text.ensures
 
-pub returns-in-Nothing : goal.returns-in-Nothing
-returns-in-Nothing c =
+pub returns-in-None : goal.returns-in-None
+returns-in-None c =
     let entry = c.args in
     let pre = c.requires in
     let args = entry in
     λ o h.
-    let w : MatchedIs args.dev.now Nothing o = rw c.in-Nothing.is at h in
+    let w : MatchedIs args.dev.now None o = rw c.in-None.is at h in
     nothing_put args.spaceless (of_matched o (λ n. n.driver)) args.out.now args.used (unmatched_text (λ n. n.driver) o w)
     pre.1

@@ -11,7 +11,7 @@ use Rattle.table.proofs.put_pair.Goals as goal
 pub put_four-requires : goal.put_four-requires
 put_four-requires c =
     let pair = c.args.pair in
-    let kind = c.kind_of in (
+    let kind = c.kind_of-kind in (
       c.requires.3,
       omega (arith, kind.ensures, key_few (key_of pair.key), op_few (operator_of pair.operator), plain_few c.args.plain),
       omega arith,
@@ -31,4 +31,4 @@ returns c =
     pair_put (part line p.arg_start p.arg_end) (unescaped p.coded (part line p.start p.end)) (key_of p.key) (operator_of p.operator) args.plain c.requires.4
     args.values.now put-bytes.new.values put-value.new.values args.rows.now put_four.new.l args.n args.used _ _
     (omega (arith, n)) (omega (arith, c.requires.0.value.size)) c.requires.1 put-bytes.ensures put-value.ensures
-    (rw c.kind_of.ensures at put_four.ensures)
+    (rw c.kind_of-kind.ensures at put_four.ensures)

@@ -1,0 +1,8 @@
+-- `run::refuse` meets its contract.
+use mathlib.Core.Path.{ap, ◌∙◌}
+use lib.ListN.{length}
+use Rattle.answers.specs.Answers.{answered}
+use Rattle.run.proofs.refuse.Goals as goal
+
+pub returns : goal.returns
+returns c = ap (answered c.refused.result) c.clear.ensures ∙ c.refused.ensures (length c.args.target.now)

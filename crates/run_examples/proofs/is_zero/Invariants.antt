@@ -1,9 +1,0 @@
--- `run_examples::is_zero` meets its contract.
-use Rattle.std.proofs.Common.{◌-◌, length}
-use Rattle.run_examples.proofs.is_zero.Given as goal
-
-abbrev pub invariant-loop-i : goal.invariant-loop-i
-invariant-loop-i l = Unit {0}
-
-abbrev pub decreases-loop-i : goal.decreases-loop-i
-decreases-loop-i l = length l.s - l.i
