@@ -29,10 +29,8 @@ fn say(stdout: Stdout, word: &[u8]) {
 // A column, counted from 0, without the bars around it.
 fn column(row: &[u8], k: u32) -> &[u8] {
     let mut from: usize = 0;
-    let mut left = k;
-    while 0 < left {
+    for _ in 0..k {
         from = std::num::wrapping_add_usize(scan::byte_end(row, from, b'|'), 1);
-        left -= 1;
     }
     let to = scan::byte_end(row, from, b'|');
     if from <= to {
@@ -53,12 +51,10 @@ fn next_number(n: usize, digit: u8) -> usize {
 // The number that the digits of a column give.
 fn number_of(digits: &[u8]) -> usize {
     let mut n: usize = 0;
-    let mut i: usize = 0;
-    while i < digits.len() {
-        if scan::is_digit(digits[i]) {
-            n = next_number(n, digits[i]);
+    for digit in digits {
+        if scan::is_digit(*digit) {
+            n = next_number(n, *digit);
         }
-        i += 1;
     }
     n
 }
@@ -101,11 +97,9 @@ fn set(bytes: &mut [u8], n: usize, b: u8) {
 // A byte as often as it stands.
 fn put(bytes: &mut [u8], r: Reading, b: u8) -> Reading {
     let mut n = r.n;
-    let mut left = r.times;
-    while 0 < left {
+    for _ in 0..r.times {
         set(bytes, n, b);
         n = std::num::wrapping_add_usize(n, 1);
-        left -= 1;
     }
     Reading {
         item: Item::First,
@@ -162,10 +156,8 @@ fn bytes_of(column: &[u8], bytes: &mut [u8]) -> usize {
         times: 1,
         n: 0,
     };
-    let mut i: usize = 0;
-    while i < column.len() {
-        r = take(bytes, r, column[i]);
-        i += 1;
+    for b in column {
+        r = take(bytes, r, *b);
     }
     r.n
 }
@@ -187,10 +179,8 @@ fn agree(want: &[u8], n: usize, b: u8) -> usize {
 
 fn agree_all(want: &[u8], n: usize, s: &[u8]) -> usize {
     let mut m = n;
-    let mut i: usize = 0;
-    while i < s.len() {
-        m = agree(want, m, s[i]);
-        i += 1;
+    for b in s {
+        m = agree(want, m, *b);
     }
     m
 }
@@ -290,20 +280,16 @@ fn agree_bit(want: &[u8], n: usize, kind: Kind, rec: &mut [u8], chain: usize, i:
 
 fn agree_bits(want: &[u8], kind: Kind, rec: &mut [u8], chain: usize) -> usize {
     let mut n: usize = 0;
-    let mut i: usize = 0;
-    while i < want.len() {
+    for i in 0..want.len() {
         n = agree_bit(want, n, kind, rec, chain, i);
-        i += 1;
     }
     n
 }
 
 fn agree_cuts(want: &[u8], kind: Kind, rec: &[u8], chain: usize) -> usize {
     let mut n: usize = 0;
-    let mut i: usize = 0;
-    while i < rec.len() {
+    for i in 0..rec.len() {
         n = agree_sign(want, n, judge(kind, &rec[0..i], chain));
-        i += 1;
     }
     n
 }
@@ -456,13 +442,11 @@ fn agree_view(want: &[u8], rec: &[u8], chain: Chain, place: usize) -> usize
 {
     let starts = chain.at;
     let mut at = starts[0];
-    let mut here: usize = 1;
-    while here < place {
+    for here in 1..place {
         if !device_view::has_parent_at(rec, at) {
             return agree_all(want, 0, b" no device");
         }
         at = device_view::parent_at(rec, at);
-        here += 1;
     }
     agree_device(want, 0, rec, at)
 }

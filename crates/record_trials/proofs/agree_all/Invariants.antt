@@ -1,9 +1,0 @@
--- `record_trials::agree_all` meets its contract.
-use Rattle.std.proofs.Common.{◌-◌, length}
-use Rattle.record_trials.proofs.agree_all.Given as goal
-
-abbrev pub invariant-loop-i : goal.invariant-loop-i
-invariant-loop-i l = Unit {0}
-
-abbrev pub decreases-loop-i : goal.decreases-loop-i
-decreases-loop-i l = length l.s - l.i

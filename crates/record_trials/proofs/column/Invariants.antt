@@ -1,8 +1,0 @@
--- `record_trials::column` meets its contract.
-use Rattle.record_trials.proofs.column.Given as goal
-
-abbrev pub invariant-loop-left : goal.invariant-loop-left
-invariant-loop-left l = Unit {0}
-
-abbrev pub decreases-loop-left : goal.decreases-loop-left
-decreases-loop-left l = l.left
