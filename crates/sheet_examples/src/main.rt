@@ -36,10 +36,8 @@ fn read_sheet(digits: &[u8], sheet: &mut [u8]) -> usize
     ensures { result ≤ length sheet.new }
 {
     let n = count_of(digits.len(), sheet.len());
-    let mut i: usize = 0;
-    while i < n {
+    for i in 0..n {
         sheet[i] = digit_of(digits[2 * i]) * 16 + digit_of(digits[2 * i + 1]);
-        i += 1;
     }
     n
 }
