@@ -21,11 +21,15 @@ fn byte_or_bar(pattern: &[u8], i: usize) -> u8
     if i < pattern.len() { pattern[i] } else { b'|' }
 }
 
-// Whether a byte stands for itself, as all but four do.
+// Whether a byte stands for itself: letters and digits do, and all others but four.
 fn is_plain(b: u8) -> bool
     ensures { result ≡ not (is_special b) }
 {
-    !matches!(b, b'*' | b'?' | b'[' | b'|')
+    match b {
+        b'a'..=b'z' | b'A'..=b'Z' | b'0'..=b'9' => true,
+        b'*' | b'?' | b'[' | b'|' => false,
+        _ => true,
+    }
 }
 
 // ---- plain patterns
