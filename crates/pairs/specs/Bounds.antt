@@ -18,9 +18,10 @@ use Rattle.pairs.specs.declared.Close.{Close}
 use Rattle.pairs.specs.Answers.{unescaped}
 pub use Rattle.escapes.specs.Values.{Put}
 
--- behind a place
+-- behind a place; one that is given ends before its brace, which stands in the line
 abbrev pub ArgumentIn : List ℕ → ℕ → Result Argument Refusal → Type 0
-ArgumentIn line at (Ok a) = (a.start ≤ a.end) × (a.end ≤ length line) × (at ≤ length line → a.next ≤ length line)
+ArgumentIn line at (Ok a) =
+    (a.start ≤ a.end) × (a.end ≤ length line) × (at ≤ length line → a.next ≤ length line) × (at < a.next → (a.end < length line) × (a.next ≡ a.end + 1))
 ArgumentIn line at (Err f) = Unit {0}
 
 abbrev pub OperatorIn : Result OperatorRead Refusal → Type 0

@@ -1,7 +1,7 @@
 -- `pairs::in_braces` meets its contract.
 use Prim.Native.Nat.{◌+◌, ◌-◌}
 use mathlib.Core.Bool.{true, false}
-use mathlib.Core.Path.{◌≡◌, sym, ◌∙◌}
+use mathlib.Core.Path.{◌≡◌, refl, sym, ◌∙◌}
 use native.Mathlib.Omega.{arith}
 use borrow.Author.Tests.{le-leb, lt-leb, not-true, not-false}
 use Rattle.keys.specs.Table.{takes_of}
@@ -66,4 +66,4 @@ returns c =
     let type-allowed = c.type_allowed in
     let inside : between 1 most_key (end - start) ≡ true = rw (le-leb 1 (end - start) c.if-n-lt1.false, le-leb (end - start) 64 c.if-n-gt64.false) in
     let right = brace_right line start end byte-end.ensures.place takes byte-end.ensures.from c.if-line-end.false inside in
-    (sym (right ∙ rw (← type-allowed.ensures, not-false type-allowed.result c.if-not-type_allowed.false-raw)), (byte-end.ensures.from, omega arith, λ h. omega arith))
+    (sym (right ∙ rw (← type-allowed.ensures, not-false type-allowed.result c.if-not-type_allowed.false-raw)), (byte-end.ensures.from, omega arith, λ h. omega arith, λ h. (omega arith, refl)))

@@ -18,7 +18,7 @@ returns-then-b-eq123 c =
 pub returns-in-Nothing : goal.returns-in-Nothing
 returns-in-Nothing c =
     let x = c.args in
-    let s = x.line.now in let n : (get_or s x.at 0 ≡ 123) → ⊥ = rw (← c.byte_at-b.ensures) c.if-b-eq123.false in (sym (no_brace s x.at (takes_of x.takes) n ∙ rw c.in-Nothing.is), (omega arith, omega arith, λ h. h))
+    let s = x.line.now in let n : (get_or s x.at 0 ≡ 123) → ⊥ = rw (← c.byte_at-b.ensures) c.if-b-eq123.false in (sym (no_brace s x.at (takes_of x.takes) n ∙ rw c.in-Nothing.is), (omega arith, omega arith, λ h. h, λ h. absurd (omega arith)))
 
 pub returns-in-One : goal.returns-in-One
 returns-in-One c =
@@ -28,4 +28,4 @@ returns-in-One c =
 pub returns-in-RunType : goal.returns-in-RunType
 returns-in-RunType c =
     let x = c.args in
-    let s = x.line.now in let n : (get_or s x.at 0 ≡ 123) → ⊥ = rw (← c.byte_at-b.ensures) c.if-b-eq123.false in (sym (no_brace s x.at (takes_of x.takes) n ∙ rw c.in-RunType.is), (omega arith, omega arith, λ h. h))
+    let s = x.line.now in let n : (get_or s x.at 0 ≡ 123) → ⊥ = rw (← c.byte_at-b.ensures) c.if-b-eq123.false in (sym (no_brace s x.at (takes_of x.takes) n ∙ rw c.in-RunType.is), (omega arith, omega arith, λ h. h, λ h. absurd (omega arith)))
