@@ -3,6 +3,7 @@
 #![tactic(auto)]
 
 ghost use Rattle.std.specs.Prelude.{◌≡◌, List, ℕ, ◌+◌, ◌*◌, ◌≤◌, ◌<◌, length, get_or};
+ghost use Rattle.lists.specs.Bytes.{same_bytes};
 ghost use Rattle.lists.specs.Sizes.{most_rules};
 ghost use Rattle.table.specs.Rules.{Rules};
 ghost use Rattle.jumps.specs.Jumps.{labelled, FoundIs, JumpIs, UpTo, SettledIs};
@@ -86,13 +87,28 @@ fn take_label(labels: &[u16], i: usize, hashes: &[u16; 512], heads: &mut [u16; 2
     heads[b] = later[i];
 }
 
+// Whether two names of labels are the same. Most that the striker compares differ in length or are short, and are told apart in place.
+#[inline(always)]
+fn is_same(a: &[u8], b: &[u8]) -> bool
+    ensures { result ≡ same_bytes a.now b.now }
+{
+    if a.len() != b.len() {
+        return false;
+    }
+    if a.len() < 8 {
+        scan::same(a, b)
+    } else {
+        scan::same_long(a, b)
+    }
+}
+
 // Whether a rule has this name for its label.
 pub fn is_label(values: &[u8], rows: &[u16], labels: &[u16], i: usize, name: &[u8]) -> bool
     requires { (i < length labels.now) × ((t : List ℕ) × ((m : ℕ) × ((used : ℕ) × ((n : ℕ) × (i < n) × Rules values.now rows.now t labels.now m used n)))) }
     ensures { (t : List ℕ) (m used n : ℕ) → i < n → Rules values.now rows.now t labels.now m used n → result ≡ labelled values.now rows.now t name.now i }
 {
     match table::place_at(labels, i) {
-        Some(row) => scan::same_long(name, table::value_of(values, rows, row)),
+        Some(row) => is_same(name, table::value_of(values, rows, row)),
         None => false,
     }
 }

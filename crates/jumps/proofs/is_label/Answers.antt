@@ -16,7 +16,7 @@ pub returns-in-Some : goal.returns-in-Some
 returns-in-Some c =
     λ t m used n h x.
     let a = c.args in
-    c.same_long.ensures ∙ ap (same_bytes a.name.now) (c.value_of.ensures ∙ name-is a.values.now a.rows.now t a.labels.now m used n a.i x h c.in-Some.row c.in-Some.ensures.0)
+    c.is_same.ensures ∙ ap (same_bytes a.name.now) (c.value_of.ensures ∙ name-is a.values.now a.rows.now t a.labels.now m used n a.i x h c.in-Some.row c.in-Some.ensures.0)
     ∙ label_same a.values.now a.rows.now t a.labels.now m used n a.i x h a.name.now (omega (arith, c.in-Some.ensures.0))
 
 pub returns-in-None : goal.returns-in-None
