@@ -71,6 +71,8 @@ pub fn action_holds(operator: Operator, pattern: &[u8], plain: bool, action: usi
     value_holds(operator, pattern, plain, name)
 }
 
+// Into each of its callers, since a call of its own costs each judged rule more than the comparison.
+#[inline(always)]
 fn text_matches(pattern: &[u8], plain: bool, text: &[u8]) -> bool
     requires { PlainIf plain pattern.now }
     ensures { result ≡ matches pattern.now text.now }
