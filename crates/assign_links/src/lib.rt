@@ -85,7 +85,8 @@ fn clean_names(x: &mut [u8], escape: Escape)
 {
     match escape {
         Escape::AsIs => {}
-        Escape::Unset | Escape::Replaced => link_names::clean(x, true),
+        Escape::Unset => link_names::clean(x, true),
+        Escape::Replaced => link_names::clean(x, true),
     }
 }
 

@@ -70,10 +70,12 @@ fn step_at(
         values, rows, from, to, dev, chain, sheet, t, layout, place, asks,
     )?;
     match asked {
-        Asked::Held(held) => {
-            let left = assignment::assign_all(values, rows, from, to, t, held, dev, chain, place)?;
-            Ok(Stepped::Left(left, place))
-        }
+        Asked::Held(held) => match assignment::assign_all(
+            values, rows, from, to, t, held, dev, chain, place,
+        ) {
+            Ok(left) => Ok(Stepped::Left(left, place)),
+            Err(refusal) => Err(refusal),
+        },
         Asked::Failed(left) => Ok(Stepped::Failed(left, place)),
     }
 }

@@ -17,16 +17,17 @@ assign_all-requires c =
     let (s₁, h₁) = asked-state a d x.place (pairs_from x.values.now x.rows.now x.from (x.to - x.from)) x.dev.now x.chain x.t.now x.layout x.sheet.now is s h c.judge.new.t (Ok c.in_ok-asked.asked) c.in_ok-asked.ensures c.in-Held.held (ap Ok c.in-Held.is) in
     (c.requires.0, (d, s₁, h₁), c.requires.2)
 
-pub returns-in_ok-left-in-Held : goal.returns-in_ok-left-in-Held
-returns-in_ok-left-in-Held c =
+pub returns-in-Ok : goal.returns-in-Ok
+returns-in-Ok c =
     let x = c.args in
-    λ a is d s h. asked-left a d x.place (pairs_from x.values.now x.rows.now x.from (x.to - x.from)) x.dev.now x.chain x.t.now x.layout x.sheet.now is s h c.judge.new.t (Ok c.in_ok-asked.asked) c.in_ok-asked.ensures c.in-Held.held (ap Ok c.in-Held.is) c.assign_all.new.t (Ok c.in_ok-left-in-Held.left) (λ s₁ h₁. c.in_ok-left-in-Held.ensures d s₁ h₁) c.in_ok-left-in-Held.left refl
+    let assign-all = c.assign_all in
+    λ a is d s h. asked-left a d x.place (pairs_from x.values.now x.rows.now x.from (x.to - x.from)) x.dev.now x.chain x.t.now x.layout x.sheet.now is s h c.judge.new.t (Ok c.in_ok-asked.asked) c.in_ok-asked.ensures c.in-Held.held (ap Ok c.in-Held.is) _ assign-all.result (λ s₁ h₁. assign-all.ensures d s₁ h₁) _ c.in-Ok.is
 
-pub returns-in_err-left-in-Held : goal.returns-in_err-left-in-Held
-returns-in_err-left-in-Held c =
+pub returns-in-Err : goal.returns-in-Err
+returns-in-Err c =
     let x = c.args in
-    let p = err_from_is_err_and c.from_residual-in_err-left-in-Held.result c.from_residual-in_err-left-in-Held.ensures.1 in
-    rw (p.1, p.2) (λ a is d s h. assign-refused a d x.place (pairs_from x.values.now x.rows.now x.from (x.to - x.from)) x.dev.now x.chain x.t.now x.layout x.sheet.now is s h c.judge.new.t (Ok c.in_ok-asked.asked) c.in_ok-asked.ensures c.in-Held.held (ap Ok c.in-Held.is) c.assign_all.new.t (Err c.in_err-left-in-Held.field-0.0) (λ s₁ h₁. c.in_err-left-in-Held.ensures d s₁ h₁) c.in_err-left-in-Held.field-0.0 refl)
+    let assign-all = c.assign_all in
+    λ a is d s h. assign-refused a d x.place (pairs_from x.values.now x.rows.now x.from (x.to - x.from)) x.dev.now x.chain x.t.now x.layout x.sheet.now is s h c.judge.new.t (Ok c.in_ok-asked.asked) c.in_ok-asked.ensures c.in-Held.held (ap Ok c.in-Held.is) _ assign-all.result (λ s₁ h₁. assign-all.ensures d s₁ h₁) _ c.in-Err.is
 
 pub returns-in-Failed : goal.returns-in-Failed
 returns-in-Failed c =
