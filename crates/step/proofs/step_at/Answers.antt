@@ -20,14 +20,16 @@ assign_all-requires c =
 pub returns-in-Ok : goal.returns-in-Ok
 returns-in-Ok c =
     let x = c.args in
+    let rows = pairs_from x.values.now x.rows.now x.from (x.to - x.from) in
     let assign-all = c.assign_all in
-    λ a is d s h. asked-left a d x.place (pairs_from x.values.now x.rows.now x.from (x.to - x.from)) x.dev.now x.chain x.t.now x.layout x.sheet.now is s h c.judge.new.t (Ok c.in_ok-asked.asked) c.in_ok-asked.ensures c.in-Held.held (ap Ok c.in-Held.is) _ assign-all.result (λ s₁ h₁. assign-all.ensures d s₁ h₁) _ c.in-Ok.is
+    λ a is d s h. asked-left a d x.place rows x.dev.now x.chain x.t.now x.layout x.sheet.now is s h c.judge.new.t (Ok c.in_ok-asked.asked) c.in_ok-asked.ensures c.in-Held.held (ap Ok c.in-Held.is) _ assign-all.result (λ s₁ h₁. assign-all.ensures d s₁ h₁) _ c.in-Ok.is
 
 pub returns-in-Err : goal.returns-in-Err
 returns-in-Err c =
     let x = c.args in
+    let rows = pairs_from x.values.now x.rows.now x.from (x.to - x.from) in
     let assign-all = c.assign_all in
-    λ a is d s h. assign-refused a d x.place (pairs_from x.values.now x.rows.now x.from (x.to - x.from)) x.dev.now x.chain x.t.now x.layout x.sheet.now is s h c.judge.new.t (Ok c.in_ok-asked.asked) c.in_ok-asked.ensures c.in-Held.held (ap Ok c.in-Held.is) _ assign-all.result (λ s₁ h₁. assign-all.ensures d s₁ h₁) _ c.in-Err.is
+    λ a is d s h. assign-refused a d x.place rows x.dev.now x.chain x.t.now x.layout x.sheet.now is s h c.judge.new.t (Ok c.in_ok-asked.asked) c.in_ok-asked.ensures c.in-Held.held (ap Ok c.in-Held.is) _ assign-all.result (λ s₁ h₁. assign-all.ensures d s₁ h₁) _ c.in-Err.is
 
 pub returns-in-Failed : goal.returns-in-Failed
 returns-in-Failed c =
